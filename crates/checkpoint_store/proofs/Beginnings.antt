@@ -11,7 +11,7 @@ use Rattle.disk_trait.proofs.Moments.{one_after_another}
 use Rattle.record_codec.specs.Block.{block}
 use Rattle.record_codec.specs.EntryEncoding.{entry}
 use Rattle.record_codec.specs.declared.log.TheConstants.{OPEN_GATE, CLOSED_GATE}
-use Rattle.checkpoint_store.specs.Begun.{log_file, begin_frame, begun_log, IsPassedOver, IsBegunOrNot, MayBegin, IsBegun}
+use Rattle.checkpoint_store.specs.Begun.{log_file, begin_frame, begun_log, IsPassedOverLog, IsBegunOrNot, MayBegin, IsBegun}
 
 -- the frame's parts, where the entry and its digest were copied into an array
 pub frame_is : (number : ℕ) (e d rest : List ℕ) → e ≡ 1 ∷ 1 ∷ to_be_bytes w64 number → d ≡ sha256 e → drop 32 rest ≡ CLOSED_GATE ∷ []
@@ -22,7 +22,7 @@ frame_is number e d rest e_is d_is rest_is = rw (d_is, e_is, rest_is) refl
 -- ---- the bytes of the log
 
 -- a stop within the first write
-first_torn : (d c : List ℕ) → d ≡ [] → Torn 0 1 d c → IsPassedOver c
+first_torn : (d c : List ℕ) → d ≡ [] → Torn 0 1 d c → IsPassedOverLog c
 first_torn d c none torn = inl (omega (arith, torn.no_longer, ap length none))
 
 -- the closed gate is written
@@ -33,7 +33,7 @@ not_open : CLOSED_GATE ≢ OPEN_GATE
 not_open same = absurd cc
 
 -- a stop within the write behind it
-second_torn : (n : ℕ) (d c : List ℕ) → d ≡ CLOSED_GATE ∷ [] → Torn 1 n d c → IsPassedOver c
+second_torn : (n : ℕ) (d c : List ℕ) → d ≡ CLOSED_GATE ∷ [] → Torn 1 n d c → IsPassedOverLog c
 second_torn n d [] is torn = inl (omega arith)
 second_torn n d (gate ∷ rest) is torn =
     let front : gate ∷ [] ≡ CLOSED_GATE ∷ [] = torn.front ∙ ap (take 1) is in
@@ -66,7 +66,7 @@ module _ {D : Type 0} (moment : D → ℕ) (images : D → ℕ → Files → Typ
   Before = images old (moment old)
 
   pub first_alone : (file : FileName) → ((c : Files) → Before c → c file ≡ []) → (c : Files) → After (At file (Torn 0 1)) Before c
-      → After (At file (λ o w. IsPassedOver w)) Before c
+      → After (At file (λ o w. IsPassedOverLog w)) Before c
   first_alone file none c after =
       (after.0, after.1, record { here = first_torn (after.0 file) (c file) (none after.0 after.1) after.2.here; others = after.2.others })
 
@@ -91,17 +91,17 @@ module _ {D : Type 0} (moment : D → ℕ) (images : D → ℕ → Files → Typ
       → IsOnly now (images mid (moment mid))
       → Since moment images old mid (After (At file (Torn 0 1)) Before)
       → Since moment images mid new (After (At file (Torn 1 n)) (images mid (moment mid)))
-      → Since moment images old new (After (At file (λ o w. IsPassedOver w)) Before)
+      → Since moment images old new (After (At file (λ o w. IsPassedOverLog w)) Before)
   staged_or_not file n none between only first second =
-      one_after_another moment images old mid new _ _ (After (At file (λ o w. IsPassedOver w)) Before) first second
+      one_after_another moment images old mid new _ _ (After (At file (λ o w. IsPassedOverLog w)) Before) first second
       (first_alone file none)
-      (from_between file (Overwritten 0 (CLOSED_GATE ∷ [])) (Torn 1 n) IsPassedOver between only
+      (from_between file (Overwritten 0 (CLOSED_GATE ∷ [])) (Torn 1 n) IsPassedOverLog between only
       (λ c left over torn. second_torn n (now file) c (closed_alone (held file) (now file) (none held left) over) torn))
 
   pub begun_or_not : (number : ℕ)
       → ((c : Files) → images mid (moment mid) c → Before held × At (log_file number) (λ o w. w ≡ CLOSED_GATE ∷ begin_frame number) held now)
       → IsOnly now (images mid (moment mid))
-      → Since moment images old mid (After (At (log_file number) (λ o w. IsPassedOver w)) Before)
+      → Since moment images old mid (After (At (log_file number) (λ o w. IsPassedOverLog w)) Before)
       → Since moment images mid new (After (At (log_file number) (Torn 0 1)) (images mid (moment mid)))
       → Since moment images old new (After (At (log_file number) (λ o w. IsBegunOrNot number w)) Before)
   begun_or_not number between only first second =
@@ -129,5 +129,5 @@ is_begun number old mid now may first second = record {
   begun = gate_opened number (mid (log_file number)) (now (log_file number)) first.here second.here;
   greater = λ n above.
       let other = log_file-other number n above in
-      subst IsPassedOver (sym (second.others (log_file n) other ∙ first.others (log_file n) other)) (may.greater n above);
+      subst IsPassedOverLog (sym (second.others (log_file n) other ∙ first.others (log_file n) other)) (may.greater n above);
 }

@@ -11,7 +11,7 @@ use Rattle.std.proofs.lemmas.List.{drop-take, drop-drop, length-take, take-take,
 use Rattle.record_codec.specs.Block.{Reading, Whole, reading_of}
 use Rattle.record_codec.proofs.Blocks.{whole_fits, whole_of-reading}
 use Rattle.checkpoint_store.specs.Memory.{head_front_at}
-use Rattle.checkpoint_store.specs.Reading.{Next, said, behind_block, go_on, blocks_from, first_in, next_in, snapshot_of}
+use Rattle.checkpoint_store.specs.Reading.{Next, said, behind_block, go_on, blocks_from, first_block_kept, next_in, snapshot_of}
 use Rattle.checkpoint_store.specs.declared.error.CheckError.{CheckError}
 use Rattle.checkpoint_store.specs.declared.error.CheckError.TheVariants.{Damaged}
 use Rattle.checkpoint_store.proofs.Untaken.{front_same, front_refused, long_is_file}
@@ -42,10 +42,10 @@ front_stands bytes kind payload n is count =
 
 -- ---- a block that says nothing
 
-pub no_first_block : (file : FileName) (bytes : List ℕ) (kind : ℕ) (payload : List ℕ) → reading_of bytes ≡ Whole kind payload → first_in kind payload ≡ None
+pub no_first_block : (file : FileName) (bytes : List ℕ) (kind : ℕ) (payload : List ℕ) → reading_of bytes ≡ Whole kind payload → first_block_kept kind payload ≡ None
     → snapshot_of file bytes ≡ Err (Form file 0)
 no_first_block file bytes kind payload is none =
-    ap (λ (r : Reading). behind_block file 0 first_in r (λ k size. blocks_from (suc (length bytes)) file size k (drop size bytes))) is
+    ap (λ (r : Reading). behind_block file 0 first_block_kept r (λ k size. blocks_from (suc (length bytes)) file size k (drop size bytes))) is
     ∙ ap (said file 0 (length payload + 37) (λ k size. blocks_from (suc (length bytes)) file size k (drop size bytes))) none
 
 pub no_next_block : (file : FileName) (at most : ℕ) (k : Kept) (bytes : List ℕ) (kind : ℕ) (payload : List ℕ) → reading_of bytes ≡ Whole kind payload → next_in k kind payload ≡ None

@@ -16,7 +16,7 @@ use Rattle.record_codec.specs.StoreHead.{head, IsHead}
 use Rattle.record_codec.specs.declared.block.TheConstants.{PAYLOAD_MAX}
 use Rattle.record_codec.specs.declared.head.Head.{Head}
 use Rattle.checkpoint_store.specs.Consistent.{IsConsistent, HasCounters, IsFileIn, IsBatchIn, AreDistinctBy, record_size}
-use Rattle.checkpoint_store.specs.Reading.{are_distinct, has_counters, kept_by, last_number, has_place, may_join}
+use Rattle.checkpoint_store.specs.Reading.{are_distinct_names, has_counters, kept_of_head, last_number, file_has_place, file_may_join}
 use Rattle.checkpoint_store.proofs.Numbering.{sum_more}
 
 -- ---- tests that failed on each item
@@ -31,10 +31,10 @@ any_none test (item ∷ items) e =
     let parts = or_parts _ _ e in
     All-cons (λ i. test i ≡ false) item items parts.0 (any_none test items parts.1)
 
-distinct_names : (names : List (List ℕ)) → are_distinct names ≡ true → AreDistinctBy (λ (name : List ℕ). name) names
+distinct_names : (names : List (List ℕ)) → are_distinct_names names ≡ true → AreDistinctBy (λ (name : List ℕ). name) names
 distinct_names [] e = tt
 distinct_names (name ∷ names) e =
-    let parts = and_parts (not (list_any (λ other. bytes_eq other name) names)) (are_distinct names) e in
+    let parts = and_parts (not (list_any (λ other. bytes_eq other name) names)) (are_distinct_names names) e in
     let apart : (other : List ℕ) → bytes_eq other name ≡ false → name ≢ other = λ other isnt same. grind (arith, bytes_eq-Decides other name, isnt, same) in (
       All-weaker (λ other. bytes_eq other name ≡ false) (λ other. name ≢ other) apart names
           (any_none (λ other. bytes_eq other name) names (not-true (list_any (λ other. bytes_eq other name) names) parts.0)),
@@ -76,7 +76,7 @@ last_five a b c d e f g is =
     let to_c = and_parts (a && b) c to_d.0 in
     (to_c.1, to_d.1, to_e.1, to_f.1, to_g.1)
 
-place_of : (k : Kept) (a : ActiveFile) → has_place k a ≡ true
+place_of : (k : Kept) (a : ActiveFile) → file_has_place k a ≡ true
     → (a.connection < length k.connections) × (a.file.number < k.next_number) × (0 < a.file.arrival) × (a.file.arrival < k.next_arrival) × (length k.files < LIVE_FILES_MAX)
 place_of k a is =
     let five = last_five (length k.batches == 0) (nat_lt (last_number (λ (b : ActiveFile). b.file.number) k.files) a.file.number)
@@ -90,7 +90,7 @@ place_of k a is =
 
 -- ---- what is kept
 
-counted : (h : Head) → has_counters h ≡ true → HasCounters (kept_by h)
+counted : (h : Head) → has_counters h ≡ true → HasCounters (kept_of_head h)
 counted h is =
     let to_batch = and_parts (nat_lt 0 h.next_number && nat_lt 0 h.next_arrival) (nat_lt 0 h.next_batch) is in
     let to_arrival = and_parts (nat_lt 0 h.next_number) (nat_lt 0 h.next_arrival) to_batch.0 in
@@ -101,27 +101,27 @@ counted h is =
     }
 
 -- what a Head says, which a block held
-pub head_alone : (h : Head) → IsHead h → length (head h) ≤ PAYLOAD_MAX → are_distinct h.connections ≡ true → has_counters h ≡ true → IsConsistent (kept_by h)
+pub head_alone : (h : Head) → IsHead h → length (head h) ≤ PAYLOAD_MAX → are_distinct_names h.connections ≡ true → has_counters h ≡ true → IsConsistent (kept_of_head h)
 head_alone h is small distinct counters = record {
   encoded = is;
   head_size = small;
   connections = distinct_names h.connections distinct;
   counters = counted h counters;
-  files = All-nil (IsFileIn (kept_by h));
+  files = All-nil (IsFileIn (kept_of_head h));
   numbers = tt;
   arrivals = tt;
-  batches = All-nil (IsBatchIn (kept_by h));
+  batches = All-nil (IsBatchIn (kept_of_head h));
   batch_numbers = tt;
   live_files = omega arith;
   live_bytes = omega arith;
 }
 
 -- a file more, where there are no batches
-pub file_joins : (k : Kept) (a : ActiveFile) → IsConsistent k → k.batches ≡ [] → IsActiveFile a → may_join k a ≡ true
+pub file_joins : (k : Kept) (a : ActiveFile) → IsConsistent k → k.batches ≡ [] → IsActiveFile a → file_may_join k a ≡ true
     → All (λ b. b.file.number < a.file.number) k.files → IsConsistent (record k { files = k.files ++ a ∷ [] })
 file_joins k a is none has joins below =
     let more : Kept = record k { files = k.files ++ a ∷ [] } in
-    let rules = rules_of (has_place k a) (nat_le (sum (map record_size k.files) + record_size a) LIVE_BYTES_MAX)
+    let rules = rules_of (file_has_place k a) (nat_le (sum (map record_size k.files) + record_size a) LIVE_BYTES_MAX)
     (list_any (λ (b : ActiveFile). b.file.arrival == a.file.arrival) k.files) joins in
     let place = place_of k a rules.0 in
     let kept : (b : ActiveFile) → IsFileIn k b → IsFileIn more b =

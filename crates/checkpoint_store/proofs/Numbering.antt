@@ -10,8 +10,8 @@ use Rattle.flowfile_record.specs.NumberedItems.{item_of, with_item}
 use Rattle.flowfile_record.specs.declared.limits.TheConstants.{NUMBER_LIMIT, LIVE_FILES_MAX}
 use Rattle.flowfile_record.specs.Stored.{Kept}
 use Rattle.flowfile_record.specs.declared.stored.ActiveFile.{ActiveFile}
-use Rattle.checkpoint_store.specs.Reading.{last_number, has_place}
-use Rattle.checkpoint_store.specs.SoFar.{AreNumbered}
+use Rattle.checkpoint_store.specs.Reading.{last_number, file_has_place}
+use Rattle.checkpoint_store.specs.SoFar.{AreNumberedTo}
 
 all_one : {A : Type 0} (P : A → Type 0) (x : A) → P x → All P (x ∷ [])
 all_one P x p zero d lt = p
@@ -37,8 +37,8 @@ module _ {A : Type 0} (number : A → ℕ) where
   last_is item (first ∷ []) = refl
   last_is item (first ∷ next ∷ items) = last_is item (next ∷ items)
 
-  pub are_numbered : (item : A) (greatest : ℕ) (items : List A) → AreNumbered number items greatest → greatest < number item → number item < NUMBER_LIMIT
-      → AreNumbered number (items ++ item ∷ []) (number item)
+  pub are_numbered : (item : A) (greatest : ℕ) (items : List A) → AreNumberedTo number items greatest → greatest < number item → number item < NUMBER_LIMIT
+      → AreNumberedTo number (items ++ item ∷ []) (number item)
   are_numbered item greatest items are above limit = record {
     last = sym (last_is item items);
     below = All-append (λ i. number i ≤ number item) items (item ∷ []) (λ k d lt. let le = are.below k d lt in omega (arith, le, above)) (all_one (λ i. number i ≤ number item) item (omega arith));
@@ -73,7 +73,7 @@ second_of_seven true false c d e f g is = absurd cc
 second_of_seven false b c d e f g is = absurd cc
 
 -- a file that has a place has a greater number than the others
-pub place_above : (k : Kept) (a : ActiveFile) → has_place k a ≡ true → last_number (λ b. b.file.number) k.files < a.file.number
+pub place_above : (k : Kept) (a : ActiveFile) → file_has_place k a ≡ true → last_number (λ b. b.file.number) k.files < a.file.number
 place_above k a place =
     ltb-true (last_number (λ (b : ActiveFile). b.file.number) k.files) a.file.number (second_of_seven (length k.batches == 0) (nat_lt (last_number (λ (b : ActiveFile). b.file.number) k.files) a.file.number)
     (nat_lt a.connection (length k.connections)) (nat_lt a.file.number k.next_number) (nat_lt 0 a.file.arrival) (nat_lt a.file.arrival k.next_arrival) (nat_lt (length k.files) LIVE_FILES_MAX) place)

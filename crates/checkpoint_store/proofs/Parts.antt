@@ -12,7 +12,7 @@ use Rattle.flowfile_record.specs.declared.error.CodecError.{CodecError}
 use Rattle.record_codec.specs.Snapshot.{kind_code}
 use Rattle.record_codec.specs.declared.snapshot.SnapshotKind.{SnapshotKind}
 use Rattle.record_codec.specs.declared.snapshot.SnapshotKind.TheVariants as kinds
-use Rattle.checkpoint_store.specs.Reading.{More, said, behind_block, blocks_from, may_join, may_follow, first_in, next_in, file_next, batch_next, end_next, snapshot_of}
+use Rattle.checkpoint_store.specs.Reading.{More, said, behind_block, blocks_from, file_may_join, batch_may_follow, first_block_kept, next_in, file_next, batch_next, end_next, snapshot_of}
 use Rattle.checkpoint_store.specs.Snapshot.{blocks_in}
 
 abbrev done : {A : Type 0} → A → Result A CodecError
@@ -29,7 +29,7 @@ not_the_end k size blocks read e apart =
     ap (end_next k) (read_ok size blocks read e) ∙ rw other refl
 
 module _ (kind : ℕ) (none : (holds : SnapshotKind) → kind_code holds ≡ kind → ⊥) (payload : List ℕ) where
-  pub no_first : first_in kind payload ≡ None
+  pub no_first : first_block_kept kind payload ≡ None
   no_first =
       let apart : kind ≢ 10 = λ e. none kinds.Head (sym e) in
       let other : (kind == 10) ≡ false = grind (arith, nat_tests, apart) in
@@ -47,10 +47,10 @@ module _ (kind : ℕ) (none : (holds : SnapshotKind) → kind_code holds ≡ kin
 
 -- ---- a part that is wanted joins
 
-pub batch_follows : (k : Kept) (b : SwapBatch) (size : ℕ) (read : Result SwapBatch ℕ) → done b ≡ answer size read → may_follow k b ≡ true → (now : Kept) × (batch_next k read ≡ Some (More now))
+pub batch_follows : (k : Kept) (b : SwapBatch) (size : ℕ) (read : Result SwapBatch ℕ) → done b ≡ answer size read → batch_may_follow k b ≡ true → (now : Kept) × (batch_next k read ≡ Some (More now))
 batch_follows k b size read e follows = (record k { batches = k.batches ++ b ∷ [] }, ap (batch_next k) (read_ok size b read e) ∙ rw follows refl)
 
-pub file_follows : (k : Kept) (a : ActiveFile) (size : ℕ) (read : Result ActiveFile ℕ) → done a ≡ answer size read → may_join k a ≡ true → (now : Kept) × (file_next k read ≡ Some (More now))
+pub file_follows : (k : Kept) (a : ActiveFile) (size : ℕ) (read : Result ActiveFile ℕ) → done a ≡ answer size read → file_may_join k a ≡ true → (now : Kept) × (file_next k read ≡ Some (More now))
 file_follows k a size read e joins = (record k { files = k.files ++ a ∷ [] }, ap (file_next k) (read_ok size a read e) ∙ rw joins refl)
 
 -- ---- the first block
@@ -59,8 +59,8 @@ file_follows k a size read e joins = (record k { files = k.files ++ a ∷ [] }, 
 abbrev following : FileName → List ℕ → Kept → ℕ → Result Kept Damage
 following file bytes k size = blocks_from (suc (length bytes)) file size k (drop size bytes)
 
-pub behind_first : (file : FileName) (bytes : List ℕ) (kind : ℕ) (payload : List ℕ) (k : Kept) (next : ℕ) → reading_of bytes ≡ Whole kind payload → first_in kind payload ≡ Some k
+pub behind_first : (file : FileName) (bytes : List ℕ) (kind : ℕ) (payload : List ℕ) (k : Kept) (next : ℕ) → reading_of bytes ≡ Whole kind payload → first_block_kept kind payload ≡ Some k
     → next ≡ length payload + 37 → snapshot_of file bytes ≡ blocks_from (suc (length bytes)) file next k (drop next bytes)
 behind_first file bytes kind payload k next read first size =
-    ap (λ (r : Reading). behind_block file 0 first_in r (following file bytes)) read
+    ap (λ (r : Reading). behind_block file 0 first_block_kept r (following file bytes)) read
     ∙ ap (said file 0 (length payload + 37) (following file bytes)) first ∙ ap (following file bytes k) (sym size)

@@ -28,7 +28,7 @@ use Rattle.record_codec.proofs.Sizes.{file_at_most, swap_batch_size}
 use Rattle.record_codec.proofs.Snapshots.{batch_is, ending_is}
 use Rattle.record_codec.proofs.StoreHeads.{head_is}
 use Rattle.checkpoint_store.specs.Consistent.{IsConsistent, HasCounters, IsFileIn, AreDistinctBy, record_size}
-use Rattle.checkpoint_store.specs.Reading.{Next, More, Last, last_number, has_place, may_join, may_follow, are_distinct, has_counters, kept_by, head_next, file_next, batch_next, end_next, first_in, next_in, said, behind_block, go_on, blocks_from, snapshot_of}
+use Rattle.checkpoint_store.specs.Reading.{Next, More, Last, last_number, file_has_place, file_may_join, batch_may_follow, are_distinct_names, has_counters, kept_of_head, head_next, file_next, batch_next, end_next, first_block_kept, next_in, said, behind_block, go_on, blocks_from, snapshot_of}
 use Rattle.checkpoint_store.specs.Snapshot.{head_in, head_block, file_block, batch_block, end_block, blocks_in, snapshot}
 use Rattle.flowfile_record.specs.declared.limits.TheConstants.{LIVE_FILES_MAX, LIVE_BYTES_MAX}
 use Rattle.checkpoint_store.proofs.Numbering.{last_is, sum_more, any_more, all_three}
@@ -58,11 +58,11 @@ module _ (file : FileName) where
       ap (λ (r : Reading). behind_block file at (next_in k) r following) (reading_of-block kind payload rest small)
       ∙ ap (said file at (length payload + BLOCK_OVERHEAD) following) says
 
-  block_first : (kind : ℕ) (k : Kept) (payload rest : List ℕ) → length payload ≤ PAYLOAD_MAX → first_in kind payload ≡ Some k
+  block_first : (kind : ℕ) (k : Kept) (payload rest : List ℕ) → length payload ≤ PAYLOAD_MAX → first_block_kept kind payload ≡ Some k
       → snapshot_of file (block kind payload ++ rest) ≡ blocks_from (suc (length (block kind payload ++ rest))) file (length payload + BLOCK_OVERHEAD) k rest
   block_first kind k payload rest small says =
       let following : Kept → ℕ → Result Kept Damage = λ m size. blocks_from (suc (length (block kind payload ++ rest))) file size m (drop size (block kind payload ++ rest)) in
-      ap (λ (r : Reading). behind_block file 0 first_in r following) (reading_of-block kind payload rest small)
+      ap (λ (r : Reading). behind_block file 0 first_block_kept r following) (reading_of-block kind payload rest small)
       ∙ ap (said file 0 (length payload + BLOCK_OVERHEAD) following) says
       ∙ ap (blocks_from (suc (length (block kind payload ++ rest))) file (length payload + BLOCK_OVERHEAD) k) (drop_at (block kind payload) rest (length payload + BLOCK_OVERHEAD) (length-block kind payload))
 
@@ -75,7 +75,7 @@ none_equal x (y ∷ ys) apart =
     let first : bytes_eq y x ≡ false = grind (arith, bytes_eq-Decides y x, other) in
     rw first (none_equal x ys (λ k d lt. apart (suc k) d (omega (arith, lt))))
 
-distinct_names : (names : List (List ℕ)) → AreDistinctBy (λ (name : List ℕ). name) names → are_distinct names ≡ true
+distinct_names : (names : List (List ℕ)) → AreDistinctBy (λ (name : List ℕ). name) names → are_distinct_names names ≡ true
 distinct_names [] distinct = refl
 distinct_names (name ∷ names) distinct =
     let fresh = none_equal name names distinct.0 in
@@ -88,16 +88,16 @@ counted k has =
     let batch : nat_lt 0 k.next_batch ≡ true = grind (arith, nat_tests, has.next_batch) in
     all_three (nat_lt 0 k.next_number) (nat_lt 0 k.next_arrival) (nat_lt 0 k.next_batch) number arrival batch
 
-head_says : (k : Kept) → IsConsistent k → first_in (kind_code kinds.Head) (head (head_in k)) ≡ Some (kept_by (head_in k))
+head_says : (k : Kept) → IsConsistent k → first_block_kept (kind_code kinds.Head) (head (head_in k)) ≡ Some (kept_of_head (head_in k))
 head_says k is =
     let names = distinct_names k.connections is.connections in
     let counters = counted k is.counters in
     ap head_next (whole_again head_at head IsHead head_is (head_in k) is.encoded) ∙ rw (names, counters) refl
 
-file_says : (k : Kept) (a : ActiveFile) → IsActiveFile a → may_join k a ≡ true → next_in k (kind_code kinds.File) (active_file a) ≡ Some (More (record k { files = k.files ++ a ∷ [] }))
+file_says : (k : Kept) (a : ActiveFile) → IsActiveFile a → file_may_join k a ≡ true → next_in k (kind_code kinds.File) (active_file a) ≡ Some (More (record k { files = k.files ++ a ∷ [] }))
 file_says k a has joins = ap (file_next k) (whole_again active_file_at active_file IsActiveFile active_file_is a has) ∙ rw joins refl
 
-batch_says : (k : Kept) (b : SwapBatch) → IsBatch b → may_follow k b ≡ true → next_in k (kind_code kinds.Batch) (swap_batch b) ≡ Some (More (record k { batches = k.batches ++ b ∷ [] }))
+batch_says : (k : Kept) (b : SwapBatch) → IsBatch b → batch_may_follow k b ≡ true → next_in k (kind_code kinds.Batch) (swap_batch b) ≡ Some (More (record k { batches = k.batches ++ b ∷ [] }))
 batch_says k b has follows = ap (batch_next k) (whole_again batch_at swap_batch IsBatch batch_is b has) ∙ rw follows refl
 
 end_says : (k : Kept) → IsEnding (blocks_in k) → next_in k (kind_code kinds.End) (ending (blocks_in k)) ≡ Some Last
@@ -123,7 +123,7 @@ record MayAllJoin (k : Kept) (taken left : List ActiveFile) : Type 0 where
 seven : (a b c d e f g : Bool) → a ≡ true → b ≡ true → c ≡ true → d ≡ true → e ≡ true → f ≡ true → g ≡ true → (a && b && c && d && e && f && g) ≡ true
 seven a b c d e f g p q r s t u v = rw (p, q, r, s, t, u, v) refl
 
-joins_here : (k : Kept) (taken left : List ActiveFile) (a : ActiveFile) → MayAllJoin k taken (a ∷ left) → may_join (with_files k taken) a ≡ true
+joins_here : (k : Kept) (taken left : List ActiveFile) (a : ActiveFile) → MayAllJoin k taken (a ∷ left) → file_may_join (with_files k taken) a ≡ true
 joins_here k taken left a may =
     let known = may.known 0 a (omega arith) in
     let above = may.above 0 a (omega arith) in
@@ -135,7 +135,7 @@ joins_here k taken left a may =
     let b4 : nat_lt a.file.arrival k.next_arrival ≡ true = grind (arith, nat_tests, known.arrival) in
     let b5 : nat_lt (length taken) LIVE_FILES_MAX ≡ true = grind (arith, nat_tests, may.count) in
     let b6 : nat_le (sum (map record_size taken) + record_size a) LIVE_BYTES_MAX ≡ true = grind (arith, nat_tests, may.bytes, cons) in
-    all_three (has_place (with_files k taken) a) _ _ (seven true _ _ _ _ _ _ refl b1 b2 b3 b7 b4 b5) b6 (ap not (may.fresh 0 a (omega arith)))
+    all_three (file_has_place (with_files k taken) a) _ _ (seven true _ _ _ _ _ _ refl b1 b2 b3 b7 b4 b5) b6 (ap not (may.fresh 0 a (omega arith)))
 
 or_false : (a b : Bool) → a ≡ false → b ≡ false → (a || b) ≡ false
 or_false a b p q = rw (p, q) refl
@@ -230,7 +230,7 @@ read_back file k rest is =
     let long : length k.files + length k.batches ≤ size =
     omega (arith, files, batches, length-append hb (fs ++ (bs ++ (eb ++ rest))), length-append fs (bs ++ (eb ++ rest)), length-append bs (eb ++ rest)) in
     let spare = size - (length k.files + length k.batches) in
-    let first = block_first file (kind_code kinds.Head) (kept_by (head_in k)) (head (head_in k)) (fs ++ (bs ++ (eb ++ rest))) is.head_size (head_says k is) in
+    let first = block_first file (kind_code kinds.Head) (kept_of_head (head_in k)) (head (head_in k)) (fs ++ (bs ++ (eb ++ rest))) is.head_size (head_says k is) in
     let joins : MayAllJoin k [] k.files = record {
       known = is.files;
       ascends = is.numbers;

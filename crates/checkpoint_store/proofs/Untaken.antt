@@ -15,7 +15,7 @@ use Rattle.record_codec.specs.Texts.{texts_at}
 use Rattle.record_codec.specs.Version.{version_at}
 use Rattle.record_codec.specs.declared.head.Head.{Head}
 use Rattle.checkpoint_store.specs.Memory.{head_front_at}
-use Rattle.checkpoint_store.specs.Reading.{Next, batch_next, end_next, head_next, first_in, next_in}
+use Rattle.checkpoint_store.specs.Reading.{Next, batch_next, end_next, head_next, first_block_kept, next_in}
 
 -- ---- how many bytes a reading takes
 
@@ -166,7 +166,7 @@ first_known : (head : Bool) (read : Result Head ℕ) (k : Kept) → cond head (h
 first_known true read k e = (refl, head_known read k e)
 first_known false read k e = absurd cc
 
-pub first_size : (kind : ℕ) (payload : List ℕ) (k : Kept) → first_in kind payload ≡ Some k → 41 ≤ length payload
+pub first_size : (kind : ℕ) (payload : List ℕ) (k : Kept) → first_block_kept kind payload ≡ Some k → 41 ≤ length payload
 first_size kind payload k e =
     let known = first_known (kind == 10) (whole head_at payload) k e in
     let front = some_ok (head_front_at payload) (head_front payload known.1.0 known.1.1) in
@@ -181,7 +181,7 @@ either true x none = none
 either false x none = refl
 
 -- bytes that aren't a Head's up to the lists
-pub front_refused : (kind : ℕ) (payload : List ℕ) → is_ok (head_front_at payload) ≡ false → first_in kind payload ≡ None
+pub front_refused : (kind : ℕ) (payload : List ℕ) → is_ok (head_front_at payload) ≡ false → first_block_kept kind payload ≡ None
 front_refused kind payload unread =
     either (kind == 10) (head_next (whole head_at payload)) (head_none (whole head_at payload) (λ h e. true≢false (sym (head_front payload h e) ∙ unread)))
 

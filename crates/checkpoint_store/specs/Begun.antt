@@ -21,19 +21,19 @@ abbrev pub begun_log : ℕ → List ℕ
 begun_log number = OPEN_GATE ∷ begin_frame number
 
 -- a log that is passed over where the current one is looked for: it has at most a byte, or its first gate isn't open
-abbrev pub IsPassedOver : List ℕ → Type 0
-IsPassedOver bytes = (length bytes ≤ 1) ⊎ (slice_index bytes 0 ≢ OPEN_GATE)
+abbrev pub IsPassedOverLog : List ℕ → Type 0
+IsPassedOverLog bytes = (length bytes ≤ 1) ⊎ (slice_index bytes 0 ≢ OPEN_GATE)
 
 -- files in which the log of this number may be begun: it is empty, and each greater one is passed over
 pub record MayBegin (number : ℕ) (files : Files) : Type 0 where
   pub empty : files (log_file number) ≡ []
-  pub greater : (n : ℕ) → number < n → IsPassedOver (files (log_file n))
+  pub greater : (n : ℕ) → number < n → IsPassedOverLog (files (log_file n))
 
 -- files in which the log of this number is current, and was just begun
 pub record IsBegun (number : ℕ) (files : Files) : Type 0 where
   pub begun : files (log_file number) ≡ begun_log number
-  pub greater : (n : ℕ) → number < n → IsPassedOver (files (log_file n))
+  pub greater : (n : ℕ) → number < n → IsPassedOverLog (files (log_file n))
 
 -- a log before its first gate is opened, or behind it
 abbrev pub IsBegunOrNot : ℕ → List ℕ → Type 0
-IsBegunOrNot number bytes = IsPassedOver bytes ⊎ (bytes ≡ begun_log number)
+IsBegunOrNot number bytes = IsPassedOverLog bytes ⊎ (bytes ≡ begun_log number)

@@ -10,7 +10,7 @@ use Rattle.record_codec.specs.StoreHeadReading.{store_at}
 use Rattle.record_codec.specs.Version.{version_at}
 use Rattle.record_codec.specs.declared.block.TheConstants.{BLOCK_OVERHEAD}
 use Rattle.record_codec.specs.declared.snapshot.SnapshotKind.TheVariants as kinds
-use Rattle.checkpoint_store.specs.Reading.{More, first_in, next_in}
+use Rattle.checkpoint_store.specs.Reading.{More, first_block_kept, next_in}
 
 -- a Head up to its lists
 abbrev pub head_front_at : Reading (ℕ × (ℕ × List ℕ))
@@ -34,7 +34,7 @@ pub record Joins (bytes : List ℕ) (longest at next : ℕ) (before now : Kept) 
 -- The blocks before this offset stand whole and join one another. This is what they say, and none is longer than that.
 pub data IsReadTo (bytes : List ℕ) : ℕ → Kept → ℕ → Type 0 where
   head : (at longest : ℕ) (kind : ℕ) (payload : List ℕ) (k : Kept) → reading_of bytes ≡ Whole kind payload
-      → first_in kind payload ≡ Some k → at ≡ length payload + BLOCK_OVERHEAD → at ≤ longest
+      → first_block_kept kind payload ≡ Some k → at ≡ length payload + BLOCK_OVERHEAD → at ≤ longest
       → IsReadTo bytes at k longest
   more : (at next longest most : ℕ) (before now : Kept) → IsReadTo bytes at before longest → longest ≤ most
       → Joins bytes most at next before now → IsReadTo bytes next now most

@@ -5,7 +5,7 @@ use Rattle.checkpoint_store.specs.declared.output.Output.{Output}
 use Rattle.checkpoint_store.specs.declared.output.TheConstants.{PIECE_SIZE, FILE_PAYLOAD_MAX}
 
 -- there is room for a piece and the longest block behind it, and for the longest payload
-pub record HasRoom (out : Output) : Type 0 where
+pub record OutputHasRoom (out : Output) : Type 0 where
   pub files : FILE_PAYLOAD_MAX ≤ out.longest
   pub block : out.longest ≤ PAYLOAD_MAX
   pub payload : out.longest ≤ vec_capacity out.payload
@@ -13,7 +13,7 @@ pub record HasRoom (out : Output) : Type 0 where
 
 -- and the piece has at most its size
 abbrev pub HasFreeRoom : Output → Type 0
-HasFreeRoom out = HasRoom out × (vec_len out.piece ≤ PIECE_SIZE)
+HasFreeRoom out = OutputHasRoom out × (vec_len out.piece ≤ PIECE_SIZE)
 
 -- the same but for the piece and the payload
 pub record SameBut (old new : Output) : Type 0 where

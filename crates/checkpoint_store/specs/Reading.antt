@@ -25,17 +25,17 @@ use Rattle.flowfile_record.specs.declared.limits.TheConstants.{LIVE_FILES_MAX, L
 -- ---- the rules of each kind of block
 
 -- no connection stands twice
-abbrev pub are_distinct : List (List ℕ) → Bool
-are_distinct [] = true
-are_distinct (name ∷ names) = not (list_any (λ other. bytes_eq other name) names) && are_distinct names
+abbrev pub are_distinct_names : List (List ℕ) → Bool
+are_distinct_names [] = true
+are_distinct_names (name ∷ names) = not (list_any (λ other. bytes_eq other name) names) && are_distinct_names names
 
 -- numbers, arrivals and batches begin at 1
 abbrev pub has_counters : Head → Bool
 has_counters h = nat_lt 0 h.next_number && nat_lt 0 h.next_arrival && nat_lt 0 h.next_batch
 
 -- what a Head says is kept, before any file
-abbrev pub kept_by : Head → Kept
-kept_by h = record {
+abbrev pub kept_of_head : Head → Kept
+kept_of_head h = record {
   store = h.store;
   flow = h.flow;
   connections = h.connections;
@@ -58,8 +58,8 @@ last_number number (item ∷ next ∷ items) = last_number number (next ∷ item
 
 -- The file stands before the batches and has a greater number than those before it. Its connection is there, its number
 -- and its arrival, which is at least 1, are below what comes next, and there is place for one file more.
-abbrev pub has_place : Kept → ActiveFile → Bool
-has_place k a =
+abbrev pub file_has_place : Kept → ActiveFile → Bool
+file_has_place k a =
     (length k.batches == 0)
     && nat_lt (last_number (λ b. b.file.number) k.files) a.file.number
     && nat_lt a.connection (length k.connections)
@@ -69,15 +69,15 @@ has_place k a =
     && nat_lt (length k.files) LIVE_FILES_MAX
 
 -- And no file before it has its arrival, and their records stay within the limit.
-abbrev pub may_join : Kept → ActiveFile → Bool
-may_join k a =
-    has_place k a
+abbrev pub file_may_join : Kept → ActiveFile → Bool
+file_may_join k a =
+    file_has_place k a
     && nat_le (sum (map record_size k.files) + record_size a) LIVE_BYTES_MAX
     && not (list_any (λ b. b.file.arrival == a.file.arrival) k.files)
 
 -- The batch has a greater number than those before it. What else has to hold of it is asked where its file is read.
-abbrev pub may_follow : Kept → SwapBatch → Bool
-may_follow k b = nat_lt (last_number (λ c. c.batch) k.batches) b.batch
+abbrev pub batch_may_follow : Kept → SwapBatch → Bool
+batch_may_follow k b = nat_lt (last_number (λ c. c.batch) k.batches) b.batch
 
 -- ---- what a block says
 
@@ -87,15 +87,15 @@ pub data Next : Type 0 where
   Last : Next
 
 abbrev pub head_next : Result Head ℕ → Option Kept
-head_next (Ok h) = if are_distinct h.connections && has_counters h then Some (kept_by h) else None
+head_next (Ok h) = if are_distinct_names h.connections && has_counters h then Some (kept_of_head h) else None
 head_next (Err left) = None
 
 abbrev pub file_next : Kept → Result ActiveFile ℕ → Option Next
-file_next k (Ok a) = if may_join k a then Some (More (record k { files = k.files ++ a ∷ [] })) else None
+file_next k (Ok a) = if file_may_join k a then Some (More (record k { files = k.files ++ a ∷ [] })) else None
 file_next k (Err left) = None
 
 abbrev pub batch_next : Kept → Result SwapBatch ℕ → Option Next
-batch_next k (Ok b) = if may_follow k b then Some (More (record k { batches = k.batches ++ b ∷ [] })) else None
+batch_next k (Ok b) = if batch_may_follow k b then Some (More (record k { batches = k.batches ++ b ∷ [] })) else None
 batch_next k (Err left) = None
 
 abbrev pub end_next : Kept → Result ℕ ℕ → Option Next
@@ -103,8 +103,8 @@ end_next k (Ok blocks) = if blocks == blocks_in k then Some Last else None
 end_next k (Err left) = None
 
 -- what the first block says
-abbrev pub first_in : ℕ → List ℕ → Option Kept
-first_in kind payload = if kind == kind_code kinds.Head then head_next (whole head_at payload) else None
+abbrev pub first_block_kept : ℕ → List ℕ → Option Kept
+first_block_kept kind payload = if kind == kind_code kinds.Head then head_next (whole head_at payload) else None
 
 -- what a later block says
 abbrev pub next_in : Kept → ℕ → List ℕ → Option Next
@@ -151,7 +151,7 @@ blocks_in_file most files file at k = blocks_from most file at k (drop at (files
 -- what the bytes of this file say; no file has more blocks than bytes
 abbrev pub snapshot_of : FileName → List ℕ → Result Kept Damage
 snapshot_of file bytes =
-    behind_block file 0 first_in (reading_of bytes)
+    behind_block file 0 first_block_kept (reading_of bytes)
     (λ k size. blocks_from (suc (length bytes)) file size k (drop size bytes))
 
 -- what this file says

@@ -10,7 +10,7 @@ use Rattle.checkpoint_store.specs.Reading.{Next, More, Last, last_number}
 use Rattle.checkpoint_store.specs.declared.so_far.SoFar.{SoFar}
 
 -- the numbers of some items, as far as a reader has to know them
-pub record AreNumbered {A : Type 0} (number : A → ℕ) (items : List A) (greatest : ℕ) : Type 0 where
+pub record AreNumberedTo {A : Type 0} (number : A → ℕ) (items : List A) (greatest : ℕ) : Type 0 where
   pub last : greatest ≡ last_number number items
   pub below : All (λ item. number item ≤ greatest) items
   pub count : length items ≤ greatest
@@ -18,8 +18,8 @@ pub record AreNumbered {A : Type 0} (number : A → ℕ) (items : List A) (great
 
 -- what is kept beside the state itself, which agrees with itself as long as no batch has joined it
 pub record IsSoFar (s : SoFar) : Type 0 where
-  pub files : AreNumbered (λ a. a.file.number) s.state.files.items s.last_file
-  pub batches : AreNumbered (λ b. b.batch) s.state.batches.items s.last_batch
+  pub files : AreNumberedTo (λ a. a.file.number) s.state.files.items s.last_file
+  pub batches : AreNumberedTo (λ b. b.batch) s.state.batches.items s.last_batch
   pub arrivals : (n : ℕ) → contains nat_cmp s.arrivals n ≡ list_any (λ a. a.file.arrival == n) s.state.files.items
   pub ordered : IsOrdered nat_cmp s.arrivals
   pub bytes : s.bytes ≡ sum (map record_size s.state.files.items)

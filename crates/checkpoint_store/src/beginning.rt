@@ -5,7 +5,7 @@ ghost use Rattle.disk_trait.specs.Images.{After, Since, IsOnly};
 ghost use Rattle.disk_trait.specs.Faults.{CountsFaults};
 ghost use Rattle.disk_trait.specs.declared.damage.Damage.{Damage as TheDamage};
 ghost use Rattle.flowfile_record.specs.Encoding.{IsNumber};
-ghost use Rattle.checkpoint_store.specs.Begun.{log_file, begin_frame, begun_log, IsPassedOver, IsBegunOrNot, MayBegin, IsBegun};
+ghost use Rattle.checkpoint_store.specs.Begun.{log_file, begin_frame, begun_log, IsPassedOverLog, IsBegunOrNot, MayBegin, IsBegun};
 
 use crate::CheckError;
 use disk_trait::{Disk, Failed, FileKind, FileName, write_synced};
@@ -52,7 +52,7 @@ fn stage<D: Disk>(disk: &mut D, file: FileName, frame: &[u8]) -> Result<(), Fail
         → At file (λ old new. new ≡ CLOSED_GATE ∷ frame.now) (D.held disk.old) (D.held disk.new)) }
     ensures synced { OnOk result (IsOnly (D.held disk.new) (D.images disk.new (D.moment disk.new))) }
     ensures images { Since D.moment D.images disk.old disk.new
-        (After (At file (λ old new. IsPassedOver new)) (D.images disk.old (D.moment disk.old))) }
+        (After (At file (λ old new. IsPassedOverLog new)) (D.images disk.old (D.moment disk.old))) }
     ensures cause { CountsFaults (D.faults disk.old) (D.faults disk.new) (IsErr result) }
 {
     write_synced(disk, file, 0, &[CLOSED_GATE])?;

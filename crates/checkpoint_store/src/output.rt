@@ -7,7 +7,7 @@ ghost use Rattle.record_codec.specs.Block.{block};
 ghost use Rattle.record_codec.specs.Snapshot.{IsBatch, kind_code};
 ghost use Rattle.record_codec.specs.StoreHead.{IsHead, head, head_of};
 ghost use Rattle.checkpoint_store.specs.Put.{IsPut, Within};
-ghost use Rattle.checkpoint_store.specs.Output.{HasRoom, HasFreeRoom, SameBut};
+ghost use Rattle.checkpoint_store.specs.Output.{OutputHasRoom, HasFreeRoom, SameBut};
 ghost use Rattle.checkpoint_store.specs.Snapshot.{head_block, file_block, batch_block, end_block};
 
 use disk_trait::{Disk, Failed, FileName};
@@ -68,7 +68,7 @@ impl Output {
         requires head { IsHead (head_of state.now) }
         requires size { length (head (head_of state.now)) ≤ self.old.longest }
         ensures piece { self.new.piece.items ≡ self.old.piece.items ++ head_block (kept_of state.now) }
-        ensures room { HasRoom self.new }
+        ensures room { OutputHasRoom self.new }
         ensures same { SameBut self.old self.new }
     {
         self.payload.clear();
@@ -81,7 +81,7 @@ impl Output {
         requires room { HasFreeRoom self.old }
         requires file { IsActiveFile active.now }
         ensures piece { self.new.piece.items ≡ self.old.piece.items ++ file_block active.now }
-        ensures room { HasRoom self.new }
+        ensures room { OutputHasRoom self.new }
         ensures same { SameBut self.old self.new }
     {
         self.payload.clear();
@@ -94,7 +94,7 @@ impl Output {
         requires room { HasFreeRoom self.old }
         requires batch { IsBatch batch.now }
         ensures piece { self.new.piece.items ≡ self.old.piece.items ++ batch_block batch.now }
-        ensures room { HasRoom self.new }
+        ensures room { OutputHasRoom self.new }
         ensures same { SameBut self.old self.new }
     {
         self.payload.clear();
@@ -106,7 +106,7 @@ impl Output {
     pub fn put_end(&mut self, blocks: u64)
         requires room { HasFreeRoom self.old }
         ensures piece { self.new.piece.items ≡ self.old.piece.items ++ end_block blocks }
-        ensures room { HasRoom self.new }
+        ensures room { OutputHasRoom self.new }
         ensures same { SameBut self.old self.new }
     {
         self.payload.clear();
@@ -119,7 +119,7 @@ impl Output {
         requires room { HasFreeRoom self.old }
         requires size { vec_len self.old.payload ≤ self.old.longest }
         ensures piece { self.new.piece.items ≡ self.old.piece.items ++ block (kind_code kind) self.old.payload.items }
-        ensures room { HasRoom self.new }
+        ensures room { OutputHasRoom self.new }
         ensures same { SameBut self.old self.new }
     {
         append_block(&mut self.piece, kind.code(), self.payload.as_slice()).unwrap();
@@ -127,7 +127,7 @@ impl Output {
 
     /// Writes the piece behind what was written, where it has its size.
     pub fn write_full<D: Disk>(&mut self, disk: &mut D) -> Result<(), Failed>
-        requires room { HasRoom self.old }
+        requires room { OutputHasRoom self.old }
         requires within { IsTrue D.tells → self.old.offset ≤ length (D.held disk.old self.old.file) }
         ensures room { OnOk result (HasFreeRoom self.new) }
         ensures reaches { OnOk result (IsTrue D.tells → self.new.offset ≤ length (D.held disk.new self.new.file)) }
@@ -151,7 +151,7 @@ impl Output {
 
     /// Writes the piece behind what was written.
     pub(crate) fn write_piece<D: Disk>(&mut self, disk: &mut D) -> Result<(), Failed>
-        requires room { HasRoom self.old }
+        requires room { OutputHasRoom self.old }
         requires within { IsTrue D.tells → self.old.offset ≤ length (D.held disk.old self.old.file) }
         ensures room { OnOk result (HasFreeRoom self.new) }
         ensures empty { OnOk result (self.new.piece.items ≡ []) }

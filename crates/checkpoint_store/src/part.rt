@@ -8,7 +8,7 @@ ghost use Rattle.record_codec.specs.declared.snapshot.SnapshotKind.TheVariants a
 ghost use Rattle.record_codec.specs.SnapshotReading.{batch_at, ending_at};
 ghost use Rattle.record_codec.specs.StoreHeadReading.{head_at};
 ghost use Rattle.checkpoint_store.specs.Memory.{PartTakes, head_front_at};
-ghost use Rattle.checkpoint_store.specs.Reading.{More, Last, are_distinct, has_counters, head_next, file_next, batch_next, end_next, first_in, next_in};
+ghost use Rattle.checkpoint_store.specs.Reading.{More, Last, are_distinct_names, has_counters, head_next, file_next, batch_next, end_next, first_block_kept, next_in};
 ghost use Rattle.checkpoint_store.specs.SoFar.{IsSoFar, next_is};
 
 use crate::so_far::{SoFar, Unfit};
@@ -22,9 +22,9 @@ use std::alloc::Global;
 /// What the first block says, which is a Head.
 pub fn first_part(alloc: Global, kind: u8, payload: &[u8]) -> Result<SoFar, Unfit>
     requires size { length payload.now ≤ PAYLOAD_MAX }
-    ensures found { IfOk result (λ so_far. first_in kind payload.now ≡ Some (kept_of so_far.state)) }
+    ensures found { IfOk result (λ so_far. first_block_kept kind payload.now ≡ Some (kept_of so_far.state)) }
     ensures so_far { IfOk result IsSoFar }
-    ensures unfit { IsErrOf result Unfit.Form → first_in kind payload.now ≡ None }
+    ensures unfit { IsErrOf result Unfit.Form → first_block_kept kind payload.now ≡ None }
     ensures memory { IsErrOf result Unfit.Memory
         → (kind ≡ kind_code kinds.Head) × IsTrue (is_ok (head_front_at payload.now)) }
 {
@@ -54,7 +54,7 @@ fn take_head(alloc: Global, payload: &[u8]) -> Result<SoFar, Unfit>
 
 // Whether none of these stands twice.
 fn are_distinct(names: &[Text]) -> bool
-    ensures { result ≡ are_distinct names.now }
+    ensures { result ≡ are_distinct_names names.now }
 {
     let mut rest = names;
     while let Some((name, others)) = rest.split_first() {

@@ -6,7 +6,7 @@ ghost use Rattle.flowfile_record.specs.Stored.{kept_of};
 ghost use Rattle.record_codec.specs.ActiveFile.{IsActiveFile};
 ghost use Rattle.record_codec.specs.Snapshot.{IsBatch};
 ghost use Rattle.checkpoint_store.specs.Consistent.{IsConsistent};
-ghost use Rattle.checkpoint_store.specs.Reading.{has_place, may_join, may_follow, kept_by};
+ghost use Rattle.checkpoint_store.specs.Reading.{file_has_place, file_may_join, batch_may_follow, kept_of_head};
 ghost use Rattle.checkpoint_store.specs.Snapshot.{blocks_in};
 ghost use Rattle.checkpoint_store.specs.SoFar.{IsSoFar};
 ghost use Rattle.checkpoint_store.specs.Unfit.{unfit_of};
@@ -64,8 +64,8 @@ pub struct SoFar {
 impl SoFar {
     /// What a Head alone says.
     pub fn new(alloc: Global, head: Head) -> SoFar
-        requires consistent { IsConsistent (kept_by head) }
-        ensures kept { kept_of result.state ≡ kept_by head }
+        requires consistent { IsConsistent (kept_of_head head) }
+        ensures kept { kept_of result.state ≡ kept_of_head head }
         ensures so_far { IsSoFar result }
     {
         let flow = head.flow;
@@ -95,12 +95,12 @@ impl SoFar {
     pub fn add_file(&mut self, active: ActiveFile) -> Result<(), Unfit>
         requires file { IsActiveFile active }
         requires so_far { IsSoFar self.old }
-        ensures joined { OnOk result ((may_join (kept_of self.old.state) active ≡ true)
+        ensures joined { OnOk result ((file_may_join (kept_of self.old.state) active ≡ true)
             × (kept_of self.new.state
             ≡ record (kept_of self.old.state) { files = (kept_of self.old.state).files ++ active ∷ [] })) }
         ensures so_far { OnOk result (IsSoFar self.new) }
-        ensures unfit { IsErrOf result Unfit.Form → may_join (kept_of self.old.state) active ≡ false }
-        ensures memory { IsErrOf result Unfit.Memory → may_join (kept_of self.old.state) active ≡ true }
+        ensures unfit { IsErrOf result Unfit.Form → file_may_join (kept_of self.old.state) active ≡ false }
+        ensures memory { IsErrOf result Unfit.Memory → file_may_join (kept_of self.old.state) active ≡ true }
     {
         let number = active.file.number;
         let arrival = active.file.arrival;
@@ -121,7 +121,7 @@ impl SoFar {
     // Whether the file has a place behind the others, and is known to the Head.
     fn has_place(&self, active: &ActiveFile) -> bool
         requires { IsSoFar self.now }
-        ensures { result ≡ has_place (kept_of self.now.state) active.now }
+        ensures { result ≡ file_has_place (kept_of self.now.state) active.now }
     {
         let state = &self.state;
         state.batches.is_empty()
@@ -137,12 +137,12 @@ impl SoFar {
     pub fn add_batch(&mut self, batch: SwapBatch) -> Result<(), Unfit>
         requires batch { IsBatch batch }
         requires so_far { IsSoFar self.old }
-        ensures joined { OnOk result ((may_follow (kept_of self.old.state) batch ≡ true)
+        ensures joined { OnOk result ((batch_may_follow (kept_of self.old.state) batch ≡ true)
             × (kept_of self.new.state
             ≡ record (kept_of self.old.state) { batches = (kept_of self.old.state).batches ++ batch ∷ [] })) }
         ensures so_far { OnOk result (IsSoFar self.new) }
-        ensures unfit { IsErrOf result Unfit.Form → may_follow (kept_of self.old.state) batch ≡ false }
-        ensures memory { IsErrOf result Unfit.Memory → may_follow (kept_of self.old.state) batch ≡ true }
+        ensures unfit { IsErrOf result Unfit.Form → batch_may_follow (kept_of self.old.state) batch ≡ false }
+        ensures memory { IsErrOf result Unfit.Memory → batch_may_follow (kept_of self.old.state) batch ≡ true }
     {
         if self.last_batch >= batch.batch {
             return Err(Unfit::Form);

@@ -12,7 +12,7 @@ use Rattle.flowfile_record.specs.declared.content.ContentRef.{ContentRef}
 use Rattle.content_repo.specs.declared.slot.Slot.{Slot}
 use Rattle.content_repo.specs.Claims.{claim, OnClaims, CutTo, IdleShortened, EmptiedAt, ShortenedAt}
 use Rattle.content_repo.specs.SlotSet.{bit_of}
-use Rattle.content_repo.specs.Slots.{unused, slot_at, is_idle, reclaimed, end_of, covered}
+use Rattle.content_repo.specs.Slots.{unused, slot_numbered, is_idle, reclaimed, end_of, covered}
 use Rattle.content_repo.proofs.ClaimFiles.{Shortened-refl, Shortened-trans, MaybeCut, MaybeCut-trans, OnClaims-refl, OnClaims-one, OnClaims-trans}
 
 module _ (ends : ℕ → ℕ) (old now : Files) (fit : (k : ℕ) → ends k ≤ length (old (claim k))) (so_far : OnClaims (λ k. MaybeCut (ends k)) old now) where
@@ -67,19 +67,19 @@ matched true P Q first second = first refl
 matched false P Q first second = second refl
 
 abbrev pub IdleStep : List Slot → ℕ → List ℕ → List ℕ → Type 0
-IdleStep slots k old new = MatchBool (is_idle (slot_at slots k)) (Shortened 0 old new) (new ≡ old)
+IdleStep slots k old new = MatchBool (is_idle (slot_numbered slots k)) (Shortened 0 old new) (new ≡ old)
 
 pub idle_same : (slots : List Slot) (k : ℕ) (a : List ℕ) → IdleStep slots k a a
-idle_same slots k a = matched (is_idle (slot_at slots k)) (Shortened 0 a a) (a ≡ a) (λ idle. Shortened-refl 0 a) (λ used. refl)
+idle_same slots k a = matched (is_idle (slot_numbered slots k)) (Shortened 0 a a) (a ≡ a) (λ idle. Shortened-refl 0 a) (λ used. refl)
 
 both_idle : (v : Bool) (a b c : List ℕ) → MatchBool v (Shortened 0 a b) (b ≡ a) → MatchBool v (Shortened 0 b c) (c ≡ b) → MatchBool v (Shortened 0 a c) (c ≡ a)
 both_idle true a b c p q = Shortened-trans 0 a b c p q
 both_idle false a b c p q = q ∙ p
 
 pub idle_onward : (slots : List Slot) (k : ℕ) (a b c : List ℕ) → IdleStep slots k a b → IdleStep slots k b c → IdleStep slots k a c
-idle_onward slots k a b c p q = both_idle (is_idle (slot_at slots k)) a b c p q
+idle_onward slots k a b c p q = both_idle (is_idle (slot_numbered slots k)) a b c p q
 
-pub idle_step : (slots : List Slot) (k : ℕ) (a b : List ℕ) → is_idle (slot_at slots k) ≡ true → Shortened 0 a b → IdleStep slots k a b
+pub idle_step : (slots : List Slot) (k : ℕ) (a b : List ℕ) → is_idle (slot_numbered slots k) ≡ true → Shortened 0 a b → IdleStep slots k a b
 idle_step slots k a b idle step = rw idle step
 
 pub emptied_kept : (k j : ℕ) (now new : Files) → At (claim k) (λ a b. b ≡ []) now new → now (claim j) ≡ [] → new (claim j) ≡ []
@@ -90,15 +90,15 @@ emptied_kept k j now new at is =
     ]
 
 -- what one slot's turn does
-pub turn_step : (slots : List Slot) (k : ℕ) (old new : Files) → ShortenedAt (slot_at slots k) k old new → IdleShortened slots old new
-turn_step slots k old new turn = by_idle (is_idle (slot_at slots k)) refl turn
+pub turn_step : (slots : List Slot) (k : ℕ) (old new : Files) → ShortenedAt (slot_numbered slots k) k old new → IdleShortened slots old new
+turn_step slots k old new turn = by_idle (is_idle (slot_numbered slots k)) refl turn
   where
-    by_idle : (v : Bool) → is_idle (slot_at slots k) ≡ v → MatchBool v (At (claim k) (Shortened 0) old new) (new ≡ old) → IdleShortened slots old new
+    by_idle : (v : Bool) → is_idle (slot_numbered slots k) ≡ v → MatchBool v (At (claim k) (Shortened 0) old new) (new ≡ old) → IdleShortened slots old new
     by_idle true idle at =
         OnClaims-one (IdleStep slots) (idle_same slots) k old new (record { here = idle_step slots k (old (claim k)) (new (claim k)) idle at.here; others = at.others })
     by_idle false used same = subst (λ (files : Files). IdleShortened slots old files) (sym same) (OnClaims-refl (IdleStep slots) (idle_same slots) old)
 
-pub turns : (slots : List Slot) (slot : Slot) (k : ℕ) (old now new : Files) → slot ≡ slot_at slots k → IdleShortened slots old now → ShortenedAt slot k now new → IdleShortened slots old new
+pub turns : (slots : List Slot) (slot : Slot) (k : ℕ) (old now new : Files) → slot ≡ slot_numbered slots k → IdleShortened slots old now → ShortenedAt slot k now new → IdleShortened slots old new
 turns slots slot k old now new same so_far turn =
     OnClaims-trans (IdleStep slots) (idle_same slots) (idle_onward slots) old now new so_far
     (turn_step slots k now new (subst (λ (s : Slot). ShortenedAt s k now new) same turn))
@@ -117,14 +117,14 @@ turn_here slot k now new turn idle = by_idle (is_idle slot) idle turn
     by_idle true e at = at.here
     by_idle false e same = absurd cc
 
-pub count_more : (slots : List Slot) (k : ℕ) → k < length slots → count_by is_idle (take (k + 1) slots) ≡ count_by is_idle (take k slots) + bit_of (is_idle (slot_at slots k))
+pub count_more : (slots : List Slot) (k : ℕ) → k < length slots → count_by is_idle (take (k + 1) slots) ≡ count_by is_idle (take k slots) + bit_of (is_idle (slot_numbered slots k))
 count_more slots k within =
     ap (count_by is_idle) (take_more slots k unused within)
-    ∙ sum_by-append (λ (s : Slot). cond (is_idle s) 1 0) (take k slots) (slot_at slots k ∷ [])
+    ∙ sum_by-append (λ (s : Slot). cond (is_idle s) 1 0) (take k slots) (slot_numbered slots k ∷ [])
     ∙ omega arith
 
 -- the list that is left
-pub reclaimed_list : (slots new : List Slot) → length new ≡ length slots → ((k : ℕ) → k < length slots → slot_at new k ≡ reclaimed (slot_at slots k)) → new ≡ map reclaimed slots
+pub reclaimed_list : (slots new : List Slot) → length new ≡ length slots → ((k : ℕ) → k < length slots → slot_numbered new k ≡ reclaimed (slot_numbered slots k)) → new ≡ map reclaimed slots
 reclaimed_list slots new long each =
     same_lists new (map reclaimed slots) (long ∙ sym (length-map slots reclaimed))
     (λ k d within.
@@ -143,7 +143,7 @@ covered_within k (at ∷ refs) files all = by_slot (eqb at.slot k) refl (covered
         omega (arith, here_too, rest)
     by_slot false differs rest = rest
 
-pub since_turn : {D : Type 0} (moment : D → ℕ) (images : D → ℕ → Files → Type 0) (slots : List Slot) (slot : Slot) (k : ℕ) (old mid new : D) → slot ≡ slot_at slots k
+pub since_turn : {D : Type 0} (moment : D → ℕ) (images : D → ℕ → Files → Type 0) (slots : List Slot) (slot : Slot) (k : ℕ) (old mid new : D) → slot ≡ slot_numbered slots k
     → Since moment images old mid (After (IdleShortened slots) (images old (moment old)))
     → Since moment images mid new (After (ShortenedAt slot k) (images mid (moment mid)))
     → Since moment images old new (After (IdleShortened slots) (images old (moment old)))

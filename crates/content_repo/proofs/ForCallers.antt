@@ -9,9 +9,9 @@ use Rattle.flowfile_record.specs.declared.content.ContentRef.{ContentRef}
 use Rattle.content_repo.specs.declared.slot.Slot.{Slot}
 use Rattle.content_repo.specs.Append.{IsAppended}
 use Rattle.content_repo.specs.Claims.{HasSizes}
-use Rattle.content_repo.specs.Slots.{unused, count_of, size_of, slot_at, is_live, is_open, is_free, end_of, or_else, next_slot, with_count}
+use Rattle.content_repo.specs.Slots.{unused, count_of, size_of, slot_numbered, is_live, is_open, is_free, end_of, slot_or, next_slot, slot_with_count}
 
-either : (a b : Option ℕ) (k bound : ℕ) → or_else a b ≡ Some k → ((j : ℕ) → a ≡ Some j → j < bound) → ((j : ℕ) → b ≡ Some j → j < bound) → k < bound
+either : (a b : Option ℕ) (k bound : ℕ) → slot_or a b ≡ Some k → ((j : ℕ) → a ≡ Some j → j < bound) → ((j : ℕ) → b ≡ Some j → j < bound) → k < bound
 either None b k bound is first second = second k is
 either (Some j) b k bound is first second = first k is
 
@@ -23,10 +23,10 @@ next_within slots k is =
     (λ j found. (position-Some is_free slots j unused found).0)
 
 module _ (bytes digest : List ℕ) (old new : List Slot) (at : ContentRef) (is : IsAppended bytes digest old new at) where
-  now : slot_at new at.slot ≡ record { live = true; count = count_of old at.slot + 1; size = end_of at }
+  now : slot_numbered new at.slot ≡ record { live = true; count = count_of old at.slot + 1; size = end_of at }
   now =
       let slot : Slot = record { live = true; count = count_of old at.slot + 1; size = end_of at } in
-      ap (λ (slots : List Slot). slot_at slots at.slot) is.slots ∙ get_or-set_same old at.slot slot unused (next_within old at.slot is.slot)
+      ap (λ (slots : List Slot). slot_numbered slots at.slot) is.slots ∙ get_or-set_same old at.slot slot unused (next_within old at.slot is.slot)
 
   pub held_there : 0 < count_of new at.slot
   held_there = omega (arith, ap (λ (s : Slot). s.count) now)
@@ -42,13 +42,13 @@ held_within slots k held =
       | inr past ↦ absurd (omega (arith, held, ap (λ (s : Slot). s.count) (get_or_past slots k unused past)))
     ]
 
-pub sizes_stay : (slots : List Slot) (k count : ℕ) (files : Files) → 0 < count_of slots k → HasSizes slots files → HasSizes (with_count slots k count) files
+pub sizes_stay : (slots : List Slot) (k count : ℕ) (files : Files) → 0 < count_of slots k → HasSizes slots files → HasSizes (slot_with_count slots k count) files
 sizes_stay slots k count files held sizes j =
     let slot : Slot = record { live = is_live slots k; count = count; size = size_of slots k } in
-    let stays : size_of (with_count slots k count) j ≡ size_of slots j =
+    let stays : size_of (slot_with_count slots k count) j ≡ size_of slots j =
     elim (cases_eq j k) [
       | inl same ↦
-          ap (size_of (with_count slots k count)) same ∙ ap (λ (s : Slot). s.size) (get_or-set_same slots k slot unused (held_within slots k held))
+          ap (size_of (slot_with_count slots k count)) same ∙ ap (λ (s : Slot). s.size) (get_or-set_same slots k slot unused (held_within slots k held))
           ∙ ap (size_of slots) (sym same)
       | inr differs ↦ ap (λ (s : Slot). s.size) (get_or-set_other slots k j slot unused differs)
     ] in

@@ -6,7 +6,7 @@ use Rattle.std.proofs.lemmas.List.Sums.{position_or_len_is, sum_by-append}
 use Rattle.flowfile_record.specs.declared.content.ContentRef.{ContentRef}
 use Rattle.content_repo.specs.declared.slot.Slot.{Slot}
 use Rattle.content_repo.specs.SlotSet.{has, bit_of, IsLeast}
-use Rattle.content_repo.specs.Slots.{unused, slot_at, count_of, size_of, is_open, is_free, open_slot, free_slot, next_slot, taken, references_to, covered, end_of, IsLoaded, AreSorted}
+use Rattle.content_repo.specs.Slots.{unused, slot_numbered, count_of, size_of, is_open, is_free, open_slot, free_slot, next_slot, taken, references_to, covered, end_of, IsLoaded, AreSorted}
 
 pub bit_true : (b : Bool) → bit_of b ≡ 1 → b ≡ true
 bit_true true e = refl
@@ -92,9 +92,9 @@ pub loaded_more : (refs : List ContentRef) (at : ContentRef) (slots : List Slot)
     → size ≡ max (size_of slots at.slot) (end_of at) → IsLoaded (refs ++ at ∷ []) (taken slots at.slot size)
 loaded_more refs at slots size loaded within sized =
     let slot : Slot = record { live = true; count = count_of slots at.slot + 1; size = size } in
-    let here : slot_at (taken slots at.slot size) at.slot ≡ slot = get_or-set_same slots at.slot slot unused within in
+    let here : slot_numbered (taken slots at.slot size) at.slot ≡ slot = get_or-set_same slots at.slot slot unused within in
     let others = λ (k : ℕ) (differs : k ≢ at.slot). get_or-set_other slots at.slot k slot unused differs in
-    let at_slot = λ (k : ℕ) (same : k ≡ at.slot). ap (slot_at (taken slots at.slot size)) same ∙ here in
+    let at_slot = λ (k : ℕ) (same : k ≡ at.slot). ap (slot_numbered (taken slots at.slot size)) same ∙ here in
     record {
       count = λ k.
           elim (cases_eq k at.slot) [
@@ -122,7 +122,7 @@ loaded_more refs at slots size loaded within sized =
 
 -- ---- no contents
 
-pub sorted_none : (slots : List Slot) (opens frees : List ℕ) → length slots ≡ 65536 → ((k : ℕ) → slot_at slots k ≡ unused)
+pub sorted_none : (slots : List Slot) (opens frees : List ℕ) → length slots ≡ 65536 → ((k : ℕ) → slot_numbered slots k ≡ unused)
     → ((k : ℕ) → has opens k ≡ 0) → ((k : ℕ) → k < 65536 → has frees k ≡ 1) → AreSorted slots opens frees
 sorted_none slots opens frees long none closed free = record {
   long = long;

@@ -8,13 +8,13 @@ use Rattle.content_repo.specs.declared.content.TheConstants.{HELD_MAX}
 use Rattle.content_repo.specs.declared.slot.Slot.{Slot}
 use Rattle.content_repo.specs.declared.slot.TheConstants.{OPEN_SIZE}
 use Rattle.content_repo.specs.Claims.{claim, content_in, HasSizes}
-use Rattle.content_repo.specs.Slots.{size_of, held_in, end_of, next_slot, taken, HasRoom, IsNamed}
+use Rattle.content_repo.specs.Slots.{size_of, held_in, end_of, next_slot, taken, SlotsHaveRoom, IsNamed}
 
 -- these bytes, with this digest, find a slot, and a reference more may be held
 pub record MayAppend (slots : List Slot) (bytes digest : List ℕ) : Type 0 where
   pub size : length bytes ≤ CONTENT_MAX
   pub hashed : digest ≡ sha256 bytes
-  pub room : HasRoom slots (length bytes ∷ [])
+  pub room : SlotsHaveRoom slots (length bytes ∷ [])
   pub few : held_in slots < HELD_MAX
 
 -- the reference to these bytes, and the slots with it held

@@ -10,7 +10,7 @@ use Rattle.flowfile_record.specs.declared.content.ContentRef.{ContentRef}
 use Rattle.content_repo.specs.declared.error.ContentError.{ContentError}
 use Rattle.content_repo.specs.declared.error.ContentError.TheVariants.{Memory, SlotsFull, Damaged}
 use Rattle.content_repo.specs.declared.slot.Slot.{Slot}
-use Rattle.content_repo.specs.Slots.{size_of, end_of, covered, is_idle, slot_at}
+use Rattle.content_repo.specs.Slots.{size_of, end_of, covered, is_idle, slot_numbered}
 
 -- the file of a slot
 abbrev pub claim : ℕ → FileName
@@ -48,7 +48,7 @@ pub record AreCut (refs : List ContentRef) (slots : List Slot) (old new : Files)
 
 -- the claims of idle slots are emptied, and each other file is as it was
 abbrev pub IdleEmptied : List Slot → Files → Files → Type 0
-IdleEmptied slots = OnClaims (λ k old new. MatchBool (is_idle (slot_at slots k)) (new ≡ []) (new ≡ old))
+IdleEmptied slots = OnClaims (λ k old new. MatchBool (is_idle (slot_numbered slots k)) (new ≡ []) (new ≡ old))
 
 -- and that is known of the slots
 pub record AreEmptied (old_slots new_slots : List Slot) (old new : Files) : Type 0 where
@@ -56,7 +56,8 @@ pub record AreEmptied (old_slots new_slots : List Slot) (old new : Files) : Type
   pub sizes : HasSizes new_slots new
 
 abbrev pub IdleShortened : List Slot → Files → Files → Type 0
-IdleShortened slots = OnClaims (λ k old new. MatchBool (is_idle (slot_at slots k)) (Shortened 0 old new) (new ≡ old))
+IdleShortened slots =
+    OnClaims (λ k old new. MatchBool (is_idle (slot_numbered slots k)) (Shortened 0 old new) (new ≡ old))
 
 -- a slot's file is emptied where it is idle
 abbrev pub EmptiedAt : Slot → ℕ → Files → Files → Type 0
@@ -76,7 +77,7 @@ IsDamage at bytes (Short file offset need have) =
 IsDamage at bytes (Form file offset) = ⊥
 
 -- a content stands where its reference says, with its digest
-pub record IsWhole (files : Files) (at : ContentRef) : Type 0 where
+pub record ContentIsWhole (files : Files) (at : ContentRef) : Type 0 where
   pub covered : IsCovered files at
   pub digest : sha256 (content_in files at) ≡ at.digest
 
@@ -91,6 +92,6 @@ pub record IsRead (tells : Bool) (files : Files) (at : ContentRef) (bytes : List
 -- content that stands there whole and right, and has bytes.
 pub record IsReadRefusal (tells : Bool) (files : Files) (at : ContentRef) (error : ContentError) : Type 0 where
   pub damaged : (damage : Damage) → error ≡ Damaged damage → IsTrue tells → IsDamage at (files (claim at.slot)) damage
-  pub memory : error ≡ Memory → IsTrue tells → IsWhole files at
+  pub memory : error ≡ Memory → IsTrue tells → ContentIsWhole files at
   pub some : error ≡ Memory → 0 < at.size
   pub not_full : error ≢ SlotsFull

@@ -18,6 +18,6 @@ pub record RefusesOnFault {A : Type 0} (result : Result A ContentError) (before 
   pub cause : CountsFaults before now (IsErr result)
 
 -- a refusal that no content and no slot is the cause of
-pub record IsDiskOrMemory (error : ContentError) : Type 0 where
+pub record IsNeitherFullNorDamaged (error : ContentError) : Type 0 where
   pub not_full : error ≢ SlotsFull
   pub not_damaged : (damage : Damage) → error ≢ Damaged damage

@@ -11,19 +11,19 @@ use Rattle.content_repo.specs.SlotSet.{has, bit_of}
 abbrev pub unused : Slot
 unused = record { live = false; count = 0; size = 0 }
 
-abbrev pub slot_at : List Slot → ℕ → Slot
-slot_at slots k = slice_index_or slots k unused
+abbrev pub slot_numbered : List Slot → ℕ → Slot
+slot_numbered slots k = slice_index_or slots k unused
 
 abbrev pub is_live : List Slot → ℕ → Bool
-is_live slots k = (slot_at slots k).live
+is_live slots k = (slot_numbered slots k).live
 
 -- how many references to a slot are held
 abbrev pub count_of : List Slot → ℕ → ℕ
-count_of slots k = (slot_at slots k).count
+count_of slots k = (slot_numbered slots k).count
 
 -- the size of a slot's file
 abbrev pub size_of : List Slot → ℕ → ℕ
-size_of slots k = (slot_at slots k).size
+size_of slots k = (slot_numbered slots k).size
 
 -- how many references are held in all
 abbrev pub held_in : List Slot → ℕ
@@ -46,26 +46,28 @@ open_slot slots = position is_open slots
 abbrev pub free_slot : List Slot → Option ℕ
 free_slot slots = position is_free slots
 
-abbrev pub or_else : Option ℕ → Option ℕ → Option ℕ
-or_else None other = other
-or_else (Some k) other = Some k
+abbrev pub slot_or : Option ℕ → Option ℕ → Option ℕ
+slot_or None other = other
+slot_or (Some k) other = Some k
 
 -- the slot that the next content goes to
 abbrev pub next_slot : List Slot → Option ℕ
-next_slot slots = or_else (open_slot slots) (free_slot slots)
+next_slot slots = slot_or (open_slot slots) (free_slot slots)
 
 -- one more reference to a slot, which is live with it and whose file has this size
 abbrev pub taken : List Slot → ℕ → ℕ → List Slot
 taken slots k size = slice_set slots k (record { live = true; count = count_of slots k + 1; size = size })
 
 -- another count of references to a slot
-abbrev pub with_count : List Slot → ℕ → ℕ → List Slot
-with_count slots k count = slice_set slots k (record { live = is_live slots k; count = count; size = size_of slots k })
+abbrev pub slot_with_count : List Slot → ℕ → ℕ → List Slot
+slot_with_count slots k count =
+    slice_set slots k (record { live = is_live slots k; count = count; size = size_of slots k })
 
 -- contents of these sizes, appended in this order, find a slot each
-abbrev pub HasRoom : List Slot → List ℕ → Type 0
-HasRoom slots [] = Unit {0}
-HasRoom slots (n ∷ ns) = (k : ℕ) × (next_slot slots ≡ Some k) × HasRoom (taken slots k (size_of slots k + n)) ns
+abbrev pub SlotsHaveRoom : List Slot → List ℕ → Type 0
+SlotsHaveRoom slots [] = Unit {0}
+SlotsHaveRoom slots (n ∷ ns) = (k : ℕ) × (next_slot slots ≡ Some k)
+    × SlotsHaveRoom (taken slots k (size_of slots k + n)) ns
 
 -- the slots without the idle ones
 abbrev pub reclaimed : Slot → Slot
@@ -73,7 +75,7 @@ reclaimed slot = if is_idle slot then unused else slot
 
 -- nothing is known of a free slot: its file is empty, and nothing refers to it
 abbrev pub HasUnused : List Slot → Type 0
-HasUnused slots = (k : ℕ) → is_live slots k ≡ false → slot_at slots k ≡ unused
+HasUnused slots = (k : ℕ) → is_live slots k ≡ false → slot_numbered slots k ≡ unused
 
 -- so many claims were emptied, none was left as claimed, and their slots are free, of which nothing was known before
 pub record IsReclaimed (old new : List Slot) (answer : Reclaimed) : Type 0 where
@@ -104,8 +106,8 @@ pub record IsLoaded (refs : List ContentRef) (slots : List Slot) : Type 0 where
 -- the sets of the open and of the free slots are those of these slots, and nothing is known of a free one
 pub record AreSorted (slots : List Slot) (open_slots free_slots : List ℕ) : Type 0 where
   pub long : length slots ≡ SLOTS
-  pub opened : (k : ℕ) → k < SLOTS → has open_slots k ≡ bit_of (is_open (slot_at slots k))
-  pub free : (k : ℕ) → k < SLOTS → has free_slots k ≡ bit_of (is_free (slot_at slots k))
+  pub opened : (k : ℕ) → k < SLOTS → has open_slots k ≡ bit_of (is_open (slot_numbered slots k))
+  pub free : (k : ℕ) → k < SLOTS → has free_slots k ≡ bit_of (is_free (slot_numbered slots k))
   pub unused : HasUnused slots
 
 -- a reference names a slot, and its end is a number of bytes

@@ -2,7 +2,7 @@
 ghost use Rattle.std.specs.Prelude.{◌≡◌, ◌≢◌, ℕ, ◌+◌, ◌-◌, ◌^◌, ◌<◌, ◌≤◌, true, false, length, slice_set, Some, IfOk, IfSome};
 ghost use Rattle.content_repo.specs.SlotSet.{has};
 ghost use Rattle.content_repo.specs.declared.slot.TheConstants.{OPEN_SIZE};
-ghost use Rattle.content_repo.specs.Slots.{unused, slot_at, count_of, size_of, is_live, held_in, next_slot, taken, with_count, HasUnused};
+ghost use Rattle.content_repo.specs.Slots.{unused, slot_numbered, count_of, size_of, is_live, held_in, next_slot, taken, slot_with_count, HasUnused};
 
 use crate::slot_set::SlotSet;
 use crate::{SLOTS, Slot};
@@ -39,7 +39,7 @@ impl Model for Content {
 impl Content {
     /// No contents.
     pub(crate) fn new(alloc: Global) -> Result<Content, AllocError>
-        ensures none { IfOk result (λ content. (k : ℕ) → slot_at content k ≡ unused) }
+        ensures none { IfOk result (λ content. (k : ℕ) → slot_numbered content k ≡ unused) }
         ensures held { IfOk result (λ content. held_in content ≡ 0) }
     {
         let slots = unused_slots(alloc)?;
@@ -63,7 +63,7 @@ impl Content {
 
     pub(crate) fn slot(&self, number: u32) -> Slot
         requires { number < SLOTS }
-        ensures slot { result ≡ slot_at self.now number }
+        ensures slot { result ≡ slot_numbered self.now number }
         ensures count { result.count ≤ held_in self.now }
         ensures long { length self.now ≡ SLOTS }
     {
@@ -74,7 +74,7 @@ impl Content {
     pub(crate) fn held_slot(&self, number: u32) -> Slot
         requires { 0 < count_of self.now number }
         ensures within { number < SLOTS }
-        ensures slot { result ≡ slot_at self.now number }
+        ensures slot { result ≡ slot_numbered self.now number }
         ensures live { result.live ≡ true }
         ensures count { result.count ≤ held_in self.now }
     {
@@ -126,7 +126,7 @@ impl Content {
     pub fn hold(&mut self, at: &ContentRef)
         requires held { 0 < count_of self.old at.now.slot }
         requires few { held_in self.old < HELD_MAX }
-        ensures value { self.new ≡ with_count self.old at.now.slot (count_of self.old at.now.slot + 1) }
+        ensures value { self.new ≡ slot_with_count self.old at.now.slot (count_of self.old at.now.slot + 1) }
         ensures held { held_in self.new ≡ held_in self.old + 1 }
     {
         let slot = self.held_slot(at.slot);
@@ -143,7 +143,7 @@ impl Content {
     /// One reference less to a slot.
     pub fn unhold(&mut self, at: &ContentRef)
         requires { 0 < count_of self.old at.now.slot }
-        ensures value { self.new ≡ with_count self.old at.now.slot (count_of self.old at.now.slot - 1) }
+        ensures value { self.new ≡ slot_with_count self.old at.now.slot (count_of self.old at.now.slot - 1) }
         ensures held { held_in self.new + 1 ≡ held_in self.old }
     {
         let slot = self.held_slot(at.slot);
@@ -182,7 +182,7 @@ impl Content {
 // As many slots as there are, all free.
 fn unused_slots(alloc: Global) -> Result<Vec<Slot>, AllocError>
     ensures long { IfOk result (λ slots. length slots.items ≡ SLOTS) }
-    ensures unused { IfOk result (λ slots. (k : ℕ) → slot_at slots.items k ≡ unused) }
+    ensures unused { IfOk result (λ slots. (k : ℕ) → slot_numbered slots.items k ≡ unused) }
     ensures held { IfOk result (λ slots. held_in slots.items ≡ 0) }
 {
     let mut slots = Vec::with_capacity(alloc, SLOTS as usize)?;

@@ -5,7 +5,7 @@ ghost use Rattle.flowfile_record.specs.Ranges.{HaveRanges};
 ghost use Rattle.flowfile_record.specs.declared.content.ContentRef.{ContentRef as TheRef};
 ghost use Rattle.content_repo.specs.Append.{IsAppended};
 ghost use Rattle.content_repo.specs.Claims.{HasSizes, content_in};
-ghost use Rattle.content_repo.specs.Slots.{count_of, size_of, end_of, with_count};
+ghost use Rattle.content_repo.specs.Slots.{count_of, size_of, end_of, slot_with_count};
 ghost use Rattle.content_repo.specs.declared.slot.Slot.{Slot as TheSlot};
 
 use crate::{HELD_MAX, LIVE_MAX, OPEN_SIZE};
@@ -28,7 +28,7 @@ pub fn appended_contents_are_held()
 /// Another count of references changes no size.
 pub fn counts_leave_the_sizes()
     ensures { (slots : List TheSlot) (k count : ℕ) (files : Files) → 0 < count_of slots k → HasSizes slots files
-        → HasSizes (with_count slots k count) files }
+        → HasSizes (slot_with_count slots k count) files }
 {}
 
 /// In any files a reference to a range of a content stands for that range of its bytes.

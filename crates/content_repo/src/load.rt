@@ -4,8 +4,8 @@ ghost use Rattle.disk_trait.specs.Files.{At, Shortened};
 ghost use Rattle.disk_trait.specs.Images.{After, Since};
 ghost use Rattle.disk_trait.specs.Faults.{CountsFaults};
 ghost use Rattle.content_repo.specs.Claims.{claim, IsCovered, ShortenedTo, CutTo, AreCut};
-ghost use Rattle.content_repo.specs.Errors.{IsDiskOrMemory};
-ghost use Rattle.content_repo.specs.Slots.{size_of, held_in, covered, AreLive, IsLoaded, slot_at, unused};
+ghost use Rattle.content_repo.specs.Errors.{IsNeitherFullNorDamaged};
+ghost use Rattle.content_repo.specs.Slots.{size_of, held_in, covered, AreLive, IsLoaded, slot_numbered, unused};
 
 use crate::{Content, ContentError};
 use disk_trait::{Disk, Failed, FileKind, FileName};
@@ -32,7 +32,7 @@ impl Content {
         // A stop leaves what it would have left, but for bytes that no reference covers.
         ensures images { Since D.moment D.images disk.old disk.new
             (After (ShortenedTo (λ k. covered k live.now)) (D.images disk.old (D.moment disk.old))) }
-        ensures refusal { IfErr result IsDiskOrMemory }
+        ensures refusal { IfErr result IsNeitherFullNorDamaged }
         ensures cause { CountsFaults (D.faults disk.old) (D.faults disk.new) (IsErrOf result ContentError.Disk) }
     {
         let mut content = Content::new(alloc)?;
@@ -44,7 +44,7 @@ impl Content {
     // Holds each reference once, in a repository of no contents.
     fn hold_all(&mut self, live: &[ContentRef])
         requires live { AreLive live.now }
-        requires none { (k : ℕ) → slot_at self.old k ≡ unused }
+        requires none { (k : ℕ) → slot_numbered self.old k ≡ unused }
         requires unheld { held_in self.old ≡ 0 }
         ensures loaded { IsLoaded live.now self.new }
         ensures held { held_in self.new ≡ length live.now }
@@ -62,7 +62,7 @@ impl Content {
         ensures cut { OnOk result (IsTrue D.tells → CutTo (size_of self.now) (D.held disk.old) (D.held disk.new)) }
         ensures images { Since D.moment D.images disk.old disk.new
             (After (ShortenedTo (size_of self.now)) (D.images disk.old (D.moment disk.old))) }
-        ensures refusal { IfErr result IsDiskOrMemory }
+        ensures refusal { IfErr result IsNeitherFullNorDamaged }
         ensures cause { CountsFaults (D.faults disk.old) (D.faults disk.new) (IsErrOf result ContentError.Disk) }
     {
         let mut numbers = Vec::new(alloc);

@@ -5,7 +5,7 @@ ghost use Rattle.disk_trait.specs.Faults.{CountsFaults};
 ghost use Rattle.content_repo.specs.Claims.{HasSizes, AreEmptied, IdleShortened, EmptiedAt, ShortenedAt};
 ghost use Rattle.content_repo.specs.Errors.{RefusesOnFault};
 ghost use Rattle.content_repo.specs.SlotSet.{bit_of};
-ghost use Rattle.content_repo.specs.Slots.{held_in, slot_at, is_idle, reclaimed, IsReclaimed};
+ghost use Rattle.content_repo.specs.Slots.{held_in, slot_numbered, is_idle, reclaimed, IsReclaimed};
 
 use crate::append::claim_file;
 use crate::{Content, ContentError, SLOTS};
@@ -46,15 +46,15 @@ impl Content {
     // Empties a claim and makes its slot free, where nothing refers to it. How many were emptied.
     fn reclaim_at<D: Disk>(&mut self, disk: &mut D, number: u32) -> Result<u32, Failed>
         requires { number < SLOTS }
-        ensures emptied { IfOk result (λ emptied. emptied ≡ bit_of (is_idle (slot_at self.old number))) }
-        ensures value { OnOk result (self.new ≡ slice_set self.old number (reclaimed (slot_at self.old number))) }
+        ensures emptied { IfOk result (λ emptied. emptied ≡ bit_of (is_idle (slot_numbered self.old number))) }
+        ensures value { OnOk result (self.new ≡ slice_set self.old number (reclaimed (slot_numbered self.old number))) }
         ensures count { OnOk result (held_in self.new ≡ held_in self.old) }
         ensures held { OnOk result (IsTrue D.tells
-            → EmptiedAt (slot_at self.old number) number (D.held disk.old) (D.held disk.new)) }
+            → EmptiedAt (slot_numbered self.old number) number (D.held disk.old) (D.held disk.new)) }
         ensures shortened { IsTrue D.tells
-            → ShortenedAt (slot_at self.old number) number (D.held disk.old) (D.held disk.new) }
+            → ShortenedAt (slot_numbered self.old number) number (D.held disk.old) (D.held disk.new) }
         ensures images { Since D.moment D.images disk.old disk.new
-            (After (ShortenedAt (slot_at self.old number) number) (D.images disk.old (D.moment disk.old))) }
+            (After (ShortenedAt (slot_numbered self.old number) number) (D.images disk.old (D.moment disk.old))) }
         ensures cause { CountsFaults (D.faults disk.old) (D.faults disk.new) (IsErr result) }
     {
         if !self.slot(number).is_idle() {

@@ -3,15 +3,15 @@ ghost use Rattle.std.specs.Prelude.{◌≡◌, ℕ, ◌+◌, ◌≤◌, true, le
 ghost use Rattle.content_repo.specs.declared.error.ContentError.TheVariants.{SlotsFull as Full};
 ghost use Rattle.content_repo.specs.declared.slot_set.TheConstants.{SLOTS};
 ghost use Rattle.content_repo.specs.Room.{left_behind, left_by_slot, left_by_live, left_by_new};
-ghost use Rattle.content_repo.specs.Slots.{HasRoom, HasUnused, is_free};
+ghost use Rattle.content_repo.specs.Slots.{SlotsHaveRoom, HasUnused, is_free};
 
 use crate::{Content, ContentError, OPEN_SIZE, Slot};
 
 impl Content {
     /// Whether contents of these sizes, appended in this order, find a slot each. It takes no memory.
     pub fn room(&self, sizes: &[u64]) -> Result<(), ContentError>
-        ensures room { OnOk result (HasRoom self.now sizes.now) }
-        ensures full { OnErr result (HasRoom self.now sizes.now → ⊥) }
+        ensures room { OnOk result (SlotsHaveRoom self.now sizes.now) }
+        ensures full { OnErr result (SlotsHaveRoom self.now sizes.now → ⊥) }
         // The refusal considers every slot: there are exactly SLOTS of them.
         ensures long { OnErr result (length self.now ≡ SLOTS) }
         ensures refusal { IfErr result (λ error. error ≡ Full) }
@@ -28,7 +28,7 @@ impl Content {
 
     // Whether all go into the slot that the next content goes to, as one does. No other slot is looked at.
     fn fit_the_next_slot(&self, sizes: &[u64]) -> bool
-        ensures { result ≡ true → HasRoom self.now sizes.now }
+        ensures { result ≡ true → SlotsHaveRoom self.now sizes.now }
     {
         // It says of each free slot that its claim is empty.
         let _slots = self.len();

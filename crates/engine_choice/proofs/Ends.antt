@@ -25,7 +25,7 @@ use Rattle.engine_choice.specs.declared.choice.Ending.{Ending}
 use Rattle.engine_choice.specs.declared.choice.Ending.TheVariants.{Blocked, Quiet, Rest}
 use Rattle.engine_choice.specs.declared.choice.Taking.{Taking}
 use Rattle.engine_choice.specs.declared.choice.Taking.TheVariants.{Files, Generate, Receive}
-use Rattle.engine_choice.specs.Choice.{choice_at, choice_of, coming_of, ending_by, ending_of, first_blocking, first_penalty_end, fits, in_turn, is_ready, next_choice, place_behind, takers, taking_by, taking_of}
+use Rattle.engine_choice.specs.Choice.{choice_at, choice_of, coming_of, ending_by, ending_of, first_blocking, first_penalty_end, fits_content, in_turn, is_ready, next_choice, place_behind, takers, taking_by, taking_of}
 use Rattle.engine_choice.specs.Laws.{EndsAreMachineEnds, IsEndAt, IsMachineEnd}
 use Rattle.engine_choice.proofs.Found.{Each, any-append, each-weaker, none-found-any}
 use Rattle.engine_choice.proofs.Sessions.{stands-among}
@@ -179,10 +179,10 @@ three-same false passes fits is = absurd (true≢false (sym is))
 module _ (flow : Flow) (queues : ℕ → QueueView) (state : State) (world : World) (moment : ℕ) where
   got-same : (filter : Option Pattern) → is_some (find (passes filter) (coming_of world)) ≡ list_any (may_get filter world) world.left
   got-same filter =
-      some-found (passes filter) (coming_of world) ∙ any-filtered (passes filter) (fits world) world.left
-      ∙ any-same-among (λ name. passes filter name && fits world name) (may_get filter world) world.left
-      (each-weaker (λ name. is_some (find (bytes_eq name) world.left) ≡ true) (λ name. (passes filter name && fits world name) ≡ may_get filter world name)
-      (λ name there. three-same (is_some (find (bytes_eq name) world.left)) (passes filter name) (fits world name) there) world.left (stands-among world.left))
+      some-found (passes filter) (coming_of world) ∙ any-filtered (passes filter) (fits_content world) world.left
+      ∙ any-same-among (λ name. passes filter name && fits_content world name) (may_get filter world) world.left
+      (each-weaker (λ name. is_some (find (bytes_eq name) world.left) ≡ true) (λ name. (passes filter name && fits_content world name) ≡ may_get filter world name)
+      (λ name there. three-same (is_some (find (bytes_eq name) world.left)) (passes filter name) (fits_content world name) there) world.left (stands-among world.left))
 
   -- fails rule of a source picks
   kind-wants : (kind : Kind) (place : ℕ) (pick : Option (ℕ × List ℕ)) (any : Bool) → is_some pick ≡ any → IsNoneOfSource kind any

@@ -30,7 +30,7 @@ use Rattle.engine_queues.specs.Laws.{SeesTheSame}
 use Rattle.engine_choice.specs.declared.choice.Choice.{Choice}
 use Rattle.engine_choice.specs.declared.choice.Taking.{Taking}
 use Rattle.engine_choice.specs.declared.choice.Taking.TheVariants.{Files, Generate, Receive}
-use Rattle.engine_choice.specs.Choice.{choice_at, choice_of, coming_of, fits, in_turn, is_ready, next_choice, place_behind, taking_by, taking_of}
+use Rattle.engine_choice.specs.Choice.{choice_at, choice_of, coming_of, fits_content, in_turn, is_ready, next_choice, place_behind, taking_by, taking_of}
 use Rattle.engine_choice.specs.Laws.{ChoicesAreSessions, given_for, numbers_in}
 use Rattle.engine_choice.proofs.Found.{Each, Stands, GivenBy, each-append, each-drop, each-take, each-passed, each-stands, each-weaker, found, given-by}
 
@@ -154,8 +154,8 @@ all-three false b c one other third = one
 pub coming-may-be-got : (filter : Option Pattern) (world : World) (name : List ℕ) → find (passes filter) (coming_of world) ≡ Some name → may_get filter world name ≡ true
 coming-may-be-got filter world name is =
     let among = λ (name : List ℕ). is_some (find (bytes_eq name) world.left) ≡ true in
-    let it = found (λ name. among name × (fits world name ≡ true)) (passes filter) (coming_of world) name (each-passed among (fits world) world.left (stands-among world.left)) is in
-    all-three (is_some (find (bytes_eq name) world.left)) (passes filter name) (fits world name) it.0.0 it.1 it.0.1
+    let it = found (λ name. among name × (fits_content world name ≡ true)) (passes filter) (coming_of world) name (each-passed among (fits_content world) world.left (stands-among world.left)) is in
+    all-three (is_some (find (bytes_eq name) world.left)) (passes filter name) (fits_content world name) it.0.0 it.1 it.0.1
 
 -- ---- what a session is given
 

@@ -14,7 +14,7 @@ use Rattle.machine_model.specs.Stepping.{without_name}
 use Rattle.engine_choice.specs.declared.listing.Source.{Source}
 use Rattle.engine_choice.specs.declared.listing.Listing.TheInside.{Inside}
 use Rattle.engine_choice.specs.Listing.{Left, AreDistinct, filter_of, first_passed}
-use Rattle.engine_choice.specs.Inside.{HasMarks, IsFirstOpen, IsSoundInside, StillSuits, Suits, left_of}
+use Rattle.engine_choice.specs.Inside.{HasMarks, IsFirstOpen, IsSoundListing, StillSuits, Suits, left_of}
 use Rattle.engine_choice.proofs.Left.{found-first, left-taken}
 
 -- the first so many processors have their sources
@@ -43,7 +43,7 @@ first-some kind names taken source long suits = by_filter (filter_of kind) suits
         sym (found-first (passes filter) names taken source.first long (subst P suits.passing suits.first))
 
 -- the source of a processor
-pub source-at : (listing : Inside) → IsSoundInside listing → (place : ℕ) (processor : Processor) (source d : Option Source)
+pub source-at : (listing : Inside) → IsSoundListing listing → (place : ℕ) (processor : Processor) (source d : Option Source)
     → slice_get listing.flow.now.processors place ≡ Some processor → source ≡ slice_index_or listing.sources.items place d
     → Suits (filter_of processor.kind) listing.names.items listing.taken.items source
 source-at listing sound place processor source d there is =
@@ -56,7 +56,7 @@ has-marks filter names taken None long suits = tt
 has-marks None names taken (Some source) long suits = absurd suits
 has-marks (Some filter) names taken (Some source) long suits = ap length suits.passing ∙ length-map names (passes filter) ∙ sym long
 
-pub all-marks : (listing : Inside) → IsSoundInside listing → All (HasMarks (length listing.taken.items)) listing.sources.items
+pub all-marks : (listing : Inside) → IsSoundListing listing → All (HasMarks (length listing.taken.items)) listing.sources.items
 all-marks listing sound k d within = by_processor (slice_get_cases listing.flow.now.processors k).1
   where
     by_processor : ((x : Processor) × (k < length listing.flow.now.processors) × (slice_get listing.flow.now.processors k ≡ Some x) × (slice_index_or listing.flow.now.processors k x ≡ x))
@@ -68,7 +68,7 @@ all-marks listing sound k d within = by_processor (slice_get_cases listing.flow.
 
 -- ---- what is left after a first name is taken
 
-pub no-first : (listing : Inside) → IsSoundInside listing → (place : ℕ) (processor : Processor) (source : Option Source)
+pub no-first : (listing : Inside) → IsSoundListing listing → (place : ℕ) (processor : Processor) (source : Option Source)
     → slice_get listing.flow.now.processors place ≡ Some processor → source ≡ slice_index_or listing.sources.items place source → ((s : Source) → source ≡ Some s → ⊥)
     → None ≡ first_passed processor.kind (left_of listing.names.items listing.taken.items)
 no-first listing sound place processor source there is none = by_source source refl
@@ -79,7 +79,7 @@ no-first listing sound place processor source there is none = by_source source r
         let P : Option Source → Type 0 = Suits (filter_of processor.kind) listing.names.items listing.taken.items in
         first-none processor.kind listing.names.items listing.taken.items (subst P e (source-at listing sound place processor source source there is))
 
-pub a-first : (listing : Inside) → IsSoundInside listing → (place : ℕ) (processor : Processor) (source : Option Source) (s : Source)
+pub a-first : (listing : Inside) → IsSoundListing listing → (place : ℕ) (processor : Processor) (source : Option Source) (s : Source)
     → slice_get listing.flow.now.processors place ≡ Some processor → source ≡ slice_index_or listing.sources.items place source → source ≡ Some s
     → slice_get listing.names.items s.first ≡ first_passed processor.kind (left_of listing.names.items listing.taken.items)
 a-first listing sound place processor source s there is e =
@@ -92,7 +92,7 @@ first-left : (filter : Option (Option Pattern)) (names : List (List ℕ)) (taken
 first-left None names taken s long suits within = absurd suits
 first-left (Some filter) names taken s long suits within = (suits.first.open_there (omega (arith, within, long))).left
 
-pub left-at : (listing : Inside) → IsSoundInside listing → (place : ℕ) (processor : Processor) (source : Option Source) (s : Source)
+pub left-at : (listing : Inside) → IsSoundListing listing → (place : ℕ) (processor : Processor) (source : Option Source) (s : Source)
     → slice_get listing.flow.now.processors place ≡ Some processor → source ≡ slice_index_or listing.sources.items place source → source ≡ Some s → s.first < length listing.names.items
     → slice_get listing.taken.items s.first ≡ Some false
 left-at listing sound place processor source s there is e within =
@@ -100,10 +100,10 @@ left-at listing sound place processor source s there is e within =
     first-left (filter_of processor.kind) listing.names.items listing.taken.items s sound.marks (subst P e (source-at listing sound place processor source source there is)) within
 
 -- the fields with a name taken, and each source moved past it, are sound
-pub still-sound : (listing after : Inside) (place : ℕ) → IsSoundInside listing → after.flow ≡ listing.flow → after.names ≡ listing.names → after.too_large ≡ listing.too_large
+pub still-sound : (listing after : Inside) (place : ℕ) → IsSoundListing listing → after.flow ≡ listing.flow → after.names ≡ listing.names → after.too_large ≡ listing.too_large
     → after.taken.items ≡ slice_set listing.taken.items place true → length after.sources.items ≡ length listing.sources.items
     → ((k : ℕ) (was now : Option Source) → slice_get listing.sources.items k ≡ Some was → slice_get after.sources.items k ≡ Some now → StillSuits after.taken.items place was now)
-    → IsSoundInside after
+    → IsSoundListing after
 still-sound listing after place sound flow names large taken count moved = record {
   few = let lengths : length after.names.items ≡ length listing.names.items = ap (λ v. length v.items) names in omega (arith, lengths, large, sound.few);
   marks = ap length taken ∙ length-set listing.taken.items place true ∙ sound.marks ∙ ap (λ v. length v.items) (sym names);

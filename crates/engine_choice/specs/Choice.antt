@@ -23,12 +23,12 @@ use Rattle.engine_choice.specs.declared.choice.Taking.{Taking}
 use Rattle.engine_choice.specs.declared.choice.Taking.TheVariants.{Files, Generate, Receive}
 
 -- the file of the inbox is no longer than any content
-abbrev pub fits : World → List ℕ → Bool
-fits world name = option_map_or (λ bytes. nat_le (length bytes) CONTENT_MAX) (bytes_of world.inbox name) false
+abbrev pub fits_content : World → List ℕ → Bool
+fits_content world name = option_map_or (λ bytes. nat_le (length bytes) CONTENT_MAX) (bytes_of world.inbox name) false
 
 -- the names that are left and whose files fit a content
 abbrev pub coming_of : World → List (List ℕ)
-coming_of world = filter (fits world) world.left
+coming_of world = filter (fits_content world) world.left
 
 -- What a session takes, by the kind of its processor: a GetFile the first name that comes and that its filter passes, a
 -- generator the next index while fewer are made than its count, another one what is picked for it.

@@ -48,8 +48,8 @@ StillSuits taken place before after =
 abbrev pub HasMarks : (count : ℕ) → Option Source → Type 0
 HasMarks count source = IfSome source (λ source. length source.passing.items ≡ count)
 
-abbrev pub state_in : Inside → Left
-state_in listing = record {
+abbrev pub listing_in : Inside → Left
+listing_in listing = record {
   flow = listing.flow.now;
   names = left_of listing.names.items listing.taken.items;
   too_large = listing.too_large;
@@ -57,7 +57,7 @@ state_in listing = record {
 
 -- What holds of the fields: a mark for each name, of which no two are the same, and a source for each processor. All
 -- names of the inbox can be counted.
-pub record IsSoundInside (listing : Inside) : Type 0 where
+pub record IsSoundListing (listing : Inside) : Type 0 where
   pub few : length listing.names.items + listing.too_large < 2 ^ 64
   pub marks : length listing.taken.items ≡ length listing.names.items
   pub distinct : AreDistinct listing.names.items

@@ -41,11 +41,11 @@ impl<'f> Model for Listing<'f> {
 
     ghost coded = { Prim.hlevel (codes, the_flow.the_row.coded) };
 
-    ghost use Rattle.engine_choice.specs.Inside.{state_in, IsSoundInside};
+    ghost use Rattle.engine_choice.specs.Inside.{listing_in, IsSoundListing};
 
-    ghost view = { state_in };
+    ghost view = { listing_in };
 
-    ghost invariant = { IsSoundInside };
+    ghost invariant = { IsSoundListing };
 }
 
 impl<'f> Listing<'f> {

@@ -14,13 +14,13 @@ use Rattle.machine_model.specs.State.{QueuedFile}
 use Rattle.machine_model.specs.Stepping.{without_files}
 use Rattle.machine_model.specs.Valid.{files_of_all}
 use Rattle.machine_model.proofs.Tally.{tally, tally-append, tally-map, tally-plus}
-use Rattle.store_core.specs.State.{queue_of, queued, state_with}
+use Rattle.store_core.specs.State.{queue_of, queued_active, state_with}
 use Rattle.store_core.proofs.Queues.{line, queue_left}
 use Rattle.engine_core.proofs.Counts.{by_place, tally-fold}
 
 module _ (contents : ContentRef → List ℕ) (s : Settled) (files : List ActiveFile) (w : QueuedFile → ℕ) where
   abbrev of_left : ℕ × List ℕ → ℕ
-  of_left q = tally (λ (a : ActiveFile). w (queued contents a)) (filter (λ a. a.connection == q.0) (left_after s.gone files))
+  of_left q = tally (λ (a : ActiveFile). w (queued_active contents a)) (filter (λ a. a.connection == q.0) (left_after s.gone files))
 
   abbrev of_placed : ℕ × List ℕ → ℕ
   of_placed q = tally (λ (p : Placed). w (placed_file contents s.placed p)) (filter (λ p. p.connection == q.0) s.placed)
@@ -35,7 +35,7 @@ module _ (contents : ContentRef → List ℕ) (s : Settled) (files : List Active
         tally-fold w (placed_into contents s.placed place s.placed) (without_files (queue_of contents files place) s.gone),
         ap (tally w) (queue_left contents place s.gone files),
         tally-fold w (line contents place left) [],
-        tally-map w (queued contents) of_place,
+        tally-map w (queued_active contents) of_place,
         tally-map w (placed_file contents s.placed) come,
       )
 
@@ -56,13 +56,13 @@ pub record StandSomewhere (k : Kept) (s : Settled) : Type 0 where
 
 pub all_files : (contents : ContentRef → List ℕ) (events : List Event) (k : Kept) (s : Settled) (w : QueuedFile → ℕ) → StandSomewhere k s
     → tally w (files_of_all (state_after contents (state_with contents events k) s))
-    ≡ tally (λ a. w (queued contents a)) (left_after s.gone k.files) + tally (λ p. w (placed_file contents s.placed p)) s.placed
+    ≡ tally (λ a. w (queued_active contents a)) (left_after s.gone k.files) + tally (λ p. w (placed_file contents s.placed p)) s.placed
 all_files contents events k s w stand =
     let left = left_after s.gone k.files in
     omega (
       arith,
       all_queues contents s k.files w 0 k.connections,
       tally-plus (of_left contents s k.files w) (of_placed contents s k.files w) (enumerate_from 0 k.connections),
-      by_place (λ (a : ActiveFile). w (queued contents a)) (λ a. a.connection) k.connections left stand.left,
+      by_place (λ (a : ActiveFile). w (queued_active contents a)) (λ a. a.connection) k.connections left stand.left,
       by_place (λ (p : Placed). w (placed_file contents s.placed p)) (λ p. p.connection) k.connections s.placed stand.placed,
     )

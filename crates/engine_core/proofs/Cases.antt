@@ -15,7 +15,7 @@ use Rattle.flowfile_record.specs.declared.name.TheConstants.{NAME_MAX}
 use Rattle.record_codec.specs.ActiveFile.{active}
 use Rattle.record_codec.specs.declared.entry.SessionEntry.{SessionEntry}
 use Rattle.checkpoint_store.specs.Consistent.{IsConsistent, IsFileIn}
-use Rattle.kept_state.specs.Changes.{session_of as session_entry}
+use Rattle.kept_state.specs.Changes.{entry_of_session as session_entry}
 use Rattle.machine_model.specs.declared.flow.Connection.{Connection}
 use Rattle.machine_model.specs.declared.flow.Flow.{Flow}
 use Rattle.machine_model.specs.declared.flow.Processor.{Processor}
@@ -30,15 +30,15 @@ use Rattle.machine_model.specs.Valid.{IsWellNumbered, files_of_all}
 use Rattle.machine_model.proofs.Keyed.{differ_from_once, once_from_differ}
 use Rattle.machine_model.proofs.SettlingKeeps.{settle-keeps}
 use Rattle.machine_model.proofs.Tally.{bit, tally-map}
-use Rattle.settlement.specs.Handed.{IsHanded, MaySettle, session_of}
+use Rattle.settlement.specs.Handed.{SessionIsHanded, MaySettle, ended_session}
 use Rattle.settlement.specs.Recording.{RecordsAll}
 use Rattle.settlement.specs.StateAfter.{Settles}
-use Rattle.settlement.specs.TellsOf.{TellsOf}
+use Rattle.settlement.specs.TellsOf.{TellsOfEnded}
 use Rattle.settlement.specs.declared.counters.Counters.{Counters}
 use Rattle.settlement.specs.declared.handed.Ended.{Ended}
 use Rattle.store_core.specs.Flow as store
 use Rattle.store_core.specs.Flow.{flow_in}
-use Rattle.store_core.specs.State.{queued, state_with}
+use Rattle.store_core.specs.State.{queued_active, state_with}
 use Rattle.store_core.specs.Valid.{KeptIsValid, LiveFilesAreQueued}
 use Rattle.engine_core.specs.Committing.{AreEventsUpTo, HasTexts, MayCommit, identity_of}
 use Rattle.engine_core.proofs.Past.{past, past_is}
@@ -63,7 +63,7 @@ pub record IsSettled (c : Case) : Type 0 where
   pub consistent : IsConsistent c.k
   pub batches : c.k.batches ≡ []
   pub settles : Settles c.flow c.given (counters_of c.k) c.ended c.settled
-  pub tells : TellsOf c.given (counters_of c.k) c.ended c.settled
+  pub tells : TellsOfEnded c.given (counters_of c.k) c.ended c.settled
   pub records : RecordsAll c.flow c.given (counters_of c.k) c.ended c.settled
   pub moment : c.given.moment < 2 ^ 64
   pub received : length (unwrap_or c.given.file []) ≤ NAME_MAX
@@ -81,7 +81,7 @@ abbrev pub state_of : Case → (ContentRef → List ℕ) → State
 state_of c contents = state_with contents (past c.k.last_event) c.k
 
 abbrev pub session_in : Case → Processor → (ContentRef → List ℕ) → EndedSession
-session_in c processor contents = session_of c.flow c.given c.ended processor contents (state_of c contents)
+session_in c processor contents = ended_session c.flow c.given c.ended processor contents (state_of c contents)
 
 pub connections_same : (c : Case) → IsSettled c → length c.k.connections ≡ length c.flow.connections
 connections_same c is = ap (λ (f : store.Flow). length f.connections) is.identity ∙ length-map c.flow.connections (λ (connection : Connection). connection.id)
@@ -119,7 +119,7 @@ pub record IsTyped (c : Case) : Type 0 where
 
 -- what is settled over the counters of what is stored, which is what is kept
 pub settled_over : (c : Case) (stored : Kept) → stored ≡ c.k → IsSound c.flow → flow_in c.k ≡ identity_of c.flow → MayCommit c.flow c.given c.k c.ended → IsConsistent c.k → c.k.batches ≡ []
-    → Settles c.flow c.given (counters_of stored) c.ended c.settled → TellsOf c.given (counters_of stored) c.ended c.settled → RecordsAll c.flow c.given (counters_of stored) c.ended c.settled
+    → Settles c.flow c.given (counters_of stored) c.ended c.settled → TellsOfEnded c.given (counters_of stored) c.ended c.settled → RecordsAll c.flow c.given (counters_of stored) c.ended c.settled
     → IsTyped c → KeptIsValid → LiveFilesAreQueued → IsSettled c
 settled_over c stored same sound identity may consistent batches settles tells records typed valid queued = record {
   sound = sound;
@@ -128,7 +128,7 @@ settled_over c stored same sound identity may consistent batches settles tells r
   consistent = consistent;
   batches = batches;
   settles = subst (λ (l : Kept). Settles c.flow c.given (counters_of l) c.ended c.settled) same settles;
-  tells = subst (λ (l : Kept). TellsOf c.given (counters_of l) c.ended c.settled) same tells;
+  tells = subst (λ (l : Kept). TellsOfEnded c.given (counters_of l) c.ended c.settled) same tells;
   records = subst (λ (l : Kept). RecordsAll c.flow c.given (counters_of l) c.ended c.settled) same records;
   moment = typed.moment;
   received = typed.received;
@@ -141,7 +141,7 @@ settled_over c stored same sound identity may consistent batches settles tells r
 -- ---- the session is one of that state
 
 pub handed_over : (c : Case) → IsSettled c → (processor : Processor) → slice_get c.flow.processors c.ended.processor ≡ Some processor → (contents : ContentRef → List ℕ)
-    → (events : List Event) → AreEventsUpTo c.k.last_event events → IsHanded c.flow (counters_of c.k) c.ended processor contents (state_with contents events c.k)
+    → (events : List Event) → AreEventsUpTo c.k.last_event events → SessionIsHanded c.flow (counters_of c.k) c.ended processor contents (state_with contents events c.k)
 handed_over c is processor at contents events up_to = record {
   found = at;
   valid = is.valid c.flow contents events c.k is.consistent is.batches up_to.1 up_to.0 (connections_same c is) (counts_same c is);
@@ -151,14 +151,14 @@ handed_over c is processor at contents events up_to = record {
   last_event = refl;
   there =
       let state = state_with contents events c.k in
-      All-map (Contains (queue_at state c.ended.connection)) (λ (file : FlowFile). queued contents (active c.ended.connection file)) c.ended.taken
-      (All-weaker (λ file. Contains c.k.files (active c.ended.connection file)) (λ file. Contains (queue_at state c.ended.connection) (queued contents (active c.ended.connection file)))
+      All-map (Contains (queue_at state c.ended.connection)) (λ (file : FlowFile). queued_active contents (active c.ended.connection file)) c.ended.taken
+      (All-weaker (λ file. Contains c.k.files (active c.ended.connection file)) (λ file. Contains (queue_at state c.ended.connection) (queued_active contents (active c.ended.connection file)))
       (λ file has. is.queued contents events c.k (active c.ended.connection file) is.consistent has) c.ended.taken is.may.there);
   differ = is.may.differ;
 }
 
 pub handed : (c : Case) → IsSettled c → (processor : Processor) → slice_get c.flow.processors c.ended.processor ≡ Some processor → (contents : ContentRef → List ℕ)
-    → IsHanded c.flow (counters_of c.k) c.ended processor contents (state_of c contents)
+    → SessionIsHanded c.flow (counters_of c.k) c.ended processor contents (state_of c contents)
 handed c is processor at contents = handed_over c is processor at contents (past c.k.last_event) (past_is c.k.last_event)
 
 in_some_queue : (queues : List (List QueuedFile)) (place : ℕ) (file : QueuedFile) → Contains (unwrap_or (slice_get queues place) []) file → Contains (flat_map (λ queue. queue) queues) file
@@ -194,11 +194,11 @@ numbered_after c is processor at =
     let same : record after { events = wanted.events; kin = wanted.kin; last_event = wanted.last_event } ≡ wanted
     = (λ i. record after { queues = left.queues nothing_ranged i; events = wanted.events; kin = wanted.kin; last_event = wanted.last_event }) ∙ left.rest in
     let sizes = length-map c.ended.taken (λ (file : FlowFile). file.content.size) in
-    let files = length-map c.ended.taken (λ (file : FlowFile). queued nothing (active c.ended.connection file)) in
+    let files = length-map c.ended.taken (λ (file : FlowFile). queued_active nothing (active c.ended.connection file)) in
     let in_turn : AreInTurn 0 (length session.taken) c.ended.outcome.files = subst (λ n. AreInTurn 0 n c.ended.outcome.files) (sizes ∙ sym files) is.may.outcome.in_turn in
     let numbered = subst IsWellNumbered (sym same) (settle-keeps session c.ended.outcome hand.valid.numbered (record {
       differ = differ_from_once (λ (file : QueuedFile). file.number) session.taken
-          (λ n. omega (arith, tally-map (λ (file : QueuedFile). bit (file.number == n)) (λ (file : FlowFile). queued nothing (active c.ended.connection file)) c.ended.taken, once_from_differ (λ (file : FlowFile). file.number) c.ended.taken is.may.differ n));
+          (λ n. omega (arith, tally-map (λ (file : QueuedFile). bit (file.number == n)) (λ (file : FlowFile). queued_active nothing (active c.ended.connection file)) c.ended.taken, once_from_differ (λ (file : FlowFile). file.number) c.ended.taken is.may.differ n));
       there = All-weaker (Contains (queue_at state c.ended.connection)) (Contains (files_of_all state)) (λ file there. in_some_queue state.queues c.ended.connection file there) session.taken hand.there;
     }) in_turn) in
     record { numbers = numbered.numbers; arrivals = numbered.arrivals; first_batch = numbered.first_batch; batches = numbered.batches }

@@ -7,7 +7,7 @@ use Rattle.std.proofs.lemmas.Bool.{cases_Bool, cases_eq, ne_eqb, eq-eqb, and_fro
 use Rattle.std.proofs.lemmas.List.Elements.{All-head, All-tail}
 use Rattle.flowfile_record.specs.NumberedItems.{with_item}
 use Rattle.flowfile_record.specs.declared.flow_file.FlowFile.{FlowFile}
-use Rattle.kept_state.specs.Fits.{are_distinct, are_new}
+use Rattle.kept_state.specs.Fits.{are_distinct_numbers, are_new}
 use Rattle.machine_model.specs.Changing.{with_arrival}
 use Rattle.machine_model.specs.State.{QueuedFile}
 use Rattle.machine_model.proofs.Tally.{tally, bit, many, tally-none, tally-plus, tally-same}
@@ -70,12 +70,12 @@ none_any key n (x ∷ xs) h =
       | false ↦ λ h. none_any key n xs (omega arith)
     ] h
 
-pub distinct : (numbers : List ℕ) → ((n : ℕ) → many (λ (m : ℕ). m) n numbers ≤ 1) → are_distinct numbers ≡ true
+pub distinct : (numbers : List ℕ) → ((n : ℕ) → many (λ (m : ℕ). m) n numbers ≤ 1) → are_distinct_numbers numbers ≡ true
 distinct [] once = refl
 distinct (m ∷ numbers) once =
     let yes : (m == m) ≡ true = eq-eqb m m refl in
     let others : many (λ (k : ℕ). k) m numbers ≡ 0 = omega (arith, rw yes at (once m)) in
-    and_from (not (list_any (λ k. k == m) numbers)) (are_distinct numbers)
+    and_from (not (list_any (λ k. k == m) numbers)) (are_distinct_numbers numbers)
     (not_from_false (list_any (λ k. k == m) numbers) (none_any (λ (k : ℕ). k) m numbers others)) (distinct numbers (λ n. omega (arith, once n)))
 
 unused : (part : FlowFile → ℕ) (lives : List FlowFile) (numbers : List ℕ) → ((n : ℕ) → 1 ≤ many (λ (m : ℕ). m) n numbers → many part n lives ≡ 0)
@@ -91,5 +91,5 @@ unused part lives (m ∷ numbers) none =
 pub new_numbers : (part : FlowFile → ℕ) (numbers : List ℕ) (lives : List FlowFile) → ((n : ℕ) → many part n lives + many (λ (m : ℕ). m) n numbers ≤ 1)
     → are_new part numbers lives ≡ true
 new_numbers part numbers lives once =
-    and_from (are_distinct numbers) (list_all (λ n. not (list_any (λ f. part f == n) lives)) numbers)
+    and_from (are_distinct_numbers numbers) (list_all (λ n. not (list_any (λ f. part f == n) lives)) numbers)
     (distinct numbers (λ n. omega (arith, once n))) (unused part lives numbers (λ n le. omega (arith, once n)))

@@ -6,8 +6,8 @@ use Rattle.std.proofs.lemmas.Bool.{and_from, and_parts, cases_Bool, eq-eqb, eqb-
 use Rattle.flowfile_record.specs.Stored.{Kept}
 use Rattle.flowfile_record.specs.declared.content.ContentRef.{ContentRef}
 use Rattle.flowfile_record.specs.declared.event.Event.{Event}
-use Rattle.kept_state.specs.Applied.{number_of}
-use Rattle.kept_state.specs.Fits.{active_of, are_active_in, is_in}
+use Rattle.kept_state.specs.Applied.{active_number}
+use Rattle.kept_state.specs.Fits.{active_of, are_active_in, is_in_connection}
 use Rattle.machine_model.specs.declared.flow.Connection.{Connection}
 use Rattle.machine_model.specs.declared.flow.Flow.{Flow}
 use Rattle.machine_model.specs.declared.journal.Step.TheVariants.{Expire}
@@ -65,22 +65,22 @@ module _ (contents : ContentRef → List ℕ) (events : List Event) (k : Kept) (
   abbrev state : State
   state = state_with contents events k
 
-  live_number : (place number : ℕ) (o : Option QueuedFile) → file_numbered (active_files (queue_at state place)) number ≡ o → is_some o ≡ true → is_in place (active_of number k.files) ≡ true
+  live_number : (place number : ℕ) (o : Option QueuedFile) → file_numbered (active_files (queue_at state place)) number ≡ o → is_some o ≡ true → is_in_connection place (active_of number k.files) ≡ true
   live_number place number None is some = absurd (false≢true some)
   live_number place number (Some file) is some =
       let queue = queue_at state place in
       let there = (kept_by is_active queue file (find_among (λ (f : QueuedFile). f.number == number) (active_files queue) file is)).0 in
       let named = eqb-true file.number number (find-passes (λ (f : QueuedFile). f.number == number) (active_files queue) file is) in
       let live = seen.live contents events k place file (contains_among file queue there) in
-      let same : number_of live.active ≡ number = ap (λ (f : QueuedFile). f.number) live.is ∙ named in
+      let same : active_number live.active ≡ number = ap (λ (f : QueuedFile). f.number) live.is ∙ named in
       let found = ap (λ n. active_of n k.files) (sym same) ∙ found_active live.active k.files seen.consistent.numbers (among_contained live.active k.files live.there) in
-      ap (is_in place) found ∙ eq-eqb live.active.connection place live.connection
+      ap (is_in_connection place) found ∙ eq-eqb live.active.connection place live.connection
 
   all_live : (place : ℕ) (numbers : List ℕ) → are_active (queue_at state place) numbers ≡ true → are_active_in k.files place numbers ≡ true
   all_live place [] all = refl
   all_live place (n ∷ numbers) all =
       let parts = and_parts (is_some (file_numbered (active_files (queue_at state place)) n)) (are_active (queue_at state place) numbers) all in
-      and_from (is_in place (active_of n k.files)) (are_active_in k.files place numbers) (live_number place n (file_numbered (active_files (queue_at state place)) n) refl parts.0) (all_live place numbers parts.1)
+      and_from (is_in_connection place (active_of n k.files)) (are_active_in k.files place numbers) (live_number place n (file_numbered (active_files (queue_at state place)) n) refl parts.0) (all_live place numbers parts.1)
 
 -- ---- the step
 

@@ -23,15 +23,15 @@ use Rattle.record_codec.specs.Placeless.{placeless}
 use Rattle.record_codec.specs.declared.entry.LogEntry.TheVariants.{Session}
 use Rattle.checkpoint_store.specs.Consistent.{IsFileIn}
 use Rattle.kept_state.specs.Applied.{session_applied}
-use Rattle.kept_state.specs.Changes.{record_of, recorded}
-use Rattle.kept_state.specs.Limits.{numbers_limit, passed}
+use Rattle.kept_state.specs.Changes.{record_of, recorded_file}
+use Rattle.kept_state.specs.Limits.{numbers_limit, limit_passed}
 use Rattle.kept_state.specs.declared.limit.Limit.{Limit}
 use Rattle.kept_state.specs.declared.limit.TheConstants.{NUMBER_MAX}
 use Rattle.kept_state.specs.declared.limit.Which.TheVariants.{Numbers}
 use Rattle.machine_model.specs.declared.kind.Kind.{Kind}
 use Rattle.machine_model.specs.declared.kind.Kind.TheVariants.{GenerateFlowFile}
 use Rattle.settlement.specs.TellsOf.{IsContentBy}
-use Rattle.settlement.specs.Whole.{count_of}
+use Rattle.settlement.specs.Whole.{generator_count}
 use Rattle.store_core.specs.Change.{IsFresh}
 use Rattle.engine_core.proofs.Cases.{Case, IsSettled, entry_in}
 use Rattle.engine_core.proofs.Parts.{new_arrivals, new_numbers}
@@ -39,7 +39,7 @@ use Rattle.engine_core.proofs.Recorded.{IsOfNew, few_taken, range_kept, records,
 
 -- ---- limits
 
-not_passed : (number wanted : ℕ) → passed Numbers number wanted ≡ None → wanted ≤ number
+not_passed : (number wanted : ℕ) → limit_passed Numbers number wanted ≡ None → wanted ≤ number
 not_passed number wanted none = elim (cases_Bool (nat_lt number wanted)) [
   | inl t ↦ absurd (let some = rw t at none in cc)
   | inr f ↦ ltb-false number wanted f
@@ -56,9 +56,9 @@ pub record AreNumbersBelow (c : Case) : Type 0 where
 
 pub numbers_below : (c : Case) → numbers_limit (session_applied c.k (entry_in c)) ≡ None → AreNumbersBelow c
 numbers_below c none =
-    let first = both_none (passed Numbers NUMBER_MAX c.settled.next_number) _ none in
-    let second = both_none (passed Numbers NUMBER_MAX c.settled.next_arrival) _ first.1 in
-    let third = both_none (passed Numbers NUMBER_MAX (c.k.last_event + length c.settled.events)) _ second.1 in
+    let first = both_none (limit_passed Numbers NUMBER_MAX c.settled.next_number) _ none in
+    let second = both_none (limit_passed Numbers NUMBER_MAX c.settled.next_arrival) _ first.1 in
+    let third = both_none (limit_passed Numbers NUMBER_MAX (c.k.last_event + length c.settled.events)) _ second.1 in
     record {
       number = not_passed NUMBER_MAX c.settled.next_number first.0;
       arrival = not_passed NUMBER_MAX c.settled.next_arrival second.0;
@@ -96,7 +96,7 @@ active_new connection file is new = record {
 }
 
 active_by : (c : Case) → IsSettled c → (place : ℕ) (p : Placed) → slice_get c.settled.placed place ≡ Some p → (fresh : Fresh) → p.fresh ≡ fresh → IsFileToBe p.connection p.file
-    → IsContentBy c.ended.taken p.file.content fresh → IfSome (own_bytes fresh) (λ bytes. length bytes ≤ CONTENT_MAX) → IsActiveFile (recorded p.connection p.file fresh)
+    → IsContentBy c.ended.taken p.file.content fresh → IfSome (own_bytes fresh) (λ bytes. length bytes ≤ CONTENT_MAX) → IsActiveFile (recorded_file p.connection p.file fresh)
 active_by c settled place p there No from is has small = record {
   connection = is.place;
   file = record {
@@ -136,7 +136,7 @@ all_active c is below =
 
 -- ---- the entry
 
-generated : (kind : Kind) (place index : ℕ) → place < 256 → IsNumber index → IsGenerator (count_of kind place index)
+generated : (kind : Kind) (place index : ℕ) → place < 256 → IsNumber index → IsGenerator (generator_count kind place index)
 generated (GenerateFlowFile count text) place index lt is = (omega arith, is)
 generated _ place index lt is = tt
 

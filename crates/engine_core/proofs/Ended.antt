@@ -28,7 +28,7 @@ use Rattle.machine_model.specs.Placing.{Drops, EndedSession, SettledFile, clones
 use Rattle.machine_model.specs.State.{QueuedFile}
 use Rattle.machine_model.proofs.Numbers.{numbers_are}
 use Rattle.machine_model.proofs.Tally.{Each, each-append}
-use Rattle.settlement.specs.Handed.{AreRead}
+use Rattle.settlement.specs.Handed.{AreReadSources}
 use Rattle.engine_core.proofs.Each.{each_at, each_from_all, each_in_row, each_joined, each_made, each_second, each_so, each_weaker, each_zip, length-zipped}
 use Rattle.engine_core.proofs.Few.{few_below}
 use Rattle.engine_core.proofs.Told.{HasShortName, IsFit, IsFitClone}
@@ -48,7 +48,7 @@ content_small contents sizes (body.Part of offset size) small is = part_small si
 content_small contents sizes (body.New bytes) small is = is
 
 -- the bytes that were read of files that are small enough
-pub read_small : (bytes : ContentRef → List ℕ) (taken : List FlowFile) (sources : List Source) → AreRead bytes taken sources → Each (λ file. file.content.size ≤ CONTENT_MAX) taken
+pub read_small : (bytes : ContentRef → List ℕ) (taken : List FlowFile) (sources : List Source) → AreReadSources bytes taken sources → Each (λ file. file.content.size ≤ CONTENT_MAX) taken
     → Each IsSmall (map (λ file. file.bytes) (map (queued_file bytes) taken))
 read_small bytes [] sources read small = tt
 read_small bytes (file ∷ taken) [] read small = absurd read

@@ -17,7 +17,7 @@ use Rattle.machine_model.specs.Settling.{settle}
 use Rattle.machine_model.specs.State.{QueuedFile, State}
 use Rattle.machine_model.proofs.Drafted.{length-numbered, numbers_in_row, session-drafts}
 use Rattle.prov_store.specs.State.{AreNumberedFrom, HasBlock}
-use Rattle.settlement.specs.Handed.{sizes_of}
+use Rattle.settlement.specs.Handed.{content_sizes}
 use Rattle.settlement.specs.StateAfter.{LeavesAs}
 use Rattle.engine_core.specs.Committing.{HasTexts}
 use Rattle.engine_core.proofs.Cases.{Case, IsSettled, entry_in, handed, session_in, state_of}
@@ -65,7 +65,7 @@ known c is =
           (λ file known. (known.encoded.file.first_number, known.number)) c.ended.taken kept);
       first = is.consistent.counters.next_number;
       relationships = is.may.relationships;
-      sizes = sizes_of c.ended.taken;
+      sizes = content_sizes c.ended.taken;
       worked = is.may.outcome.each;
       in_turn = subst (λ n. AreInTurn 0 n c.ended.outcome.files) (sizes ∙ sym files) is.may.outcome.in_turn;
       few = is.may.outcome.count;

@@ -19,10 +19,10 @@ use Rattle.flowfile_record.specs.declared.stored.ActiveFile.{ActiveFile}
 use Rattle.flowfile_record.specs.declared.stored.Placed.{Placed}
 use Rattle.checkpoint_store.specs.Consistent.{IsConsistent, IsFileIn}
 use Rattle.content_repo.specs.Claims.{claim, content_in}
-use Rattle.kept_state.specs.Applied.{number_of, session_applied}
+use Rattle.kept_state.specs.Applied.{active_number, session_applied}
 use Rattle.kept_state.specs.Changes.{settled_of_expiry}
-use Rattle.kept_state.specs.Changes.{session_of as session_entry}
-use Rattle.kept_state.specs.Fits.{active_of, are_active_in, is_in}
+use Rattle.kept_state.specs.Changes.{entry_of_session as session_entry}
+use Rattle.kept_state.specs.Fits.{active_of, are_active_in, is_in_connection}
 use Rattle.kept_state.specs.Fits as kept
 use Rattle.kept_state.specs.Moves as moves
 use Rattle.machine_model.specs.declared.flow.Connection.{Connection}
@@ -46,12 +46,12 @@ use Rattle.prov_store.specs.State.{HasBlock}
 use Rattle.store_core.specs.Change.{MayExpire}
 use Rattle.store_core.specs.Flow as store
 use Rattle.store_core.specs.Flow.{flow_in}
-use Rattle.store_core.specs.State.{live_contents, queued, state_with}
+use Rattle.store_core.specs.State.{live_contents, queued_active, state_with}
 use Rattle.store_core.specs.Store.{kept_by}
 use Rattle.store_core.specs.Valid.{KeptIsValid, LiveFilesAreQueued, QueuedFilesAreLive}
 use Rattle.store_core.proofs.Sound.{IsSoundIn, each_sound}
 use Rattle.engine_core.specs.Committing.{AreEventsUpTo, HasTexts, identity_of}
-use Rattle.engine_core.specs.Expiring.{AscendingStay, ExpiriesAreSteps, HaveContents, HeldContentsAreRead, IsContentOf, LeavesExpired, MayExpireIn, expiring_files, expiry_draft, expiry_event, expiry_events}
+use Rattle.engine_core.specs.Expiring.{AscendingStay, ExpiriesAreSteps, HaveContents, HeldContentsAreRead, StandsForItsBytes, LeavesExpired, MayExpireIn, expiring_files, expiry_draft, expiry_event, expiry_events}
 use Rattle.engine_core.proofs.Each.{all_from_each, each_from_all, each_made}
 use Rattle.engine_core.proofs.Fits.{AreFew, FitsAsAny, have_blocks}
 
@@ -100,22 +100,22 @@ pub record IsLiveAt (k : Kept) (connection number : ℕ) : Type 0 where
   pub found : active_of number k.files ≡ Some active
   pub there : Among active k.files
   pub place : active.connection ≡ connection
-  pub named : number_of active ≡ number
+  pub named : active_number active ≡ number
 
 some_same : (x y : ActiveFile) → ◌≡◌ {A = Option ActiveFile} (Some x) (Some y) → x ≡ y
 some_same x y is = cc
 
-item_found : (files : List ActiveFile) (number : ℕ) (a : ActiveFile) → active_of number files ≡ Some a → Among a files × (number_of a ≡ number)
+item_found : (files : List ActiveFile) (number : ℕ) (a : ActiveFile) → active_of number files ≡ Some a → Among a files × (active_number a ≡ number)
 item_found [] number a is = absurd cc
 item_found (b ∷ files) number a is =
-    elim (cases_Bool (number_of b == number)) [
+    elim (cases_Bool (active_number b == number)) [
       | inl t ↦ let same : b ≡ a = some_same b a (sym (ap (λ t. cond t (Some b) (active_of number files)) t) ∙ is) in
-          (inl same, ap number_of (sym same) ∙ eqb-true (number_of b) number t)
+          (inl same, ap active_number (sym same) ∙ eqb-true (active_number b) number t)
       | inr f ↦ let rest = item_found files number a (sym (ap (λ t. cond t (Some b) (active_of number files)) f) ∙ is) in
           (inr rest.0, rest.1)
     ]
 
-live_at : (k : Kept) (connection number : ℕ) (o : Option ActiveFile) → active_of number k.files ≡ o → is_in connection o ≡ true → IsLiveAt k connection number
+live_at : (k : Kept) (connection number : ℕ) (o : Option ActiveFile) → active_of number k.files ≡ o → is_in_connection connection o ≡ true → IsLiveAt k connection number
 live_at k connection number None is within = absurd (false≢true within)
 live_at k connection number (Some a) is within =
     let item = item_found k.files number a is in
@@ -123,10 +123,10 @@ live_at k connection number (Some a) is within =
 
 first_live : (k : Kept) (connection number : ℕ) (numbers : List ℕ) → are_active_in k.files connection (number ∷ numbers) ≡ true → IsLiveAt k connection number
 first_live k connection number numbers are =
-    live_at k connection number (active_of number k.files) refl (and_parts (is_in connection (active_of number k.files)) (are_active_in k.files connection numbers) are).0
+    live_at k connection number (active_of number k.files) refl (and_parts (is_in_connection connection (active_of number k.files)) (are_active_in k.files connection numbers) are).0
 
 others_live : (k : Kept) (connection number : ℕ) (numbers : List ℕ) → are_active_in k.files connection (number ∷ numbers) ≡ true → are_active_in k.files connection numbers ≡ true
-others_live k connection number numbers are = (and_parts (is_in connection (active_of number k.files)) (are_active_in k.files connection numbers) are).1
+others_live k connection number numbers are = (and_parts (is_in_connection connection (active_of number k.files)) (are_active_in k.files connection numbers) are).1
 
 pub each_expiring : (k : Kept) (connection : ℕ) (P : ActiveFile → Type 0) → ((n : ℕ) (is : IsLiveAt k connection n) → P is.active) → (numbers : List ℕ) → are_active_in k.files connection numbers ≡ true
     → Each P (expiring_files k numbers)
@@ -147,7 +147,7 @@ found_any : (n : ℕ) (ns : List ℕ) → is_number_among ns n ≡ list_any (λ 
 found_any n [] = refl
 found_any n (m ∷ ns) = elim (cases_Bool (m == n)) [ inl t ↦ rw t refl | inr f ↦ rw f (found_any n ns) ]
 
-pub distinct_same : (ns : List ℕ) → files.are_distinct ns ≡ kept.are_distinct ns
+pub distinct_same : (ns : List ℕ) → files.are_distinct ns ≡ kept.are_distinct_numbers ns
 distinct_same [] = refl
 distinct_same (n ∷ ns) = ap (λ b. not b && files.are_distinct ns) (found_any n ns) ∙ ap (λ b. not (list_any (λ m. m == n) ns) && b) (distinct_same ns)
 
@@ -161,24 +161,24 @@ pub record Seen (contents : ContentRef → List ℕ) (events : List Event) (k : 
   pub queued : LiveFilesAreQueued
   pub live : QueuedFilesAreLive
 
-pub found_active : (a : ActiveFile) (files : List ActiveFile) → AscendsByNumber number_of files → Among a files → active_of (number_of a) files ≡ Some a
+pub found_active : (a : ActiveFile) (files : List ActiveFile) → AscendsByNumber active_number files → Among a files → active_of (active_number a) files ≡ Some a
 found_active a [] ascends there = absurd there
 found_active a (b ∷ files) ascends (inl same) =
-    let yes : (number_of b == number_of a) ≡ true = eq-eqb (number_of b) (number_of a) (ap number_of same) in
+    let yes : (active_number b == active_number a) ≡ true = eq-eqb (active_number b) (active_number a) (ap active_number same) in
     rw yes (ap (λ (x : ActiveFile). Some x) same)
 found_active a (b ∷ files) ascends (inr later) =
-    let above : number_of b < number_of a = all_among (λ l. number_of b < number_of l) a files ascends.0 later in
-    let other : (number_of b == number_of a) ≡ false = ne_eqb (number_of b) (number_of a) (λ e. omega arith) in
+    let above : active_number b < active_number a = all_among (λ l. active_number b < active_number l) a files ascends.0 later in
+    let other : (active_number b == active_number a) ≡ false = ne_eqb (active_number b) (active_number a) (λ e. omega arith) in
     rw other (found_active a files ascends.1 later)
 
 -- a live file of another connection is none of these
 not_named : (ns : List ℕ) (n : ℕ) (place : ℕ) (a : ActiveFile) (files : List ActiveFile) → active_of n files ≡ Some a → a.connection ≢ place → are_active_in files place ns ≡ true → is_number_among ns n ≡ false
 not_named [] n place a files found other are = refl
 not_named (m ∷ ns) n place a files found other are =
-    let parts = and_parts (is_in place (active_of m files)) (are_active_in files place ns) are in
+    let parts = and_parts (is_in_connection place (active_of m files)) (are_active_in files place ns) are in
     elim (cases_Bool (m == n)) [
       | inl t ↦
-          let here : is_in place (Some a) ≡ true = sym (ap (is_in place) (ap (λ j. active_of j files) (eqb-true m n t) ∙ found)) ∙ parts.0 in
+          let here : is_in_connection place (Some a) ≡ true = sym (ap (is_in_connection place) (ap (λ j. active_of j files) (eqb-true m n t) ∙ found)) ∙ parts.0 in
           absurd (other (eqb-true a.connection place here))
       | inr f ↦ rw f (not_named ns n place a files found other parts.1)
     ]
@@ -208,31 +208,31 @@ module _ (contents : ContentRef → List ℕ) (events : List Event) (k : Kept) (
   abbrev state : State
   state = state_with contents events k
 
-  queue_has : (place n : ℕ) (is : IsLiveAt k place n) → Among (queued contents is.active) (queue_at state place)
+  queue_has : (place n : ℕ) (is : IsLiveAt k place n) → Among (queued_active contents is.active) (queue_at state place)
   queue_has place n is =
-      among_contained (queued contents is.active) (queue_at state place)
-      (subst (λ p. Contains (queue_at state p) (queued contents is.active)) is.place (seen.queued contents events k is.active seen.consistent (contains_among is.active k.files is.there)))
+      among_contained (queued_active contents is.active) (queue_at state place)
+      (subst (λ p. Contains (queue_at state p) (queued_active contents is.active)) is.place (seen.queued contents events k is.active seen.consistent (contains_among is.active k.files is.there)))
 
-  queue_file : (place n : ℕ) (is : IsLiveAt k place n) → file_numbered (queue_at state place) n ≡ Some (queued contents is.active)
+  queue_file : (place n : ℕ) (is : IsLiveAt k place n) → file_numbered (queue_at state place) n ≡ Some (queued_active contents is.active)
   queue_file place n is =
       ap (file_numbered (queue_at state place)) (sym is.named)
-      ∙ found-itself (queue_at state place) (own-numbers seen.flow state place seen.valid) (queued contents is.active) (queue_has place n is)
+      ∙ found-itself (queue_at state place) (own-numbers seen.flow state place seen.valid) (queued_active contents is.active) (queue_has place n is)
 
-  files_are : (place : ℕ) (numbers : List ℕ) → are_active_in k.files place numbers ≡ true → files_of (queue_at state place) numbers ≡ map (queued contents) (expiring_files k numbers)
+  files_are : (place : ℕ) (numbers : List ℕ) → are_active_in k.files place numbers ≡ true → files_of (queue_at state place) numbers ≡ map (queued_active contents) (expiring_files k numbers)
   files_are place [] are = refl
   files_are place (n ∷ numbers) are =
       let is = first_live k place n numbers are in
       ap (λ (o : Option QueuedFile). cons_option o (files_of (queue_at state place) numbers)) (queue_file place n is)
-      ∙ ap (λ (rest : List QueuedFile). queued contents is.active ∷ rest) (files_are place numbers (others_live k place n numbers are))
-      ∙ sym (ap (λ (o : Option ActiveFile). map (queued contents) (cons_option o (expiring_files k numbers))) is.found)
+      ∙ ap (λ (rest : List QueuedFile). queued_active contents is.active ∷ rest) (files_are place numbers (others_live k place n numbers are))
+      ∙ sym (ap (λ (o : Option ActiveFile). map (queued_active contents) (cons_option o (expiring_files k numbers))) is.found)
 
   pub all_active : (place : ℕ) (numbers : List ℕ) → are_active_in k.files place numbers ≡ true → are_active (queue_at state place) numbers ≡ true
   all_active place [] are = refl
   all_active place (n ∷ numbers) are =
       let is = first_live k place n numbers are in
       and_from (is_some (file_numbered (active_files (queue_at state place)) n)) (are_active (queue_at state place) numbers)
-      (find-some (λ (file : QueuedFile). file.number == n) (active_files (queue_at state place)) (queued contents is.active)
-      (keeps is_active (queue_at state place) (queued contents is.active) (queue_has place n is) refl) (eq-eqb (number_of is.active) n is.named))
+      (find-some (λ (file : QueuedFile). file.number == n) (active_files (queue_at state place)) (queued_active contents is.active)
+      (keeps is_active (queue_at state place) (queued_active contents is.active) (queue_has place n is) refl) (eq-eqb (active_number is.active) n is.named))
       (all_active place numbers (others_live k place n numbers are))
 
   -- ---- the other queues
@@ -242,7 +242,7 @@ module _ (contents : ContentRef → List ℕ) (events : List Event) (k : Kept) (
       let live = seen.live contents events k other file (contains_among file (queue_at state other) there) in
       let among = among_contained live.active k.files live.there in
       let found = found_active live.active k.files seen.consistent.numbers among in
-      let none = not_named numbers (number_of live.active) place live.active k.files found (λ e. differ (sym live.connection ∙ e)) are in
+      let none = not_named numbers (active_number live.active) place live.active k.files found (λ e. differ (sym live.connection ∙ e)) are in
       ap not (ap (λ (f : QueuedFile). is_number_among numbers f.number) (sym live.is) ∙ none)
 
   queues_are : (place : ℕ) (numbers : List ℕ) → are_active_in k.files place numbers ≡ true
@@ -256,11 +256,11 @@ module _ (contents : ContentRef → List ℕ) (events : List Event) (k : Kept) (
 
 -- ---- the events
 
-content_of : (contents : ContentRef → List ℕ) (k : Kept) (a : ActiveFile) → HaveContents contents k → Among a k.files → IsContentOf contents a.file.content
-content_of contents k a have there = all_among (IsContentOf contents) a.file.content (live_contents k) have (makes (λ (b : ActiveFile). b.file.content) k.files a there)
+content_of : (contents : ContentRef → List ℕ) (k : Kept) (a : ActiveFile) → HaveContents contents k → Among a k.files → StandsForItsBytes contents a.file.content
+content_of contents k a have there = all_among (StandsForItsBytes contents) a.file.content (live_contents k) have (makes (λ (b : ActiveFile). b.file.content) k.files a there)
 
-same_draft : (contents : ContentRef → List ℕ) (connection : Connection) (moment : ℕ) (a : ActiveFile) → IsContentOf contents a.file.content
-    → expiry_of connection moment (queued contents a) ≡ expiry_draft connection.id moment a
+same_draft : (contents : ContentRef → List ℕ) (connection : Connection) (moment : ℕ) (a : ActiveFile) → StandsForItsBytes contents a.file.content
+    → expiry_of connection moment (queued_active contents a) ≡ expiry_draft connection.id moment a
 same_draft contents connection moment a is =
     let draft : ℕ → List ℕ → Draft = λ size digest. record {
       event = λ number. record {
@@ -279,11 +279,11 @@ same_draft contents connection moment a is =
     } in
     ap (λ n. draft n (sha256 (contents a.file.content))) is.size ∙ ap (draft a.file.content.size) is.digest
 
-drafts_are : (contents : ContentRef → List ℕ) (connection : Connection) (moment : ℕ) (all : List ActiveFile) → Each (λ a. IsContentOf contents a.file.content) all
-    → map (expiry_of connection moment) (map (queued contents) all) ≡ map (expiry_draft connection.id moment) all
+drafts_are : (contents : ContentRef → List ℕ) (connection : Connection) (moment : ℕ) (all : List ActiveFile) → Each (λ a. StandsForItsBytes contents a.file.content) all
+    → map (expiry_of connection moment) (map (queued_active contents) all) ≡ map (expiry_draft connection.id moment) all
 drafts_are contents connection moment [] each = refl
 drafts_are contents connection moment (a ∷ all) each =
-    ap (λ (d : Draft). d ∷ map (expiry_of connection moment) (map (queued contents) all)) (same_draft contents connection moment a each.0)
+    ap (λ (d : Draft). d ∷ map (expiry_of connection moment) (map (queued_active contents) all)) (same_draft contents connection moment a each.0)
     ∙ ap (λ (ds : List Draft). expiry_draft connection.id moment a ∷ ds) (drafts_are contents connection moment all each.1)
 
 -- the machine's events are these
@@ -296,7 +296,7 @@ events_are contents events k seen place connection numbers moment have are in_or
     ap (λ (ns : List ℕ). numbered_from (k.last_event + 1) (map (expiry_of connection moment) (files_of queue ns))) in_order
     ∙ ap (λ (all : List QueuedFile). numbered_from (k.last_event + 1) (map (expiry_of connection moment) all)) (files_are contents events k seen place numbers are)
     ∙ ap (numbered_from (k.last_event + 1))
-    (drafts_are contents connection moment (expiring_files k numbers) (each_expiring k place (λ a. IsContentOf contents a.file.content) (λ n is. content_of contents k is.active have is.there) numbers are))
+    (drafts_are contents connection moment (expiring_files k numbers) (each_expiring k place (λ a. StandsForItsBytes contents a.file.content) (λ n is. content_of contents k is.active have is.there) numbers are))
 
 no_kin : (component : List ℕ) (moment first : ℕ) (all : List ActiveFile) → kin_of_all (numbered_from first (map (expiry_draft component moment) all)) ≡ []
 no_kin component moment first [] = refl
@@ -415,8 +415,8 @@ may_expire flow k place component numbers moment was may short id texts =
       expires = record {
         as_session = refl;
         moment = short;
-        fits = and_from (kept.are_distinct numbers && are_active_in k.files place numbers) (k.last_event + length told == k.last_event + length numbers)
-            (and_from (kept.are_distinct numbers) (are_active_in k.files place numbers) may.distinct may.active)
+        fits = and_from (kept.are_distinct_numbers numbers && are_active_in k.files place numbers) (k.last_event + length told == k.last_event + length numbers)
+            (and_from (kept.are_distinct_numbers numbers) (are_active_in k.files place numbers) may.distinct may.active)
             (eq-eqb (k.last_event + length told) (k.last_event + length numbers) (ap (λ n. k.last_event + n) count.1));
       };
       numbered = numbers_in_row (k.last_event + 1) drafts honest;
@@ -459,17 +459,17 @@ behind valid queued live flow k place component numbers moment was none same may
 -- those of the first numbers are told, and those of the others follow
 pub record IsTold (component : List ℕ) (moment : ℕ) (k : Kept) (numbers : List ℕ) (done last : ℕ) (told : List Event) : Type 0 where
   pub counted : last ≡ k.last_event + done
-  pub active : moves.are_active k.files (drop done numbers) ≡ true
+  pub active : moves.are_all_active k.files (drop done numbers) ≡ true
   pub whole : told ++ expiry_events component moment k last (drop done numbers) ≡ expiry_events component moment k k.last_event numbers
 
-pub told_none : (component : List ℕ) (moment : ℕ) (k : Kept) (numbers : List ℕ) → moves.are_active k.files numbers ≡ true → IsTold component moment k numbers 0 k.last_event []
+pub told_none : (component : List ℕ) (moment : ℕ) (k : Kept) (numbers : List ℕ) → moves.are_all_active k.files numbers ≡ true → IsTold component moment k numbers 0 k.last_event []
 told_none component moment k numbers are = record { counted = omega arith; active = are; whole = refl }
 
 -- the next number is that of a live file
 pub next_live : (component : List ℕ) (moment : ℕ) (k : Kept) (numbers : List ℕ) (done last number : ℕ) (told : List Event) → IsTold component moment k numbers done last told
     → drop done numbers ≡ number ∷ drop (done + 1) numbers → is_some (active_of number k.files) ≡ true
 next_live component moment k numbers done last number told is next =
-    (and_parts (is_some (active_of number k.files)) (moves.are_active k.files (drop (done + 1) numbers)) (ap (moves.are_active k.files) (sym next) ∙ is.active)).0
+    (and_parts (is_some (active_of number k.files)) (moves.are_all_active k.files (drop (done + 1) numbers)) (ap (moves.are_all_active k.files) (sym next) ∙ is.active)).0
 
 pub told_next : (component : List ℕ) (moment : ℕ) (k : Kept) (numbers : List ℕ) (done last number : ℕ) (told : List Event) (a : ActiveFile) → IsTold component moment k numbers done last told
     → drop done numbers ≡ number ∷ drop (done + 1) numbers → active_of number k.files ≡ Some a
@@ -478,7 +478,7 @@ told_next component moment k numbers done last number told a is next found =
     let rest = expiry_events component moment k (last + 1) (drop (done + 1) numbers) in
     record {
       counted = let before = is.counted in omega (arith, before);
-      active = (and_parts (is_some (active_of number k.files)) (moves.are_active k.files (drop (done + 1) numbers)) (ap (moves.are_active k.files) (sym next) ∙ is.active)).1;
+      active = (and_parts (is_some (active_of number k.files)) (moves.are_all_active k.files (drop (done + 1) numbers)) (ap (moves.are_all_active k.files) (sym next) ∙ is.active)).1;
       whole =
           append_assoc told (expiry_event component moment a (last + 1) ∷ []) rest
           ∙ sym (ap (λ (o : Option ActiveFile). told ++ numbered_from (last + 1) (map (expiry_draft component moment) (cons_option o (expiring_files k (drop (done + 1) numbers))))) found)
@@ -493,7 +493,7 @@ told_all component moment k numbers done last told is none =
 
 -- ---- contents that are held
 
-held_content : (files : Files) (at : ContentRef) → IsSoundIn files at → IsContentOf (content_in files) at
+held_content : (files : Files) (at : ContentRef) → IsSoundIn files at → StandsForItsBytes (content_in files) at
 held_content files at sound =
     let bytes = files (claim at.slot) in
     let covered = sound.covered in
@@ -503,4 +503,4 @@ held_content files at sound =
     }
 
 pub held_read : HeldContentsAreRead
-held_read s files holds = All-weaker (IsSoundIn files) (IsContentOf (content_in files)) (held_content files) (live_contents (kept_by s)) (each_sound files (live_contents (kept_by s)) holds.contents)
+held_read s files holds = All-weaker (IsSoundIn files) (StandsForItsBytes (content_in files)) (held_content files) (live_contents (kept_by s)) (each_sound files (live_contents (kept_by s)) holds.contents)

@@ -10,27 +10,27 @@ use Rattle.flowfile_record.specs.declared.stored.Fresh.{Fresh}
 use Rattle.flowfile_record.specs.declared.stored.Placed.{Placed}
 use Rattle.record_codec.specs.Placeless.{placeless}
 use Rattle.kept_state.specs.Applied.{left_after}
-use Rattle.kept_state.specs.Changes.{record_of, recorded}
+use Rattle.kept_state.specs.Changes.{record_of, recorded_file}
 use Rattle.machine_model.specs.Changing.{placed_file, state_after}
 use Rattle.machine_model.specs.State.{QueuedFile}
 use Rattle.machine_model.specs.Valid.{AreNumbered, files_of_all}
 use Rattle.machine_model.proofs.Keyed.{Counted, counted, numbered}
 use Rattle.machine_model.proofs.Tally.{bit, many, tally, tally-map, tally-same}
-use Rattle.store_core.specs.State.{queued}
+use Rattle.store_core.specs.State.{queued_active}
 use Rattle.engine_core.proofs.AllFiles.{all_files}
 use Rattle.engine_core.proofs.Cases.{Case, IsSettled, nothing, numbered_after, state_of}
 use Rattle.engine_core.proofs.Past.{past}
 use Rattle.engine_core.proofs.Recorded.{stand_somewhere, the_processor}
 
 -- whatever its content, a placed file's record has its number and its arrival
-recorded_number : (connection : ℕ) (file : FlowFile) (fresh : Fresh) → (recorded connection file fresh).file.number ≡ file.number
+recorded_number : (connection : ℕ) (file : FlowFile) (fresh : Fresh) → (recorded_file connection file fresh).file.number ≡ file.number
 recorded_number connection file fresh = by (is_stored fresh)
   where
     by : (b : Bool) → (cond b file (placeless file)).number ≡ file.number
     by true = refl
     by false = refl
 
-recorded_arrival : (connection : ℕ) (file : FlowFile) (fresh : Fresh) → (recorded connection file fresh).file.arrival ≡ file.arrival
+recorded_arrival : (connection : ℕ) (file : FlowFile) (fresh : Fresh) → (recorded_file connection file fresh).file.arrival ≡ file.arrival
 recorded_arrival connection file fresh = by (is_stored fresh)
   where
     by : (b : Bool) → (cond b file (placeless file)).arrival ≡ file.arrival
@@ -43,7 +43,7 @@ unmapped P f (x ∷ xs) all = All-cons (λ y. P (f y)) x xs (All-head P (f x) (m
 
 -- what of a file is counted, as a queue has it
 pub record IsPart (part : FlowFile → ℕ) (key : QueuedFile → ℕ) (contents : ContentRef → List ℕ) (all : List Placed) : Type 0 where
-  pub left : (a : ActiveFile) → key (queued contents a) ≡ part a.file
+  pub left : (a : ActiveFile) → key (queued_active contents a) ≡ part a.file
   pub placed : (p : Placed) → key (placed_file contents all p) ≡ part p.file
   pub recorded : (p : Placed) → part (record_of p).file ≡ part p.file
 
@@ -60,7 +60,7 @@ new_part c is part key contents next of numbers =
         arith,
         all.once n,
         whole n,
-        tally-same (λ (a : ActiveFile). bit (key (queued contents a) == n)) (λ a. bit (part a.file == n)) (λ a. ap (λ m. bit (m == n)) (of.left a)) left,
+        tally-same (λ (a : ActiveFile). bit (key (queued_active contents a) == n)) (λ a. bit (part a.file == n)) (λ a. ap (λ m. bit (m == n)) (of.left a)) left,
         tally-map (λ (f : FlowFile). bit (part f == n)) (λ (a : ActiveFile). a.file) left,
         tally-same (λ (p : Placed). bit (key (placed_file contents placed p) == n)) (λ p. bit (part (record_of p).file == n)) (λ p. ap (λ m. bit (m == n)) (of.placed p ∙ sym (of.recorded p))) placed,
         tally-map (λ (m : ℕ). bit (m == n)) (λ (a : ActiveFile). part a.file) (map record_of placed),
@@ -83,7 +83,7 @@ new_part c is part key contents next of numbers =
     all : Counted key next files
     all = counted key next files numbers
 
-    whole : (n : ℕ) → many key n files ≡ tally (λ (a : ActiveFile). bit (key (queued contents a) == n)) left + tally (λ (p : Placed). bit (key (placed_file contents placed p) == n)) placed
+    whole : (n : ℕ) → many key n files ≡ tally (λ (a : ActiveFile). bit (key (queued_active contents a) == n)) left + tally (λ (p : Placed). bit (key (placed_file contents placed p) == n)) placed
     whole n = all_files contents (past c.k.last_event) c.k c.settled (λ (f : QueuedFile). bit (key f == n)) (stand_somewhere c is)
 
     mapped : (n : ℕ) → many key n (map (placed_file contents placed) placed) ≡ tally (λ (p : Placed). bit (key (placed_file contents placed p) == n)) placed

@@ -18,7 +18,7 @@ use Rattle.record_codec.specs.declared.block.TheConstants.{PAYLOAD_MAX}
 use Rattle.record_codec.specs.declared.entry.LogEntry.TheVariants.{Session}
 use Rattle.flowfile_record.proofs.Sizes.{numbers_size}
 use Rattle.record_codec.proofs.Sizes.{active_size, session_size}
-use Rattle.kept_state.specs.Changes.{record_of, session_of}
+use Rattle.kept_state.specs.Changes.{record_of, entry_of_session}
 use Rattle.kept_state.proofs.Sizes.{file_is, record_is}
 use Rattle.machine_model.specs.declared.limits.TheConstants.{FAN_OUT_MAX}
 
@@ -41,13 +41,13 @@ records_size (p ∷ placed) digests =
     )
 
 encoded_is : (k : Kept) (s : Settled) → All (λ p. IsDigest p.file.content.digest) s.placed
-    → length (encoding (Session (session_of k s))) ≡ 52 + 8 * length s.gone + (sum (map (λ p. encoded_size p.file.attributes) s.placed) + 86 * length s.placed)
+    → length (encoding (Session (entry_of_session k s))) ≡ 52 + 8 * length s.gone + (sum (map (λ p. encoded_size p.file.attributes) s.placed) + 86 * length s.placed)
 unfolding encoding
 encoded_is k s digests =
     let records = map record_of s.placed in
     omega (
       arith,
-      session_size (session_of k s),
+      session_size (entry_of_session k s),
       numbers_size s.gone,
       length-append (to_be_bytes w32 (length records)) (flat_map active_file records),
       records_size s.placed digests,
@@ -56,5 +56,5 @@ encoded_is k s digests =
 pub payload : (k : Kept) (s : Settled) → All (λ p. IsDigest p.file.content.digest) s.placed → length s.gone ≤ TAKEN_MAX
     → length s.placed ≤ FAN_OUT_MAX * FILES_MAX
     → sum (map (λ p. encoded_size p.file.attributes) s.placed) ≤ FAN_OUT_MAX * (SESSION_ATTRIBUTES_MAX + FILES_MAX * FILENAME_SIZE)
-    → length (encoding (Session (session_of k s))) ≤ PAYLOAD_MAX
+    → length (encoding (Session (entry_of_session k s))) ≤ PAYLOAD_MAX
 payload k s digests gone few attributes = omega (arith, encoded_is k s digests)

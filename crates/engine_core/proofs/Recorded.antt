@@ -18,10 +18,10 @@ use Rattle.flowfile_record.specs.declared.stored.Placed.{Placed}
 use Rattle.record_codec.specs.ActiveFile.{active}
 use Rattle.record_codec.specs.FileEncoding.{IsContentRef}
 use Rattle.checkpoint_store.specs.Consistent.{IsFileIn}
-use Rattle.kept_state.specs.Applied.{is_among}
+use Rattle.kept_state.specs.Applied.{is_file_among}
 use Rattle.machine_model.specs.declared.flow.Processor.{Processor}
 use Rattle.settlement.specs.Recording.{IsRecordable, Records}
-use Rattle.settlement.specs.TellsOf.{HasContent, IsContentBy, IsDigestBy}
+use Rattle.settlement.specs.TellsOf.{HasPlacedContent, IsContentBy, IsDigestBy}
 use Rattle.engine_core.proofs.AllFiles.{StandSomewhere}
 use Rattle.engine_core.proofs.Cases.{Case, IsSettled, connections_same, counters_of, found}
 use Rattle.engine_core.proofs.FanOut.{fan_out}
@@ -71,7 +71,7 @@ records c is = recorded_of c is (the_processor c is).0 (the_processor c is).1
 
 pub stand_somewhere : (c : Case) → IsSettled c → StandSomewhere c.k c.settled
 stand_somewhere c is = record {
-  left = All-filter (λ a. not (is_among c.settled.gone a)) (λ a. a.connection < length c.k.connections) c.k.files
+  left = All-filter (λ a. not (is_file_among c.settled.gone a)) (λ a. a.connection < length c.k.connections) c.k.files
       (All-weaker (IsFileIn c.k) (λ a. a.connection < length c.k.connections) (λ a kept. kept.connection) c.k.files is.consistent.files);
   placed = All-weaker (IsRecordable c.flow) (λ p. p.connection < length c.k.connections)
       (λ p known. let there = known.connection in omega (arith, there, connections_same c is)) c.settled.placed (records c is).placed;
@@ -127,7 +127,7 @@ shared_new c is place of p there from =
     let at : get_or c.settled.placed of q ≡ q = get_or_from_slice_get c.settled.placed of q q share.there in
     let small = subst (λ (r : Placed). IfSome (own_bytes r.fresh) (λ bytes. length bytes ≤ CONTENT_MAX)) at ((records c is).placed of q lt).fresh in
     subst IsOfNew (sym share.same)
-    (new_by c.ended.taken q.file.content q.fresh share.shared (subst (HasContent c.ended.taken) at (is.tells.contents of q lt)) small)
+    (new_by c.ended.taken q.file.content q.fresh share.shared (subst (HasPlacedContent c.ended.taken) at (is.tells.contents of q lt)) small)
 
 digest_by : (c : Case) → IsSettled c → (place : ℕ) (p : Placed) → slice_get c.settled.placed place ≡ Some p → (fresh : Fresh) → p.fresh ≡ fresh → IsContentBy c.ended.taken p.file.content fresh
     → IsDigest p.file.content.digest

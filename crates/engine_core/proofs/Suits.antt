@@ -11,16 +11,16 @@ use Rattle.flowfile_record.specs.declared.stored.ActiveFile.{ActiveFile}
 use Rattle.flowfile_record.specs.declared.stored.Fresh.{Fresh}
 use Rattle.record_codec.specs.ActiveFile.{active}
 use Rattle.record_codec.specs.Placeless.{placeless}
-use Rattle.kept_state.specs.Applied.{left_after, number_of}
-use Rattle.kept_state.specs.Changes.{no_files, record_of, recorded}
-use Rattle.kept_state.specs.Fits.{active_of, are_active_in, are_active_in_one, are_active_with, are_distinct, are_new, has_count, has_place, is_in, keeps_counters, live, placed_are_new, session_suits}
+use Rattle.kept_state.specs.Applied.{left_after, active_number}
+use Rattle.kept_state.specs.Changes.{no_files, record_of, recorded_file}
+use Rattle.kept_state.specs.Fits.{active_of, are_active_in, are_active_in_one, are_active_with, are_distinct_numbers, are_new, has_count, has_place, is_in_connection, keeps_counters, live, placed_are_new, session_suits}
 use Rattle.kept_state.proofs.Apart.{lives}
 use Rattle.machine_model.specs.declared.kind.Kind.{Kind}
 use Rattle.machine_model.specs.declared.kind.Kind.TheVariants.{GenerateFlowFile}
 use Rattle.machine_model.proofs.Among.{Among, all_among, among_contained}
 use Rattle.machine_model.proofs.Keyed.{once_from_differ}
 use Rattle.machine_model.proofs.Tally.{bit, tally-map}
-use Rattle.settlement.specs.Whole.{count_of}
+use Rattle.settlement.specs.Whole.{generator_count}
 use Rattle.engine_core.proofs.Cases.{Case, IsSettled, counts_same, entry_in}
 use Rattle.engine_core.proofs.Counts as counts
 use Rattle.engine_core.proofs.Parts.{IsNewPart, new_arrivals, new_numbers}
@@ -28,17 +28,17 @@ use Rattle.engine_core.proofs.Recorded.{records, stand_somewhere}
 
 -- ---- the files that go
 
-found_active : (a : ActiveFile) (files : List ActiveFile) → AscendsByNumber number_of files → Among a files → active_of (number_of a) files ≡ Some a
+found_active : (a : ActiveFile) (files : List ActiveFile) → AscendsByNumber active_number files → Among a files → active_of (active_number a) files ≡ Some a
 found_active a [] ascends there = absurd there
 found_active a (b ∷ files) ascends (inl same) =
-    let yes : (number_of b == number_of a) ≡ true = eq-eqb (number_of b) (number_of a) (ap number_of same) in
+    let yes : (active_number b == active_number a) ≡ true = eq-eqb (active_number b) (active_number a) (ap active_number same) in
     rw yes (ap (λ (x : ActiveFile). Some x) same)
 found_active a (b ∷ files) ascends (inr later) =
-    let above : number_of b < number_of a = all_among (λ l. number_of b < number_of l) a files ascends.0 later in
-    let other : (number_of b == number_of a) ≡ false = ne_eqb (number_of b) (number_of a) (λ e. omega arith) in
+    let above : active_number b < active_number a = all_among (λ l. active_number b < active_number l) a files ascends.0 later in
+    let other : (active_number b == active_number a) ≡ false = ne_eqb (active_number b) (active_number a) (λ e. omega arith) in
     rw other (found_active a files ascends.1 later)
 
-module _ (files : List ActiveFile) (connection : ℕ) (ascends : AscendsByNumber number_of files) where
+module _ (files : List ActiveFile) (connection : ℕ) (ascends : AscendsByNumber active_number files) where
   abbrev Stands : FlowFile → Type 0
   Stands file = Contains files (active connection file)
 
@@ -48,8 +48,8 @@ module _ (files : List ActiveFile) (connection : ℕ) (ascends : AscendsByNumber
   all_in : (taken : List FlowFile) → All Stands taken → are_active_in files connection (map (λ file. file.number) taken) ≡ true
   all_in [] there = refl
   all_in (file ∷ taken) there =
-      and_from (is_in connection (active_of file.number files)) (are_active_in files connection (map (λ f. f.number) taken))
-      (ap (is_in connection) (found_here file (All-head Stands file taken there)) ∙ eq-eqb connection connection refl)
+      and_from (is_in_connection connection (active_of file.number files)) (are_active_in files connection (map (λ f. f.number) taken))
+      (ap (is_in_connection connection) (found_here file (All-head Stands file taken there)) ∙ eq-eqb connection connection refl)
       (all_in taken (All-tail Stands file taken there))
 
   all_in_one : (taken : List FlowFile) → All Stands taken → are_active_in_one files (map (λ file. file.number) taken) ≡ true
@@ -58,9 +58,9 @@ module _ (files : List ActiveFile) (connection : ℕ) (ascends : AscendsByNumber
       ap (λ (o : Option ActiveFile). are_active_with files o (map (λ (f : FlowFile). f.number) (file ∷ taken))) (found_here file (All-head Stands file taken there))
       ∙ all_in (file ∷ taken) there
 
-gone_distinct : (c : Case) → IsSettled c → are_distinct c.settled.gone ≡ true
+gone_distinct : (c : Case) → IsSettled c → are_distinct_numbers c.settled.gone ≡ true
 gone_distinct c is =
-    ap are_distinct is.tells.gone
+    ap are_distinct_numbers is.tells.gone
     ∙ counts.distinct (map (λ (file : FlowFile). file.number) c.ended.taken)
     (λ n. omega (arith, tally-map (λ (m : ℕ). bit (m == n)) (λ (file : FlowFile). file.number) c.ended.taken, once_from_differ (λ (file : FlowFile). file.number) c.ended.taken is.may.differ n))
 
@@ -89,7 +89,7 @@ record HasPlace (c : Case) (connection : ℕ) (file : FlowFile) : Type 0 where
   first_arrival : 0 < file.arrival
   arrival : file.arrival < c.settled.next_arrival
 
-place_of : (c : Case) (connection : ℕ) (file : FlowFile) (fresh : Fresh) → HasPlace c connection file → has_place c.k (entry_in c) (recorded connection file fresh) ≡ true
+place_of : (c : Case) (connection : ℕ) (file : FlowFile) (fresh : Fresh) → HasPlace c connection file → has_place c.k (entry_in c) (recorded_file connection file fresh) ≡ true
 place_of c connection file fresh has = by (is_stored fresh)
   where
     a : nat_lt connection (length c.k.connections) ≡ true
@@ -128,7 +128,7 @@ all_placed c is =
 
 -- ---- counters
 
-counted : (kind : Kind) (place index : ℕ) (counts : List ℕ) → place < length counts → has_count counts (count_of kind place index) ≡ true
+counted : (kind : Kind) (place index : ℕ) (counts : List ℕ) → place < length counts → has_count counts (generator_count kind place index) ≡ true
 counted (GenerateFlowFile count text) place index counts lt = lt-ltb place (length counts) lt
 counted _ place index counts lt = refl
 

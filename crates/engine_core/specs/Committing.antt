@@ -17,7 +17,7 @@ use Rattle.machine_model.specs.Changing.{HaveDigests, state_after}
 use Rattle.machine_model.specs.Settling.{settle}
 use Rattle.prov_store.specs.State.{AreNumberedFrom}
 use Rattle.settlement.specs.Contents.{IsBodyWithin}
-use Rattle.settlement.specs.Handed.{AreRead, session_of, sizes_of}
+use Rattle.settlement.specs.Handed.{AreReadSources, ended_session, content_sizes}
 use Rattle.settlement.specs.declared.handed.Ended.{Ended}
 use Rattle.store_core.specs.Flow as store
 use Rattle.store_core.specs.Flow.{flow_in}
@@ -40,10 +40,10 @@ pub record MayCommit (flow : Flow) (given : Given) (k : Kept) (ended : Ended) : 
   pub there : All (λ file. Contains k.files (active ended.connection file)) ended.taken
   pub differ : AllPairs (λ one other. one.number ≢ other.number) ended.taken
   pub relationships : ℕ
-  pub outcome : IsOutcome relationships (sizes_of ended.taken) ended.outcome
+  pub outcome : IsOutcome relationships (content_sizes ended.taken) ended.outcome
   pub parts : All (λ file. IsBodyWithin ended.sources file.body) ended.outcome.files
   pub bytes : ContentRef → List ℕ
-  pub read : AreRead bytes ended.taken ended.sources
+  pub read : AreReadSources bytes ended.taken ended.sources
 
 -- the events up to a last one, numbered in a row
 abbrev pub AreEventsUpTo : (last : ℕ) → List Event → Type 0
@@ -54,15 +54,15 @@ AreEventsUpTo last events = (length events ≡ last) × AreNumberedFrom 1 events
 abbrev pub LeavesState : Flow → Given → Ended → Kept → Settled → Type 0
 LeavesState flow given ended k settled =
     (processor : Processor) → slice_get flow.processors ended.processor ≡ Some processor
-    → (contents : ContentRef → List ℕ) → HaveRanges contents → AreRead contents ended.taken ended.sources
+    → (contents : ContentRef → List ℕ) → HaveRanges contents → AreReadSources contents ended.taken ended.sources
     → (events : List Event) → AreEventsUpTo k.last_event events
     → state_after contents (state_with contents events k) settled
-    ≡ settle (session_of flow given ended processor contents (state_with contents events k)) ended.outcome
+    ≡ settle (ended_session flow given ended processor contents (state_with contents events k)) ended.outcome
 
 -- Where they stand for such bytes, each placed content that is in the store has the digest of its bytes.
 abbrev pub LeavesDigests : Ended → Settled → Type 0
 LeavesDigests ended settled =
-    (contents : ContentRef → List ℕ) → HaveRanges contents → AreRead contents ended.taken ended.sources
+    (contents : ContentRef → List ℕ) → HaveRanges contents → AreReadSources contents ended.taken ended.sources
     → HaveDigests contents settled.placed
 
 -- ---- of each event that is settled

@@ -11,7 +11,7 @@ use Rattle.flowfile_record.specs.declared.event.EventKind.TheVariants as kind
 use Rattle.flowfile_record.specs.declared.stored.ActiveFile.{ActiveFile}
 use Rattle.checkpoint_store.specs.Consistent.{IsConsistent}
 use Rattle.content_repo.specs.Claims.{content_in}
-use Rattle.kept_state.specs.Fits.{active_of, are_active_in, are_distinct}
+use Rattle.kept_state.specs.Fits.{active_of, are_active_in, are_distinct_numbers}
 use Rattle.machine_model.specs.declared.flow.Connection.{Connection}
 use Rattle.machine_model.specs.declared.flow.Flow.{Flow}
 use Rattle.machine_model.specs.declared.journal.Step.TheVariants.{Expire}
@@ -24,7 +24,7 @@ use Rattle.machine_model.specs.Stepping.{expired, files_of, step}
 use Rattle.machine_model.specs.View.{is_expired}
 use Rattle.store_core.specs.Flow.{flow_in}
 use Rattle.store_core.specs.State.{live_contents, state_with}
-use Rattle.store_core.specs.Store.{StoreState, kept_by, Holds}
+use Rattle.store_core.specs.Store.{StoreState, kept_by, FilesHold}
 use Rattle.engine_core.specs.Committing.{AreEventsUpTo, identity_of}
 
 -- ---- what may expire
@@ -33,7 +33,7 @@ use Rattle.engine_core.specs.Committing.{AreEventsUpTo, identity_of}
 pub record MayExpireIn (flow : Flow) (k : Kept) (place : ℕ) (numbers : List ℕ) : Type 0 where
   pub connection : place < length flow.connections
   pub active : are_active_in k.files place numbers ≡ true
-  pub distinct : are_distinct numbers ≡ true
+  pub distinct : are_distinct_numbers numbers ≡ true
   pub in_order : ascending numbers ≡ numbers
 
 -- ---- its events
@@ -68,13 +68,13 @@ expiry_events component moment k last numbers =
 -- ---- the state behind it
 
 -- the reference stands for bytes of its size and its digest
-pub record IsContentOf (contents : ContentRef → List ℕ) (at : ContentRef) : Type 0 where
+pub record StandsForItsBytes (contents : ContentRef → List ℕ) (at : ContentRef) : Type 0 where
   pub size : length (contents at) ≡ at.size
   pub digest : sha256 (contents at) ≡ at.digest
 
 -- each live reference does
 abbrev pub HaveContents : (ContentRef → List ℕ) → Kept → Type 0
-HaveContents contents k = All (IsContentOf contents) (live_contents k)
+HaveContents contents k = All (StandsForItsBytes contents) (live_contents k)
 
 -- Whatever bytes live references stand for, where these have their sizes and their digests, and whatever the events so
 -- far tell: behind what is kept the settled session leaves the state that the machine does.
@@ -130,7 +130,7 @@ DueExpiriesMayExpire =
 -- files that hold what a store has in memory have each live content in its size and its digest
 abbrev pub HeldContentsAreRead : Type 0
 HeldContentsAreRead =
-    (s : StoreState) (files : Files) → Holds s files → HaveContents (content_in files) (kept_by s)
+    (s : StoreState) (files : Files) → FilesHold s files → HaveContents (content_in files) (kept_by s)
 
 -- numbers that ascend stay as they are
 abbrev pub AscendingStay : Type 0

@@ -1,7 +1,7 @@
 //! What files of a connection change of a store that expire there.
 ghost use Rattle.std.specs.Prelude.{◌≡◌, ◌+◌, ◌<◌, ◌^◌, true, length, IfOk};
 ghost use Rattle.flowfile_record.specs.Stored.{kept_of};
-ghost use Rattle.kept_state.specs.Moves.{are_active};
+ghost use Rattle.kept_state.specs.Moves.{are_all_active};
 ghost use Rattle.machine_model.specs.Sound.{IsSound};
 ghost use Rattle.store_core.specs.Change.{HasLiveContents, MayExpire};
 ghost use Rattle.store_core.specs.Flow.{flow_in};
@@ -67,7 +67,7 @@ fn expiry_events(
     state: &Stored,
     numbers: &[u64],
 ) -> Result<Vec<Event>, AllocError>
-    requires active { are_active (kept_of state.now).files numbers.now ≡ true }
+    requires active { are_all_active (kept_of state.now).files numbers.now ≡ true }
     requires few { (kept_of state.now).last_event + length numbers.now < 2 ^ 64 }
     ensures { IfOk result (λ events. events.items
         ≡ expiry_events component.now moment (kept_of state.now) (kept_of state.now).last_event numbers.now) }

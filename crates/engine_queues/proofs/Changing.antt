@@ -11,15 +11,15 @@ use Rattle.flowfile_record.specs.NumberedItems.{with_item, without_item, Ascends
 use Rattle.flowfile_record.specs.Stored.{Kept}
 use Rattle.flowfile_record.specs.declared.stored.ActiveFile.{ActiveFile}
 use Rattle.checkpoint_store.specs.Consistent.{IsConsistent}
-use Rattle.kept_state.specs.Applied.{number_of, left_after, with_files}
+use Rattle.kept_state.specs.Applied.{active_number, left_after, with_files}
 use Rattle.kept_state.specs.Arrivals.{arrival_of}
-use Rattle.kept_state.specs.Fits.{active_of, is_in, are_active_in, are_distinct}
+use Rattle.kept_state.specs.Fits.{active_of, is_in_connection, are_active_in, are_distinct_numbers}
 use Rattle.kept_state.proofs.Apart.{AreApart, none_from_any}
 use Rattle.kept_state.proofs.Items.{ascends-with}
 use Rattle.kept_state.proofs.Keeping.{ascends-filter}
 use Rattle.kept_state.proofs.Moving.{left_after-cons, left_after-nil}
 use Rattle.machine_model.specs.declared.flow.Flow.{Flow}
-use Rattle.flow_queue.specs.Queue.{QueueState, with_file, without_file, flight_of, IsApart}
+use Rattle.flow_queue.specs.Queue.{QueueState, queue_with_file, without_file, flight_of, IsApart}
 use Rattle.engine_queues.specs.Queues.{AreQueuesOf}
 use Rattle.engine_queues.specs.Settling.{changed_at, queue_without, queue_with, queues_without, queues_with, HasFile, HasFiles, MayJoin, MayAllJoin, HasRoomIn}
 use Rattle.engine_queues.proofs.Held.{held_in, held_in-without, held_in-with, others_stay, found_in, still_active, connection_within, apart_in}
@@ -143,63 +143,63 @@ module _ (flow : Flow) where
 
   -- ---- files leave
 
-  out_of : (k after : Kept) (c n : ℕ) (queues : List QueueState) → AreQueuesOf flow k queues → AscendsByNumber number_of k.files → is_in c (active_of n k.files) ≡ true
-      → after.files ≡ without_item number_of n k.files → AreQueuesOf flow after (changed_at c (queue_without n) queues)
+  out_of : (k after : Kept) (c n : ℕ) (queues : List QueueState) → AreQueuesOf flow k queues → AscendsByNumber active_number k.files → is_in_connection c (active_of n k.files) ≡ true
+      → after.files ≡ without_item active_number n k.files → AreQueuesOf flow after (changed_at c (queue_without n) queues)
   out_of k after c n queues are ascends is files =
       one_changes k after c (queue_without n) queues are (λ queue. refl) (λ queue. refl)
       (λ queue was. ap (without_file n) was ∙ sym (held_in-without n c k.files) ∙ ap (held_in c) (sym files))
       (λ place ne. sym (others_stay c n place k.files ascends is ne) ∙ ap (held_in place) (sym files))
 
-  all_out : (numbers : List ℕ) (k after : Kept) (c : ℕ) (queues : List QueueState) → AreQueuesOf flow k queues → AscendsByNumber number_of k.files → c < length queues → are_distinct numbers ≡ true
+  all_out : (numbers : List ℕ) (k after : Kept) (c : ℕ) (queues : List QueueState) → AreQueuesOf flow k queues → AscendsByNumber active_number k.files → c < length queues → are_distinct_numbers numbers ≡ true
       → are_active_in k.files c numbers ≡ true → after.files ≡ left_after numbers k.files → AreQueuesOf flow after (queues_without c numbers queues) × HasFiles c numbers queues
   all_out [] k after c queues are ascends within distinct active files = (same_files k after queues (files ∙ left_after-nil k.files) are, tt)
   all_out (n ∷ numbers) k after c queues are ascends within distinct active files =
-      let d = and_parts (not (list_any (λ m. m == n) numbers)) (are_distinct numbers) distinct in
-      let a = and_parts (is_in c (active_of n k.files)) (are_active_in k.files c numbers) active in
-      let mid : Kept = record k { files = without_item number_of n k.files } in
+      let d = and_parts (not (list_any (λ m. m == n) numbers)) (are_distinct_numbers numbers) distinct in
+      let a = and_parts (is_in_connection c (active_of n k.files)) (are_active_in k.files c numbers) active in
+      let mid : Kept = record k { files = without_item active_number n k.files } in
       let step = out_of k mid c n queues are ascends a.0 refl in
       let within_still : c < length (changed_at c (queue_without n) queues) = omega (arith, within, length-changed c (queue_without n) queues) in
-      let rest = all_out numbers mid after c (changed_at c (queue_without n) queues) step (ascends-filter number_of (λ b. not (number_of b == n)) k.files ascends) within_still d.1
+      let rest = all_out numbers mid after c (changed_at c (queue_without n) queues) step (ascends-filter active_number (λ b. not (active_number b == n)) k.files ascends) within_still d.1
       (still_active c n k.files numbers (not-true (list_any (λ m. m == n) numbers) d.0) a.1) (files ∙ left_after-cons n numbers k.files) in
       let file : HasFile c n queues =
       record { within = within; there = λ queue got. subst (λ fs. IsSome (flight_of n fs)) (sym (files_at k queues c queue are got)) (found_in c n k.files a.0) } in
       (rest.0, (file, rest.1))
 
-  pub leaving : (numbers : List ℕ) (k after : Kept) (c : ℕ) (queues : List QueueState) → AreQueuesOf flow k queues → length k.connections ≡ length flow.connections → IsConsistent k → are_distinct numbers ≡ true
+  pub leaving : (numbers : List ℕ) (k after : Kept) (c : ℕ) (queues : List QueueState) → AreQueuesOf flow k queues → length k.connections ≡ length flow.connections → IsConsistent k → are_distinct_numbers numbers ≡ true
       → are_active_in k.files c numbers ≡ true → after.files ≡ left_after numbers k.files → AreQueuesOf flow after (queues_without c numbers queues) × HasFiles c numbers queues
   leaving [] k after c queues are connections consistent distinct active files = (same_files k after queues (files ∙ left_after-nil k.files) are, tt)
   leaving (n ∷ numbers) k after c queues are connections consistent distinct active files =
-      let a = and_parts (is_in c (active_of n k.files)) (are_active_in k.files c numbers) active in
+      let a = and_parts (is_in_connection c (active_of n k.files)) (are_active_in k.files c numbers) active in
       let lt = connection_within k c n k.files consistent.files a.0 in
       let within : c < length queues = omega (arith, lt, connections, are.count) in
       all_out (n ∷ numbers) k after c queues are consistent.numbers within distinct active files
 
   -- ---- files join
 
-  into : (k after : Kept) (a : ActiveFile) (queues : List QueueState) → AreQueuesOf flow k queues → AscendsByNumber number_of k.files → after.files ≡ with_item number_of a k.files
+  into : (k after : Kept) (a : ActiveFile) (queues : List QueueState) → AreQueuesOf flow k queues → AscendsByNumber active_number k.files → after.files ≡ with_item active_number a k.files
       → AreQueuesOf flow after (changed_at a.connection (queue_with a.file) queues)
   into k after a queues are ascends files =
-      let joined : (place : ℕ) → held_in place after.files ≡ cond (a.connection == place) (with_file a.file (held_in place k.files)) (held_in place k.files) =
+      let joined : (place : ℕ) → held_in place after.files ≡ cond (a.connection == place) (queue_with_file a.file (held_in place k.files)) (held_in place k.files) =
       λ place. ap (held_in place) files ∙ held_in-with place a k.files ascends in
       one_changes k after a.connection (queue_with a.file) queues are (λ queue. refl) (λ queue. refl)
       (λ queue was.
-      ap (with_file a.file) was
-      ∙ sym (joined a.connection ∙ ap (λ b. cond b (with_file a.file (held_in a.connection k.files)) (held_in a.connection k.files)) (eq-eqb a.connection a.connection refl)))
-      (λ place ne. sym (joined place ∙ ap (λ b. cond b (with_file a.file (held_in place k.files)) (held_in place k.files)) (ne_eqb a.connection place (λ e. ne (sym e)))))
+      ap (queue_with_file a.file) was
+      ∙ sym (joined a.connection ∙ ap (λ b. cond b (queue_with_file a.file (held_in a.connection k.files)) (held_in a.connection k.files)) (eq-eqb a.connection a.connection refl)))
+      (λ place ne. sym (joined place ∙ ap (λ b. cond b (queue_with_file a.file (held_in place k.files)) (held_in place k.files)) (ne_eqb a.connection place (λ e. ne (sym e)))))
 
-  pub all_into : (placed : List ActiveFile) (k after : Kept) (queues : List QueueState) → AreQueuesOf flow k queues → AscendsByNumber number_of k.files
-      → AreApart number_of placed k.files → AreApart arrival_of placed k.files → All (λ (a : ActiveFile). a.connection < length queues) placed
+  pub all_into : (placed : List ActiveFile) (k after : Kept) (queues : List QueueState) → AreQueuesOf flow k queues → AscendsByNumber active_number k.files
+      → AreApart active_number placed k.files → AreApart arrival_of placed k.files → All (λ (a : ActiveFile). a.connection < length queues) placed
       → HasRoomIn (map (λ (a : ActiveFile). a.connection) placed) queues → after.files ≡ with_files placed k.files
       → AreQueuesOf flow after (queues_with placed queues) × MayAllJoin placed queues
   all_into [] k after queues are ascends numbers arrivals within room files = (same_files k after queues files are, tt)
   all_into (a ∷ placed) k after queues are ascends numbers arrivals within room files =
       let next = changed_at a.connection (queue_with a.file) queues in
-      let mid : Kept = record k { files = with_item number_of a k.files } in
+      let mid : Kept = record k { files = with_item active_number a k.files } in
       let step = into k mid a queues are ascends refl in
       let later = All-tail (λ (b : ActiveFile). b.connection < length queues) a placed within in
       let within_still = All-weaker (λ (b : ActiveFile). b.connection < length queues) (λ (b : ActiveFile). b.connection < length next)
       (λ b lt. omega (arith, lt, length-changed a.connection (queue_with a.file) queues)) placed later in
-      let rest = all_into placed mid after next step (ascends-with number_of a k.files (none_from_any (number_of a) k.files numbers.0) ascends) numbers.1 arrivals.1 within_still
+      let rest = all_into placed mid after next step (ascends-with active_number a k.files (none_from_any (active_number a) k.files numbers.0) ascends) numbers.1 arrivals.1 within_still
       (room_into a (map (λ (b : ActiveFile). b.connection) placed) queues room) files in
       let one : one_if (a.connection == a.connection) ≡ 1 = ap one_if (eq-eqb a.connection a.connection refl) in
       let joins : MayJoin a queues = record {

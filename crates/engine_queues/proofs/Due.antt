@@ -15,13 +15,13 @@ use Rattle.machine_model.specs.Order.{eligible_files}
 use Rattle.machine_model.specs.Quiet.{gives_a_pick, holds_back, holds_back_any, is_held_back, is_full}
 use Rattle.machine_model.specs.Taking.{picks}
 use Rattle.machine_model.specs.View.{QueueView, FileView}
-use Rattle.flow_queue.specs.Queue.{QueueState, seen, picked, picked_numbers}
+use Rattle.flow_queue.specs.Queue.{QueueState, queue_as_seen, picked, picked_numbers}
 use Rattle.engine_queues.specs.Queues.{queue_seen}
 use Rattle.engine_queues.specs.Choosing.{IsOf, AreOf, picked_from, first_pick}
 use Rattle.engine_queues.proofs.First.{none-owes, first-owes, none-found, first-found, any-found, any-same, any-some}
 
-pub seen-at : (queues : List QueueState) (place : ℕ) (queue : QueueState) → slice_get queues place ≡ Some queue → queue_seen queues place ≡ seen queue
-seen-at queues place queue at = ap (λ q. option_map_or seen q (record { active = []; batches = [] })) at
+pub seen-at : (queues : List QueueState) (place : ℕ) (queue : QueueState) → slice_get queues place ≡ Some queue → queue_seen queues place ≡ queue_as_seen queue
+seen-at queues place queue at = ap (λ q. option_map_or queue_as_seen q (record { active = []; batches = [] })) at
 
 -- there is a queue for a connection
 pub queue-for : (flow : Flow) (queues : List QueueState) → AreOf flow queues → (place : ℕ) (connection : Connection) → slice_get flow.connections place ≡ Some connection
@@ -48,7 +48,7 @@ connection-for flow queues are place queue there =
 -- the queue at a place owes nothing
 abbrev pub OwesNothing : {Y : Type 0} → (Connection → QueueView → Option Y) → Flow → List QueueState → ℕ → Type 0
 OwesNothing owes flow queues place =
-    (connection : Connection) (queue : QueueState) → slice_get flow.connections place ≡ Some connection → slice_get queues place ≡ Some queue → owes connection (seen queue) ≡ None
+    (connection : Connection) (queue : QueueState) → slice_get flow.connections place ≡ Some connection → slice_get queues place ≡ Some queue → owes connection (queue_as_seen queue) ≡ None
 
 module _ (flow : Flow) (queues : List QueueState) (are : AreOf flow queues) {Y : Type 0} (owes : Connection → QueueView → Option Y) where
   abbrev from_queue : ℕ → Connection → Option Y
@@ -63,7 +63,7 @@ module _ (flow : Flow) (queues : List QueueState) (are : AreOf flow queues) {Y :
   none-due none = none-owes from_queue 0 flow.connections (λ k connection at. owes-nothing k connection (none k (slice_get_within flow.connections k connection at)) at)
 
   pub first-due : (place : ℕ) (connection : Connection) (queue : QueueState) (y : Y) → slice_get flow.connections place ≡ Some connection → slice_get queues place ≡ Some queue
-      → owes connection (seen queue) ≡ Some y → ((k : ℕ) → k < place → OwesNothing owes flow queues k) → first_due owes flow (queue_seen queues) ≡ Some (place, y)
+      → owes connection (queue_as_seen queue) ≡ Some y → ((k : ℕ) → k < place → OwesNothing owes flow queues k) → first_due owes flow (queue_seen queues) ≡ Some (place, y)
   first-due place connection queue y at there is before =
       let due : from_queue (0 + place) connection ≡ Some y = ap (λ n. from_queue n connection) (zero-add place) ∙ ap (owes connection) (seen-at queues place queue there) ∙ is in
       first-owes from_queue 0 place flow.connections connection y at due (λ k other lt is_there. owes-nothing k other (before k lt) is_there)
@@ -76,12 +76,12 @@ expires moment connection queue = some_numbers (expired_numbers connection.limit
 
 -- no file of the queue at a place has expired
 abbrev pub HasNoneExpired : ℕ → List QueueState → ℕ → Type 0
-HasNoneExpired moment queues place = (queue : QueueState) → slice_get queues place ≡ Some queue → expired_numbers queue.limits moment (seen queue).active ≡ []
+HasNoneExpired moment queues place = (queue : QueueState) → slice_get queues place ≡ Some queue → expired_numbers queue.limits moment (queue_as_seen queue).active ≡ []
 
 module _ (moment : ℕ) (queues : List QueueState) (flow : Flow) (are : AreOf flow queues) where
   none_of : (place : ℕ) → HasNoneExpired moment queues place → OwesNothing (expires moment) flow queues place
   none_of place none connection queue at there =
-      ap (λ limits. some_numbers (expired_numbers limits moment (seen queue).active)) (sym (are.each place connection queue at there).limits) ∙ ap some_numbers (none queue there)
+      ap (λ limits. some_numbers (expired_numbers limits moment (queue_as_seen queue).active)) (sym (are.each place connection queue at there).limits) ∙ ap some_numbers (none queue there)
 
   pub no-expiry : ((place : ℕ) → place < length queues → HasNoneExpired moment queues place) → due_expiry flow (queue_seen queues) moment ≡ None
   no-expiry none = none-due flow queues are (expires moment) (λ place lt. none_of place (none place (omega (arith, lt, are.count))))
@@ -90,12 +90,12 @@ module _ (moment : ℕ) (queues : List QueueState) (flow : Flow) (are : AreOf fl
   some-are [] some = absurd (some refl)
   some-are (n ∷ ns) some = ap (λ b. cond b None (Some (n ∷ ns))) (ne_eqb (length (n ∷ ns)) 0 (λ e. omega (arith, e)))
 
-  pub first-expiry : (place : ℕ) (queue : QueueState) (numbers : List ℕ) → slice_get queues place ≡ Some queue → numbers ≡ expired_numbers queue.limits moment (seen queue).active → numbers ≢ []
+  pub first-expiry : (place : ℕ) (queue : QueueState) (numbers : List ℕ) → slice_get queues place ≡ Some queue → numbers ≡ expired_numbers queue.limits moment (queue_as_seen queue).active → numbers ≢ []
       → ((k : ℕ) → k < place → HasNoneExpired moment queues k) → due_expiry flow (queue_seen queues) moment ≡ Some (place, numbers)
   first-expiry place queue numbers there is some before =
       let of = connection-for flow queues are place queue there in
       first-due flow queues are (expires moment) place of.0 queue numbers of.1 there
-      (ap (λ limits. some_numbers (expired_numbers limits moment (seen queue).active)) (sym of.2.limits) ∙ ap some_numbers (sym is) ∙ some-are numbers some)
+      (ap (λ limits. some_numbers (expired_numbers limits moment (queue_as_seen queue).active)) (sym of.2.limits) ∙ ap some_numbers (sym is) ∙ some-are numbers some)
       (λ k lt. none_of k (before k lt))
 
 -- ---- picks
@@ -109,14 +109,14 @@ picks-none None is = refl
 picks-none (Some files) is = absurd (true≢false is)
 
 module _ (rule : TakeRule) (processor moment : ℕ) (connection : Connection) (queue : QueueState) (of : IsOf connection queue) where
-  same_pick : picked rule moment queue ≡ picks rule (eligible_files connection.order connection.limits moment (seen queue).active)
-  same_pick = ap (λ order. picks rule (eligible_files order queue.limits moment (seen queue).active)) of.order ∙ ap (λ limits. picks rule (eligible_files connection.order limits moment (seen queue).active)) of.limits
+  same_pick : picked rule moment queue ≡ picks rule (eligible_files connection.order connection.limits moment (queue_as_seen queue).active)
+  same_pick = ap (λ order. picks rule (eligible_files order queue.limits moment (queue_as_seen queue).active)) of.order ∙ ap (λ limits. picks rule (eligible_files connection.order limits moment (queue_as_seen queue).active)) of.limits
 
   pub picked-here : (numbers : List ℕ) → (connection.target == processor) ≡ true → is_some (picked rule moment queue) ≡ true → numbers ≡ picked_numbers (picked rule moment queue)
-      → picked_from rule processor moment connection (seen queue) ≡ Some numbers
+      → picked_from rule processor moment connection (queue_as_seen queue) ≡ Some numbers
   picked-here numbers ends some is = rw ends (ap (option_map numbers_of) (sym same_pick) ∙ picks-some (picked rule moment queue) numbers some is)
 
-  pub none-here : (connection.target == processor) ≡ true → is_some (picked rule moment queue) ≡ false → picked_from rule processor moment connection (seen queue) ≡ None
+  pub none-here : (connection.target == processor) ≡ true → is_some (picked rule moment queue) ≡ false → picked_from rule processor moment connection (queue_as_seen queue) ≡ None
   none-here ends none = rw ends (ap (option_map numbers_of) (sym same_pick) ∙ picks-none (picked rule moment queue) none)
 
 pub none-elsewhere : (rule : TakeRule) (processor moment : ℕ) (connection : Connection) (view : QueueView) → (connection.target == processor) ≡ false → picked_from rule processor moment connection view ≡ None
@@ -148,7 +148,7 @@ eq-sym m n =
 
 -- the queue of a connection is full, and the connection leaves one of these processors
 abbrev pub holds_one_of : List ℕ → Connection → QueueState → Bool
-holds_one_of processors connection queue = list_any (λ p. p == connection.source) processors && is_full queue.limits (seen queue)
+holds_one_of processors connection queue = list_any (λ p. p == connection.source) processors && is_full queue.limits (queue_as_seen queue)
 
 -- the connection at a place doesn't
 abbrev pub HoldsNone : List ℕ → Flow → List QueueState → ℕ → Type 0
@@ -167,9 +167,9 @@ one-of (p ∷ list) source full =
     ∙ ap (λ b. (b || list_any (λ p. p == source) (map (λ p. p.0) list)) && full) (eq-sym source p.0)
 
 pub not-one-of : (processors : List ℕ) (connection : Connection) (queue : QueueState) → list_any (λ p. p == connection.source) processors ≡ false → holds_one_of processors connection queue ≡ false
-not-one-of processors connection queue none = ap (λ b. b && is_full queue.limits (seen queue)) none
+not-one-of processors connection queue none = ap (λ b. b && is_full queue.limits (queue_as_seen queue)) none
 
-pub not-full : (processors : List ℕ) (connection : Connection) (queue : QueueState) → is_full queue.limits (seen queue) ≡ false → holds_one_of processors connection queue ≡ false
+pub not-full : (processors : List ℕ) (connection : Connection) (queue : QueueState) → is_full queue.limits (queue_as_seen queue) ≡ false → holds_one_of processors connection queue ≡ false
 not-full processors connection queue none = ap (λ b. list_any (λ p. p == connection.source) processors && b) none ∙ and_false (list_any (λ p. p == connection.source) processors)
   where
     and_false : (b : Bool) → (b && false) ≡ false
@@ -185,8 +185,8 @@ module _ (flow : Flow) (queues : List QueueState) (are : AreOf flow queues) (pro
   here place connection queue at there =
       ap (λ n. holds (n, connection)) (zero-add place)
       ∙ ap (λ view. list_any (λ p. (connection.source == p.0) && is_full connection.limits view) list) (seen-at queues place queue there)
-      ∙ ap (λ limits. list_any (λ p. (connection.source == p.0) && is_full limits (seen queue)) list) (sym (are.each place connection queue at there).limits)
-      ∙ one-of list connection.source (is_full queue.limits (seen queue))
+      ∙ ap (λ limits. list_any (λ p. (connection.source == p.0) && is_full limits (queue_as_seen queue)) list) (sym (are.each place connection queue at there).limits)
+      ∙ one-of list connection.source (is_full queue.limits (queue_as_seen queue))
       ∙ ap (λ ps. holds_one_of ps connection queue) those
 
   pub none-holds : ((k : ℕ) → HoldsNone processors flow queues k) → find holds (enumerate_from 0 flow.connections) ≡ None

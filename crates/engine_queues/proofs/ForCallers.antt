@@ -13,8 +13,8 @@ use Rattle.flowfile_record.specs.declared.flow_file.FlowFile.{FlowFile}
 use Rattle.flowfile_record.specs.declared.stored.ActiveFile.{ActiveFile}
 use Rattle.record_codec.specs.ActiveFile.{active}
 use Rattle.checkpoint_store.specs.Consistent.{IsConsistent}
-use Rattle.kept_state.specs.Applied.{number_of}
-use Rattle.kept_state.specs.Fits.{active_of, is_in, are_active_in}
+use Rattle.kept_state.specs.Applied.{active_number}
+use Rattle.kept_state.specs.Fits.{active_of, is_in_connection, are_active_in}
 use Rattle.machine_model.specs.declared.flow.Flow.{Flow}
 use Rattle.flow_queue.specs.Queue.{QueueState}
 use Rattle.flow_queue.proofs.Numbered.{item_of-at}
@@ -59,10 +59,10 @@ module _ (old new : List QueueState) (same : map without_room new ≡ map withou
 
 -- ---- files that are kept
 
-pub kept_is_found : (files : List ActiveFile) (a : ActiveFile) → AscendsByNumber number_of files → Contains files a → active_of (number_of a) files ≡ Some a
+pub kept_is_found : (files : List ActiveFile) (a : ActiveFile) → AscendsByNumber active_number files → Contains files a → active_of (active_number a) files ≡ Some a
 kept_is_found files a ascends has =
     let at = at_from_Contains files a has in
-    item_of-at number_of files at.0 (number_of a) a ascends at.1 (λ d. ap number_of (at.2 d)) ∙ ap Some (at.2 a)
+    item_of-at active_number files at.0 (active_number a) a ascends at.1 (λ d. ap active_number (at.2 d)) ∙ ap Some (at.2 a)
 
 -- the files that a session took of a connection are active there, by their numbers
 pub taken_are_active : (k : Kept) (connection : ℕ) (taken : List FlowFile) → IsConsistent k → All (λ (file : FlowFile). Contains k.files (active connection file)) taken
@@ -70,6 +70,6 @@ pub taken_are_active : (k : Kept) (connection : ℕ) (taken : List FlowFile) →
 taken_are_active k connection [] consistent all = refl
 taken_are_active k connection (file ∷ taken) consistent all =
     let found = kept_is_found k.files (active connection file) consistent.numbers (All-head (λ (f : FlowFile). Contains k.files (active connection f)) file taken all) in
-    let here : is_in connection (active_of file.number k.files) ≡ true = ap (is_in connection) found ∙ eq-eqb connection connection refl in
+    let here : is_in_connection connection (active_of file.number k.files) ≡ true = ap (is_in_connection connection) found ∙ eq-eqb connection connection refl in
     let later = taken_are_active k connection taken consistent (All-tail (λ (f : FlowFile). Contains k.files (active connection f)) file taken all) in
-    and_from (is_in connection (active_of file.number k.files)) (are_active_in k.files connection (map (λ (f : FlowFile). f.number) taken)) here later
+    and_from (is_in_connection connection (active_of file.number k.files)) (are_active_in k.files connection (map (λ (f : FlowFile). f.number) taken)) here later

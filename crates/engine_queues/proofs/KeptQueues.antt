@@ -16,7 +16,7 @@ use Rattle.machine_model.specs.Laws.{ArrivalsDiffer}
 use Rattle.machine_model.specs.State.{QueuedFile}
 use Rattle.machine_model.specs.View.{FileView}
 use Rattle.machine_model.proofs.Ordered.{pairs_nil}
-use Rattle.store_core.specs.State.{queued, queue_of, state_with}
+use Rattle.store_core.specs.State.{queued_active, queue_of, state_with}
 use Rattle.store_core.proofs.ByKey.{filter_fold, put}
 use Rattle.engine_queues.proofs.Places.{queue_there, queue_past}
 use Rattle.engine_queues.specs.Laws.{KeptIsSeen}
@@ -47,20 +47,20 @@ module _ (contents : ContentRef → List ℕ) where
   abbrev HasSize : ActiveFile → Type 0
   HasSize a = length (contents a.file.content) ≡ a.file.content.size
 
-  seen_queued : (files : List ActiveFile) → All HasSize files → map view_of (map (queued contents) files) ≡ map (λ a. view_of_kept a.file) files
+  seen_queued : (files : List ActiveFile) → All HasSize files → map view_of (map (queued_active contents) files) ≡ map (λ a. view_of_kept a.file) files
   seen_queued [] sizes = refl
   seen_queued (a ∷ files) sizes =
       let size = All-head HasSize a files sizes in
       let rest = seen_queued files (All-tail HasSize a files sizes) in
       λ i. record (view_of_kept a.file) { size = size i } ∷ rest i
 
-  all_active : (files : List ActiveFile) → filter is_active (map (queued contents) files) ≡ map (queued contents) files
+  all_active : (files : List ActiveFile) → filter is_active (map (queued_active contents) files) ≡ map (queued_active contents) files
   all_active [] = refl
-  all_active (a ∷ files) = ap (λ (l : List QueuedFile). queued contents a ∷ l) (all_active files)
+  all_active (a ∷ files) = ap (λ (l : List QueuedFile). queued_active contents a ∷ l) (all_active files)
 
-  none_swapped : (files : List ActiveFile) → All (λ (file : QueuedFile). file.batch ≡ None) (map (queued contents) files)
+  none_swapped : (files : List ActiveFile) → All (λ (file : QueuedFile). file.batch ≡ None) (map (queued_active contents) files)
   none_swapped [] = All-nil (λ (file : QueuedFile). file.batch ≡ None)
-  none_swapped (a ∷ files) = All-cons (λ (file : QueuedFile). file.batch ≡ None) (queued contents a) (map (queued contents) files) refl (none_swapped files)
+  none_swapped (a ∷ files) = All-cons (λ (file : QueuedFile). file.batch ≡ None) (queued_active contents a) (map (queued_active contents) files) refl (none_swapped files)
 
 no_batches : (files : List QueuedFile) → All (λ (file : QueuedFile). file.batch ≡ None) files → filter_map (λ (file : QueuedFile). file.batch) files ≡ []
 no_batches [] none = refl
@@ -87,13 +87,13 @@ module _ (contents : ContentRef → List ℕ) (events : List Event) (k : Kept) (
   queue_is : queue_at (state_with contents events k) place ≡ queue_of contents k.files place
   queue_is = elim (cases_lt place (length k.connections)) [
     | inl lt ↦ queue_there contents events k place lt
-    | inr le ↦ queue_past contents events k place le ∙ sym (ap (λ (files : List ActiveFile). fold with_arrival [] (map (queued contents) files)) (none_there k place is le))
+    | inr le ↦ queue_past contents events k place le ∙ sym (ap (λ (files : List ActiveFile). fold with_arrival [] (map (queued_active contents) files)) (none_there k place is le))
   ]
 
   active_is : active_views (queue_of contents k.files place) ≡ arranged arrival_of (kept_views k place)
   active_is =
-      ap (map view_of) (filter_fold queued_at is_active (map (queued contents) here) [] tt ∙ ap (fold with_arrival []) (all_active contents here))
-      ∙ seen_fold (map (queued contents) here) []
+      ap (map view_of) (filter_fold queued_at is_active (map (queued_active contents) here) [] tt ∙ ap (fold with_arrival []) (all_active contents here))
+      ∙ seen_fold (map (queued_active contents) here) []
       ∙ ap (arranged arrival_of) (seen_queued contents here (All-filter (λ a. a.connection == place) (HasSize contents) k.files (sizes_of k.files sizes)))
     where
       sizes_of : (files : List ActiveFile) → All (λ at. length (contents at) ≡ at.size) (map (λ a. a.file.content) files) → All (HasSize contents) files
@@ -105,7 +105,7 @@ module _ (contents : ContentRef → List ℕ) (events : List Event) (k : Kept) (
   batches_are : batches (queue_of contents k.files place) ≡ []
   batches_are =
       ap each_once (no_batches (queue_of contents k.files place)
-      (arranged-each queued_at (λ (file : QueuedFile). file.batch ≡ None) (map (queued contents) here) (none_swapped contents here)))
+      (arranged-each queued_at (λ (file : QueuedFile). file.batch ≡ None) (map (queued_active contents) here) (none_swapped contents here)))
 
   pub seen_is : queues_of (state_with contents events k) place ≡ by_arrival (kept_queues k place)
   seen_is =

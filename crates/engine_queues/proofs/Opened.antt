@@ -14,7 +14,7 @@ use Rattle.machine_model.specs.declared.flow.Flow.{Flow}
 use Rattle.machine_model.proofs.Ordered.{contains_head}
 use Rattle.checkpoint_store.specs.Consistent.{AreDistinctBy, IsFileIn}
 use Rattle.flow_queue.specs.declared.held.Held.{Held}
-use Rattle.flow_queue.specs.Queue.{QueueState, IsApart, with_file}
+use Rattle.flow_queue.specs.Queue.{QueueState, IsApart, queue_with_file}
 use Rattle.engine_queues.specs.Opening.{empty_queue}
 use Rattle.engine_queues.specs.Queues.{held_of, IsQueueOf, AreQueuesOf}
 
@@ -78,7 +78,7 @@ behind-held k place files active behind =
     (filter (λ (a : ActiveFile). a.connection == place) files)
     (All-filter (λ (a : ActiveFile). a.connection == place) (λ (a : ActiveFile). (a.file.number < active.file.number) × (a.file.arrival ≢ active.file.arrival)) files behind)
 
-at-the-end : (file : FlowFile) (files : List Held) → All (λ (held : Held). held.file.number < file.number) files → with_file file files ≡ files ++ (record { file = file; in_flight = false }) ∷ []
+at-the-end : (file : FlowFile) (files : List Held) → All (λ (held : Held). held.file.number < file.number) files → queue_with_file file files ≡ files ++ (record { file = file; in_flight = false }) ∷ []
 at-the-end file [] below = refl
 at-the-end file (held ∷ files) below =
     let lt : nat_lt held.file.number file.number ≡ true = lt-ltb held.file.number file.number (All-head (λ (other : Held). other.file.number < file.number) held files below) in
@@ -106,16 +106,16 @@ module _ (flow : Flow) (k : Kept) (files : List ActiveFile) (active : ActiveFile
       (All-weaker (λ (held : Held). (held.file.number < active.file.number) × (held.file.arrival ≢ active.file.arrival)) (λ (held : Held). (held.file.number ≢ active.file.number) × (held.file.arrival ≢ active.file.arrival))
       (λ held h. ((λ e. let lt = h.0 in omega (arith, lt, e)), h.1)) _ (held-behind active.connection))
 
-  held-now : (held : List Held) → held ≡ held_of (with_files k files) active.connection → with_file active.file held ≡ held_of (with_files k (files ++ active ∷ [])) active.connection
+  held-now : (held : List Held) → held ≡ held_of (with_files k files) active.connection → queue_with_file active.file held ≡ held_of (with_files k (files ++ active ∷ [])) active.connection
   unfolding new
   held-now held is =
-      ap (with_file active.file) is
+      ap (queue_with_file active.file) is
       ∙ at-the-end active.file (held_of (with_files k files) active.connection)
       (All-weaker (λ (held : Held). (held.file.number < active.file.number) × (held.file.arrival ≢ active.file.arrival)) (λ (held : Held). held.file.number < active.file.number) (λ held h. h.0) _ (held-behind active.connection))
       ∙ (let here : (active.connection == active.connection) ≡ true = eq-eqb active.connection active.connection refl in sym (held-more k active.connection files active ∙ rw here refl))
 
   pub one-more : (queues : List QueueState) (queue after : QueueState) → AreQueuesOf flow (with_files k files) queues → slice_get queues active.connection ≡ Some queue
-      → after ≡ record queue { files = with_file active.file queue.files; spare = after.spare } → AreQueuesOf flow (with_files k (files ++ active ∷ [])) (set queues active.connection after)
+      → after ≡ record queue { files = queue_with_file active.file queue.files; spare = after.spare } → AreQueuesOf flow (with_files k (files ++ active ∷ [])) (set queues active.connection after)
   one-more queues queue after are there is = record {
     count = length-set queues active.connection after ∙ are.count;
     each = λ place connection now at there_now.

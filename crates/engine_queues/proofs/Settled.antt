@@ -19,10 +19,10 @@ use Rattle.record_codec.specs.Placeless.{placeless, placeless_active, placeless_
 use Rattle.record_codec.specs.declared.entry.LogEntry.{LogEntry}
 use Rattle.record_codec.specs.declared.entry.LogEntry.TheVariants.{Begin, Session, Expire, SwapOut, SwapIn}
 use Rattle.record_codec.specs.declared.entry.SessionEntry.{SessionEntry}
-use Rattle.kept_state.specs.Applied.{number_of, is_among, left_after, with_files, applied}
+use Rattle.kept_state.specs.Applied.{active_number, is_file_among, left_after, with_files, applied}
 use Rattle.kept_state.specs.Arrivals.{arrival_of}
-use Rattle.kept_state.specs.Changes.{recorded, record_of, session_of, at_content, no_files}
-use Rattle.kept_state.specs.Fits.{active_of, are_distinct, are_active_in_one, are_new, has_place, has_count, keeps_counters, live, session_suits}
+use Rattle.kept_state.specs.Changes.{recorded_file, record_of, entry_of_session, at_content, no_files}
+use Rattle.kept_state.specs.Fits.{active_of, are_distinct_numbers, are_active_in_one, are_new, has_place, has_count, keeps_counters, live, session_suits}
 use Rattle.kept_state.proofs.Apart.{AreApart, none_from_any}
 use Rattle.kept_state.proofs.Items.{item_of-with, refl_eqb}
 use Rattle.kept_state.proofs.Keeping.{ascends-filter, suits_from}
@@ -31,7 +31,7 @@ use Rattle.kept_state.proofs.Placing.{placeless_session}
 use Rattle.machine_model.specs.declared.flow.Flow.{Flow}
 use Rattle.flow_queue.specs.Queue.{QueueState}
 use Rattle.engine_queues.specs.Queues.{AreQueuesOf}
-use Rattle.engine_queues.specs.Settling.{MaySettleOver, IsKeptAfter, HasRoomIn, HasRoomFor, connections_of, changed_at, queue_without, queues_without, queues_with, HasFiles, MayAllJoin, content_in, as_kept}
+use Rattle.engine_queues.specs.Settling.{MaySettleOver, IsKeptAfter, HasRoomIn, HasRoomFor, placed_connections, changed_at, queue_without, queues_without, queues_with, HasFiles, MayAllJoin, active_content, as_kept}
 use Rattle.engine_queues.proofs.Changing.{length-changed, room_out, leaving, all_into}
 
 -- ---- the entry that was applied
@@ -65,7 +65,7 @@ suits_same : (k : Kept) (s : SessionEntry) → session_suits no_files k (placele
 suits_same k s =
     let lives = live no_files (record k { files = left_after s.gone k.files }) in
     let test : List ℕ → List ℕ → Bool → Bool = λ numbers arrivals places.
-    are_distinct s.gone && are_active_in_one k.files s.gone && (are_new (λ f. f.number) numbers lives && are_new (λ f. f.arrival) arrivals lives) && places && has_count k.counts s.generator && keeps_counters k s in
+    are_distinct_numbers s.gone && are_active_in_one k.files s.gone && (are_new (λ f. f.number) numbers lives && are_new (λ f. f.arrival) arrivals lives) && places && has_count k.counts s.generator && keeps_counters k s in
     let numbers = map (λ a. a.file.number) s.placed in
     let arrivals = map (λ a. a.file.arrival) s.placed in
     ap (λ (ns : List ℕ). test ns (map (λ a. a.file.arrival) (map placeless_active s.placed)) (list_all (has_place k (placeless_session s)) (map placeless_active s.placed))) (parts_same (λ f. f.number) (λ a. refl) s.placed)
@@ -74,7 +74,7 @@ suits_same k s =
 
 -- ---- the placed files are found by their numbers
 
-not_again : (n : ℕ) (a : ActiveFile) (placed files : List ActiveFile) → active_of n files ≡ Some a → AreApart number_of placed files → list_any (λ m. m == n) (map number_of placed) ≡ false
+not_again : (n : ℕ) (a : ActiveFile) (placed files : List ActiveFile) → active_of n files ≡ Some a → AreApart active_number placed files → list_any (λ m. m == n) (map active_number placed) ≡ false
 not_again n a [] files there apart = refl
 not_again n a (b ∷ placed) files there apart =
     let other : (b.file.number == n) ≡ false = elim (cases_Bool (b.file.number == n)) [
@@ -83,22 +83,22 @@ not_again n a (b ∷ placed) files there apart =
           absurd cc
       | inr f ↦ f
     ] in
-    let still : active_of n (with_item number_of b files) ≡ Some a =
-    item_of-with number_of n b files ∙ ap (λ c. cond c (Some b) (active_of n files)) other ∙ there in
-    or_from (b.file.number == n) (list_any (λ m. m == n) (map number_of placed)) other (not_again n a placed (with_item number_of b files) still apart.1)
+    let still : active_of n (with_item active_number b files) ≡ Some a =
+    item_of-with active_number n b files ∙ ap (λ c. cond c (Some b) (active_of n files)) other ∙ there in
+    or_from (b.file.number == n) (list_any (λ m. m == n) (map active_number placed)) other (not_again n a placed (with_item active_number b files) still apart.1)
 
-pub found_joined : (placed left : List ActiveFile) → AreApart number_of placed left → All (λ (a : ActiveFile). active_of (number_of a) (with_files placed left) ≡ Some a) placed
-found_joined [] left apart = All-nil (λ (a : ActiveFile). active_of (number_of a) (with_files [] left) ≡ Some a)
+pub found_joined : (placed left : List ActiveFile) → AreApart active_number placed left → All (λ (a : ActiveFile). active_of (active_number a) (with_files placed left) ≡ Some a) placed
+found_joined [] left apart = All-nil (λ (a : ActiveFile). active_of (active_number a) (with_files [] left) ≡ Some a)
 found_joined (a ∷ placed) left apart =
-    let there : active_of (number_of a) (with_item number_of a left) ≡ Some a =
-    item_of-with number_of (number_of a) a left ∙ ap (λ c. cond c (Some a) (active_of (number_of a) left)) (refl_eqb (number_of a)) in
-    let other = not_again (number_of a) a placed (with_item number_of a left) there apart.1 in
-    All-cons (λ (b : ActiveFile). active_of (number_of b) (with_files (a ∷ placed) left) ≡ Some b) a placed
-    (stays_with (number_of a) placed (with_item number_of a left) other ∙ there) (found_joined placed (with_item number_of a left) apart.1)
+    let there : active_of (active_number a) (with_item active_number a left) ≡ Some a =
+    item_of-with active_number (active_number a) a left ∙ ap (λ c. cond c (Some a) (active_of (active_number a) left)) (refl_eqb (active_number a)) in
+    let other = not_again (active_number a) a placed (with_item active_number a left) there apart.1 in
+    All-cons (λ (b : ActiveFile). active_of (active_number b) (with_files (a ∷ placed) left) ≡ Some b) a placed
+    (stays_with (active_number a) placed (with_item active_number a left) other ∙ there) (found_joined placed (with_item active_number a left) apart.1)
 
 -- ---- the placed files as they are kept
 
-recorded_placeless : (connection : ℕ) (file : FlowFile) (fresh : Fresh) → placeless_active (recorded connection file fresh) ≡ placeless_active (active connection file)
+recorded_placeless : (connection : ℕ) (file : FlowFile) (fresh : Fresh) → placeless_active (recorded_file connection file fresh) ≡ placeless_active (active connection file)
 recorded_placeless connection file fresh = by (is_stored fresh)
   where
     by : (b : Bool) → placeless_active (active connection (cond b file (placeless file))) ≡ placeless_active (active connection file)
@@ -113,22 +113,22 @@ abbrev rest : List ActiveFile → List ActiveFile
 rest [] = []
 rest (a ∷ files) = files
 
-kept_one : (files : List ActiveFile) (p : Placed) (a : ActiveFile) → placeless_active a ≡ placeless_active (active p.connection p.file) → active_of (number_of a) files ≡ Some a → as_kept files p ≡ a
+kept_one : (files : List ActiveFile) (p : Placed) (a : ActiveFile) → placeless_active a ≡ placeless_active (active p.connection p.file) → active_of (active_number a) files ≡ Some a → as_kept files p ≡ a
 kept_one files p a same found =
     let number : p.file.number ≡ a.file.number = ap (λ (b : ActiveFile). b.file.number) (sym same) in
-    let content : content_in files p.file ≡ a.file.content =
+    let content : active_content files p.file ≡ a.file.content =
     ap (λ (o : Option ActiveFile). option_map_or (λ (b : ActiveFile). b.file.content) o p.file.content) (ap (λ (n : ℕ). active_of n files) number ∙ found) in
     ap (λ (at : ContentRef). at_content at (active p.connection p.file)) content ∙ ap (at_content a.file.content) (sym same)
 
 pub kept_as : (placed : List Placed) (entered files : List ActiveFile) → map placeless_active entered ≡ map placeless_active (map record_of placed)
-    → All (λ (a : ActiveFile). active_of (number_of a) files ≡ Some a) entered → map (as_kept files) placed ≡ entered
+    → All (λ (a : ActiveFile). active_of (active_number a) files ≡ Some a) entered → map (as_kept files) placed ≡ entered
 kept_as [] [] files same found = refl
 kept_as [] (a ∷ entered) files same found = absurd cc
 kept_as (p ∷ placed) [] files same found = absurd cc
 kept_as (p ∷ placed) (a ∷ entered) files same found =
     let one = ap (first (placeless_active a)) same ∙ recorded_placeless p.connection p.file p.fresh in
-    let here = kept_one files p a one (All-head (λ (b : ActiveFile). active_of (number_of b) files ≡ Some b) a entered found) in
-    let later = kept_as placed entered files (ap rest same) (All-tail (λ (b : ActiveFile). active_of (number_of b) files ≡ Some b) a entered found) in
+    let here = kept_one files p a one (All-head (λ (b : ActiveFile). active_of (active_number b) files ≡ Some b) a entered found) in
+    let later = kept_as placed entered files (ap rest same) (All-tail (λ (b : ActiveFile). active_of (active_number b) files ≡ Some b) a entered found) in
     ap (λ (b : ActiveFile). b ∷ map (as_kept files) placed) here ∙ ap (λ (l : List ActiveFile). a ∷ l) later
 
 -- their connections
@@ -168,9 +168,9 @@ of_recorded n (p ∷ placed) all =
 -- each placed file's connection has a queue
 pub placed_within : (flow : Flow) (k : Kept) (settled : Settled) (queues : List QueueState) → MaySettleOver flow k settled queues → All (λ (p : Placed). p.connection < length queues) settled.placed
 placed_within flow k settled queues over =
-    let suits = suits_from k (session_of k settled) over.no_batches over.may.suits in
+    let suits = suits_from k (entry_of_session k settled) over.no_batches over.may.suits in
     of_recorded (length queues) settled.placed
-    (have_connections k (session_of k settled) (length queues) (map record_of settled.placed) (over.connections ∙ sym over.of_kept.count) suits.places)
+    (have_connections k (entry_of_session k settled) (length queues) (map record_of settled.placed) (over.connections ∙ sym over.of_kept.count) suits.places)
 
 -- ---- the session as a whole
 
@@ -188,7 +188,7 @@ length-without connection (n ∷ numbers) queues =
 pub settled_in : (flow : Flow) (k : Kept) (connection : ℕ) (settled : Settled) (queues : List QueueState) (after : Kept) → MaySettleOver flow k settled queues → IsKeptAfter k connection settled after
     → HasRoomFor settled queues → IsSettledIn flow connection settled queues after
 settled_in flow k connection settled queues after over kept room =
-    let t = session_of k settled in
+    let t = entry_of_session k settled in
     let entry = session_from kept.entry t kept.same in
     let s = entry.session in
     let suits_t : session_suits no_files k (placeless_session t) ≡ true = suits_same k t ∙ over.may.suits in
@@ -200,20 +200,20 @@ settled_in flow k connection settled queues after over kept room =
     let applied_to : after ≡ applied no_files k (Session s) = kept.kept ∙ ap (applied no_files k) entry.is in
     let files : after.files ≡ with_files s.placed left = ap (λ (l : Kept). l.files) applied_to ∙ ap (λ (ns : List ℕ). with_files s.placed (left_after ns k.files)) gone in
     let mid : Kept = record k { files = left } in
-    let numbers : AreApart number_of s.placed left = subst (λ (ns : List ℕ). AreApart number_of s.placed (left_after ns k.files)) gone suits.numbers in
+    let numbers : AreApart active_number s.placed left = subst (λ (ns : List ℕ). AreApart active_number s.placed (left_after ns k.files)) gone suits.numbers in
     let arrivals : AreApart arrival_of s.placed left = subst (λ (ns : List ℕ). AreApart arrival_of s.placed (left_after ns k.files)) gone suits.arrivals in
-    let distinct : are_distinct settled.gone ≡ true = ap are_distinct (sym gone) ∙ suits.distinct in
+    let distinct : are_distinct_numbers settled.gone ≡ true = ap are_distinct_numbers (sym gone) ∙ suits.distinct in
     let out = leaving flow settled.gone k mid connection queues over.of_kept over.connections over.consistent distinct kept.active refl in
     let fewer = queues_without connection settled.gone queues in
     let many : length k.connections ≡ length fewer = over.connections ∙ sym over.of_kept.count ∙ sym (length-without connection settled.gone queues) in
     let within = have_connections k s (length fewer) s.placed many suits.places in
-    let connections : connections_of settled ≡ map (λ (a : ActiveFile). a.connection) s.placed =
+    let connections : placed_connections settled ≡ map (λ (a : ActiveFile). a.connection) s.placed =
     sym (connections_recorded settled.placed) ∙ ap (map (λ (a : ActiveFile). a.connection)) (sym placed) ∙ connections_placeless s.placed in
     let room_left : HasRoomIn (map (λ (a : ActiveFile). a.connection) s.placed) fewer =
-    subst (λ (cs : List ℕ). HasRoomIn cs fewer) connections (room_out connection settled.gone (connections_of settled) queues room) in
-    let ascends = ascends-filter number_of (λ a. not (is_among settled.gone a)) k.files over.consistent.numbers in
+    subst (λ (cs : List ℕ). HasRoomIn cs fewer) connections (room_out connection settled.gone (placed_connections settled) queues room) in
+    let ascends = ascends-filter active_number (λ a. not (is_file_among settled.gone a)) k.files over.consistent.numbers in
     let in_all = all_into flow s.placed mid after fewer out.0 ascends numbers arrivals within room_left files in
-    let found = subst (λ (fs : List ActiveFile). All (λ (a : ActiveFile). active_of (number_of a) fs ≡ Some a) s.placed) (sym files) (found_joined s.placed left numbers) in
+    let found = subst (λ (fs : List ActiveFile). All (λ (a : ActiveFile). active_of (active_number a) fs ≡ Some a) s.placed) (sym files) (found_joined s.placed left numbers) in
     let as_entered : map (as_kept after.files) settled.placed ≡ s.placed = kept_as settled.placed s.placed after.files placed found in
     record {
       leave = out.1;

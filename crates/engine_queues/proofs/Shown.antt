@@ -16,7 +16,7 @@ use Rattle.content_repo.specs.Slots.{end_of}
 use Rattle.machine_model.specs.declared.flow.Flow.{Flow}
 use Rattle.machine_model.specs.Files.{queues_of}
 use Rattle.machine_model.specs.View.{FileView, QueueView}
-use Rattle.flow_queue.specs.Queue.{QueueState, seen, views_of}
+use Rattle.flow_queue.specs.Queue.{QueueState, queue_as_seen, views_of}
 use Rattle.store_core.specs.State.{contents_damage, digest_damage, first_damage, state_with}
 use Rattle.engine_queues.specs.Laws.{HeldContentsHaveSizes, QueuesAreSeen, QueuesShowKept, SeesTheSame}
 use Rattle.engine_queues.specs.Queues.{AreQueuesOf, queue_seen}
@@ -39,11 +39,11 @@ shown_at flow k queues place is count are = elim (slice_get_cases flow.connectio
     | inl found ↦
         let files = (are.each place there.0 found.0 there.2 found.2).files in
         let views = ap views_of files ∙ held_views (filter (λ a. a.connection == place) k.files) in
-        ap (λ (queue : Option QueueState). option_map_or seen queue empty_queue) found.2 ∙ (λ i. record { active = views i; batches = [] })
+        ap (λ (queue : Option QueueState). option_map_or queue_as_seen queue empty_queue) found.2 ∙ (λ i. record { active = views i; batches = [] })
     | inr past ↦ absurd (omega (arith, there.1, past.0, are.count))
   ]
   | inr past ↦
-      ap (λ (queue : Option QueueState). option_map_or seen queue empty_queue) (slice_get_past queues place (omega (arith, past.0, are.count)))
+      ap (λ (queue : Option QueueState). option_map_or queue_as_seen queue empty_queue) (slice_get_past queues place (omega (arith, past.0, are.count)))
       ∙ sym (ap (λ (files : List ActiveFile). record { active = map (λ a. view_of_kept a.file) files; batches = [] }) (none_there k place is (omega (arith, past.0, count))))
 ]
 

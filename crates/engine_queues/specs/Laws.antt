@@ -19,7 +19,7 @@ use Rattle.machine_model.specs.Quiet.{blocked_but_for_swaps, gives_a_pick, has_s
 use Rattle.machine_model.specs.View.{QueueView}
 use Rattle.flow_queue.specs.Queue.{QueueState}
 use Rattle.store_core.specs.State.{state_with}
-use Rattle.store_core.specs.Store.{StoreState, kept_by, Holds}
+use Rattle.store_core.specs.Store.{StoreState, kept_by, FilesHold}
 use Rattle.engine_queues.specs.Queues.{AreQueuesOf, queue_seen}
 use Rattle.engine_queues.specs.Views.{HaveSizes, kept_queues}
 
@@ -60,7 +60,7 @@ QueuesAreSeen =
 -- files that hold what a store has in memory have each live content in its size
 abbrev pub HeldContentsHaveSizes : Type 0
 HeldContentsHaveSizes =
-    (s : StoreState) (files : Files) → Holds s files → HaveSizes (content_in files) (kept_by s)
+    (s : StoreState) (files : Files) → FilesHold s files → HaveSizes (content_in files) (kept_by s)
 
 -- ---- quiet and blocked
 

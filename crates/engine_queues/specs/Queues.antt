@@ -5,12 +5,12 @@ use Rattle.flowfile_record.specs.Stored.{Kept}
 use Rattle.machine_model.specs.declared.flow.Connection.{Connection}
 use Rattle.machine_model.specs.declared.flow.Flow.{Flow}
 use Rattle.machine_model.specs.View.{QueueView}
-use Rattle.flow_queue.specs.Queue.{QueueState, seen}
+use Rattle.flow_queue.specs.Queue.{QueueState, queue_as_seen}
 use Rattle.flow_queue.specs.declared.held.Held.{Held}
 
 -- the queue of the connection at a place, as it is seen
 abbrev pub queue_seen : List QueueState → ℕ → QueueView
-queue_seen queues place = option_map_or seen (slice_get queues place) (record { active = []; batches = [] })
+queue_seen queues place = option_map_or queue_as_seen (slice_get queues place) (record { active = []; batches = [] })
 
 -- the live files of the connection at a place, none of which a session works on
 abbrev pub held_of : Kept → ℕ → List Held

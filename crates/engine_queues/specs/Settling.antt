@@ -13,10 +13,10 @@ use Rattle.record_codec.specs.Placeless.{placeless_entry}
 use Rattle.record_codec.specs.declared.entry.LogEntry.{LogEntry}
 use Rattle.checkpoint_store.specs.Consistent.{IsConsistent}
 use Rattle.kept_state.specs.Applied.{applied}
-use Rattle.kept_state.specs.Changes.{entry_of, at_content, no_files, MaySettle}
-use Rattle.kept_state.specs.Fits.{active_of, are_active_in, are_distinct}
+use Rattle.kept_state.specs.Changes.{entry_of_change, at_content, no_files, MaySettleAs}
+use Rattle.kept_state.specs.Fits.{active_of, are_active_in, are_distinct_numbers}
 use Rattle.machine_model.specs.declared.flow.Flow.{Flow}
-use Rattle.flow_queue.specs.Queue.{QueueState, with_file, without_file, flight_of, IsApart}
+use Rattle.flow_queue.specs.Queue.{QueueState, queue_with_file, without_file, flight_of, IsApart}
 use Rattle.engine_queues.specs.Queues.{AreQueuesOf}
 
 -- ---- what is known before
@@ -27,22 +27,22 @@ pub record MaySettleOver (flow : Flow) (k : Kept) (settled : Settled) (queues : 
   pub connections : length k.connections ≡ length flow.connections
   pub consistent : IsConsistent k
   pub no_batches : k.batches ≡ []
-  pub may : MaySettle k settled
+  pub may : MaySettleAs k settled
 
 -- What is kept after the session: its new contents stand somewhere. The files that are gone were in this connection.
 pub record IsKeptAfter (k : Kept) (connection : ℕ) (settled : Settled) (after : Kept) : Type 0 where
   pub active : are_active_in k.files connection settled.gone ≡ true
   pub entry : LogEntry
-  pub same : placeless_entry entry ≡ placeless_entry (entry_of k (change.Session settled))
+  pub same : placeless_entry entry ≡ placeless_entry (entry_of_change k (change.Session settled))
   pub kept : after ≡ applied no_files k entry
 
 -- the queues are those of what is kept, and files of these numbers may expire in this connection
-pub record MayExpireIn (flow : Flow) (k : Kept) (connection : ℕ) (numbers : List ℕ) (queues : List QueueState)
+pub record MayExpireInQueues (flow : Flow) (k : Kept) (connection : ℕ) (numbers : List ℕ) (queues : List QueueState)
     : Type 0 where
   pub of_kept : AreQueuesOf flow k queues
   pub connections : length k.connections ≡ length flow.connections
   pub consistent : IsConsistent k
-  pub distinct : are_distinct numbers ≡ true
+  pub distinct : are_distinct_numbers numbers ≡ true
   pub active : are_active_in k.files connection numbers ≡ true
 
 -- each queue has room for the files that go into its connection, which are placed into these connections
@@ -51,12 +51,12 @@ pub record HasRoomIn (connections : List ℕ) (queues : List QueueState) : Type 
       → count_by (λ connection. connection == place) connections ≤ queue.spare
 
 -- the connections that the files of a session are placed into
-abbrev pub connections_of : Settled → List ℕ
-connections_of settled = map (λ placed. placed.connection) settled.placed
+abbrev pub placed_connections : Settled → List ℕ
+placed_connections settled = map (λ placed. placed.connection) settled.placed
 
 -- each queue has room for the files that a session places into it
 abbrev pub HasRoomFor : Settled → List QueueState → Type 0
-HasRoomFor settled queues = HasRoomIn (connections_of settled) queues
+HasRoomFor settled queues = HasRoomIn (placed_connections settled) queues
 
 -- the queue but for its room
 abbrev pub without_room : QueueState → QueueState
@@ -93,7 +93,7 @@ HasFiles place (number ∷ numbers) queues =
 -- ---- files join
 
 abbrev pub queue_with : FlowFile → QueueState → QueueState
-queue_with file queue = record queue { files = with_file file queue.files; spare = queue.spare - 1 }
+queue_with file queue = record queue { files = queue_with_file file queue.files; spare = queue.spare - 1 }
 
 -- the queues, each with the files that are active in its connection
 abbrev pub queues_with : List ActiveFile → List QueueState → List QueueState
@@ -113,9 +113,9 @@ MayAllJoin (a ∷ files) queues =
     MayJoin a queues × MayAllJoin files (changed_at a.connection (queue_with a.file) queues)
 
 -- the reference of the content of a file, as these active files have it
-abbrev pub content_in : List ActiveFile → FlowFile → ContentRef
-content_in files file = option_map_or (λ a. a.file.content) (active_of file.number files) file.content
+abbrev pub active_content : List ActiveFile → FlowFile → ContentRef
+active_content files file = option_map_or (λ a. a.file.content) (active_of file.number files) file.content
 
 -- the placed file, its content standing where these active files say
 abbrev pub as_kept : List ActiveFile → Placed → ActiveFile
-as_kept files placed = at_content (content_in files placed.file) (active placed.connection placed.file)
+as_kept files placed = at_content (active_content files placed.file) (active placed.connection placed.file)

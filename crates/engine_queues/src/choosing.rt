@@ -7,7 +7,7 @@ ghost use Rattle.machine_model.specs.declared.flow.Processor.{Processor};
 ghost use Rattle.machine_model.specs.Due.{due_expiry, first_due};
 ghost use Rattle.machine_model.specs.Quiet.{gives_a_pick, is_held_back, holds_back_any};
 ghost use Rattle.machine_model.specs.View.{QueueView};
-ghost use Rattle.flow_queue.specs.Queue.{seen, next_penalty_end};
+ghost use Rattle.flow_queue.specs.Queue.{queue_as_seen, next_penalty_end};
 ghost use Rattle.engine_queues.specs.Queues.{queue_seen};
 ghost use Rattle.engine_queues.specs.Choosing.{AreOf, picked_from, first_pick};
 
@@ -127,7 +127,7 @@ impl Queues {
 
     /// When the first penalty of a file ends that hasn't ended by a moment.
     pub fn next_penalty_end(&self, moment: u64) -> Option<u64>
-        ensures { result ≡ next_penalty_end moment (flat_map (λ queue. (seen queue).active) self.now) }
+        ensures { result ≡ next_penalty_end moment (flat_map (λ queue. (queue_as_seen queue).active) self.now) }
     {
         next_end(&self.list, moment)
     }
@@ -135,7 +135,7 @@ impl Queues {
 
 fn next_end(queues: &[Queue], moment: u64) -> Option<u64>
     ensures { result
-        ≡ reduce min (filter_map (λ queue. next_penalty_end moment (seen queue).active) queues.now) }
+        ≡ reduce min (filter_map (λ queue. next_penalty_end moment (queue_as_seen queue).active) queues.now) }
 {
     queues
         .iter()

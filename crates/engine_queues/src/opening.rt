@@ -2,7 +2,7 @@
 ghost use Rattle.std.specs.Prelude.{◌≡◌, length, map, IfOk, OnOk};
 ghost use Rattle.flowfile_record.specs.Stored.{kept_of};
 ghost use Rattle.checkpoint_store.specs.Consistent.{IsConsistent};
-ghost use Rattle.flow_queue.specs.Queue.{IsApart, with_file};
+ghost use Rattle.flow_queue.specs.Queue.{IsApart, queue_with_file};
 ghost use Rattle.engine_queues.specs.Queues.{AreQueuesOf};
 ghost use Rattle.engine_queues.specs.Opening.{empty_queue};
 
@@ -43,7 +43,7 @@ fn empty_queues(alloc: Global, connections: &[Connection]) -> Result<Vec<Queue>,
 fn put_copy(queue: &mut Queue, file: &FlowFile) -> Result<(), AllocError>
     requires { IsApart file.now queue.old.files }
     ensures { OnOk result
-        (queue.new ≡ record queue.old { files = with_file file.now queue.old.files; spare = queue.new.spare }) }
+        (queue.new ≡ record queue.old { files = queue_with_file file.now queue.old.files; spare = queue.new.spare }) }
 {
     let copy = file.copy()?;
     queue.reserve(1)?;

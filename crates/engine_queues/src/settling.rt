@@ -4,7 +4,7 @@ ghost use Rattle.flowfile_record.specs.Stored.{Kept, kept_of};
 ghost use Rattle.kept_state.specs.Applied.{left_after};
 ghost use Rattle.machine_model.specs.declared.flow.Flow.{Flow};
 ghost use Rattle.engine_queues.specs.Queues.{AreQueuesOf};
-ghost use Rattle.engine_queues.specs.Settling.{MaySettleOver, IsKeptAfter, MayExpireIn, HasRoomIn, HasRoomFor, without_room, queues_without, HasFiles, queues_with, MayAllJoin, as_kept};
+ghost use Rattle.engine_queues.specs.Settling.{MaySettleOver, IsKeptAfter, MayExpireInQueues, HasRoomIn, HasRoomFor, without_room, queues_without, HasFiles, queues_with, MayAllJoin, as_kept};
 
 use crate::Queues;
 use flow_queue::Queue;
@@ -37,8 +37,8 @@ impl Queues {
 
     /// The queues after files of a connection expired. It takes no memory.
     pub fn expire(&mut self, connection: u16, numbers: &[u64])
-        requires { (flow : Flow) × (k : Kept) × MayExpireIn flow k connection numbers.now self.old }
-        ensures { (flow : Flow) (k after : Kept) → MayExpireIn flow k connection numbers.now self.old
+        requires { (flow : Flow) × (k : Kept) × MayExpireInQueues flow k connection numbers.now self.old }
+        ensures { (flow : Flow) (k after : Kept) → MayExpireInQueues flow k connection numbers.now self.old
             → after.files ≡ left_after numbers.now k.files → AreQueuesOf flow after self.new }
     {
         take_out(&mut self.list, connection, numbers);

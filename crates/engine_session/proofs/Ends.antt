@@ -30,15 +30,15 @@ use Rattle.machine_model.specs.Making.{TakenFile, made_file, or_given_up, passed
 use Rattle.machine_model.specs.MergeContent.{joined, joined_attributes, joined_content, may_join, merge}
 use Rattle.machine_model.specs.Stepping.{as_taken}
 use Rattle.machine_model.proofs.Options.{if_and_then, if_map, if_where}
-use Rattle.process_session.specs.Bench.{source_of}
+use Rattle.process_session.specs.Bench.{taken_source}
 use Rattle.process_session.specs.declared.file.Source.{Source}
 use Rattle.process_session.specs.declared.file.Taken.{Taken}
 use Rattle.processor_api.specs.Acts.{KeepsGiven}
 use Rattle.settlement.specs.Contents.{IsBodyWithin, source_bytes}
-use Rattle.settlement.specs.Handed.{AreRead, sizes_of}
+use Rattle.settlement.specs.Handed.{AreReadSources, content_sizes}
 use Rattle.store_core.specs.State.{state_with}
 use Rattle.engine_core.specs.Committing.{MayCommit}
-use Rattle.engine_session.specs.Handing.{AreReadOf, MayEnd, fit_a_content, taken_from}
+use Rattle.engine_session.specs.Handing.{AreReadOf, MayEndSession, files_fit_a_content, taken_with_contents}
 use Rattle.engine_session.specs.Laws.{AreThere}
 use Rattle.engine_session.specs.Working.{IsWorkOf}
 use Rattle.engine_session.proofs.Handed.{source_lengths, source_sizes, taken-files-are-the-machines, taken-files-are-there, taken_count}
@@ -64,7 +64,7 @@ few kind count may = inl (omega (arith, may))
 
 -- and one file's content is read
 fits : (k : Kept) (connection : ℕ) (files : List FlowFile) → IsConsistent k → All (λ file. Contains k.files (active connection file)) files → length files ≤ 1
-    → fit_a_content files ≡ true
+    → files_fit_a_content files ≡ true
 fits k connection [] consistent there few = le-leb 0 CONTENT_MAX (omega arith)
 fits k connection (file ∷ []) consistent there few =
     let size : file.content.size ≤ CONTENT_MAX =
@@ -126,9 +126,9 @@ merge_within sources kind taken given outcome merges acts =
 
 -- ---- all of it
 
-module _ (flow : Flow) (k : Kept) (given : Given) (place connection : ℕ) (files : List FlowFile) (done : Outcome × List Source) (may : MayEnd flow k given place connection files done) where
+module _ (flow : Flow) (k : Kept) (given : Given) (place connection : ℕ) (files : List FlowFile) (done : Outcome × List Source) (may : MayEndSession flow k given place connection files done) where
   abbrev taken : List Taken
-  taken = taken_from k.store files may.contents
+  taken = taken_with_contents k.store files may.contents
 
   abbrev kind : Kind
   kind = may.may.processor.kind
@@ -139,28 +139,28 @@ module _ (flow : Flow) (k : Kept) (given : Given) (place connection : ℕ) (file
   there : AreThere k connection may.bytes files may.contents
   there = taken-files-are-there k connection may.numbers may.bytes files may.contents may.taken
 
-  sound : IsOutcome (length (relationships_of kind)) (sizes_of files) done.0
+  sound : IsOutcome (length (relationships_of kind)) (content_sizes files) done.0
   sound =
       subst (λ (sizes : List ℕ). IsOutcome (length (relationships_of kind)) sizes done.0)
-      (source_sizes k.store may.bytes (fit_a_content files) files may.contents may.taken.read) work.sound
+      (source_sizes k.store may.bytes (files_fit_a_content files) files may.contents may.taken.read) work.sound
 
   -- the content of one file was read
-  one_within : length taken ≤ 1 → AreWithin (map source_of taken) done.0
+  one_within : length taken ≤ 1 → AreWithin (map taken_source taken) done.0
   one_within one =
-      let n : length taken ≡ length files = taken_count k.store may.bytes (fit_a_content files) files may.contents may.taken.read in
-      let whole : fit_a_content files ≡ true = fits k connection files may.consistent there.there (omega (arith, n, one)) in
+      let n : length taken ≡ length files = taken_count k.store may.bytes (files_fit_a_content files) files may.contents may.taken.read in
+      let whole : files_fit_a_content files ≡ true = fits k connection files may.consistent there.there (omega (arith, n, one)) in
       let read : AreReadOf may.bytes true files may.contents = subst (λ (b : Bool). AreReadOf may.bytes b files may.contents) whole may.taken.read in
-      parts_within (length (relationships_of kind)) (sizes_of files) (map source_of taken) done.0 sound (λ of. source_lengths k.store may.bytes files may.contents of read)
+      parts_within (length (relationships_of kind)) (content_sizes files) (map taken_source taken) done.0 sound (λ of. source_lengths k.store may.bytes files may.contents of read)
 
-  merged : IsMerge kind → AreWithin (map source_of taken) done.0
+  merged : IsMerge kind → AreWithin (map taken_source taken) done.0
   merged merges =
       let seen : List TakenFile = map (as_taken (state_with may.bytes [] k)) (map (queued_file may.bytes) files) in
-      merge_within (map source_of taken) kind seen given done.0 merges
+      merge_within (map taken_source taken) kind seen given done.0 merges
       (work.outcome seen (taken-files-are-the-machines k connection may.numbers may.bytes files may.contents [] may.taken))
 
   pub may_commit : (left : Given) → KeepsGiven given left → MayCommit flow left k (record { processor = place; connection = connection; taken = files; sources = done.1; outcome = done.0 })
   may_commit left keeps =
-      let sources : map source_of taken ≡ done.1 = sym work.sources in
+      let sources : map taken_source taken ≡ done.1 = sym work.sources in
       let index : left.index ≡ given.index = ap (λ (g : Given). g.index) keeps.but_bytes in
       record {
         processor = place_below flow.processors place may.may.processor may.may.found;
@@ -171,5 +171,5 @@ module _ (flow : Flow) (k : Kept) (given : Given) (place connection : ℕ) (file
         outcome = sound;
         parts = subst (λ (s : List Source). AreWithin s done.0) sources (⊎_elim one_within merged (few kind (length taken) may.may.handed.count));
         bytes = may.bytes;
-        read = subst (λ (s : List Source). AreRead may.bytes files s) sources there.read;
+        read = subst (λ (s : List Source). AreReadSources may.bytes files s) sources there.read;
       }

@@ -16,39 +16,39 @@ use Rattle.machine_model.specs.Kinds.{take_rule_of}
 use Rattle.machine_model.specs.Laws.{MayTake}
 use Rattle.machine_model.specs.State.{State}
 use Rattle.machine_model.specs.Stepping.{as_taken}
-use Rattle.process_session.specs.Bench.{HasItsSize, IsWhole, source_of}
+use Rattle.process_session.specs.Bench.{HasItsSize, IsWhole, taken_source}
 use Rattle.process_session.specs.Bench as bench
 use Rattle.process_session.specs.declared.file.Taken.{Taken}
 use Rattle.processor_api.specs.Acts as acts
 use Rattle.processor_api.specs.Acts.{AreTakenAs}
 use Rattle.settlement.specs.Contents.{source_bytes}
-use Rattle.settlement.specs.Handed.{AreRead, sizes_of}
+use Rattle.settlement.specs.Handed.{AreReadSources, content_sizes}
 use Rattle.store_core.specs.State.{state_with}
-use Rattle.engine_session.specs.Handing.{AreReadOf, AreTaken, fit_a_content, live_files, taken_as, taken_from}
+use Rattle.engine_session.specs.Handing.{AreReadOf, AreTaken, files_fit_a_content, live_files, taken_as, taken_with_contents}
 use Rattle.engine_session.specs.Laws.{TakenFilesAreTheMachines, TakenFilesAreThere, TakenFilesMayBeHanded}
 use Rattle.engine_session.proofs.Lookups.{live_count, live_differ, live_there}
 
 -- ---- how many, and how large
 
 pub taken_count : (store : ℕ) (bytes : ContentRef → List ℕ) (fits : Bool) (files : List FlowFile) (contents : List (Option (List ℕ))) → AreReadOf bytes fits files contents
-    → length (taken_from store files contents) ≡ length files
+    → length (taken_with_contents store files contents) ≡ length files
 taken_count store bytes fits [] [] read = refl
 taken_count store bytes fits [] (one ∷ contents) read = absurd read
 taken_count store bytes fits (file ∷ files) [] read = absurd read
 taken_count store bytes fits (file ∷ files) (one ∷ contents) read = ap suc (taken_count store bytes fits files contents read.1)
 
 taken_sizes : (store : ℕ) (bytes : ContentRef → List ℕ) (fits : Bool) (files : List FlowFile) (contents : List (Option (List ℕ))) → AreReadOf bytes fits files contents
-    → sum_by (λ one. one.size) (taken_from store files contents) ≡ sum_by (λ file. file.content.size) files
+    → sum_by (λ one. one.size) (taken_with_contents store files contents) ≡ sum_by (λ file. file.content.size) files
 taken_sizes store bytes fits [] [] read = refl
 taken_sizes store bytes fits [] (one ∷ contents) read = absurd read
 taken_sizes store bytes fits (file ∷ files) [] read = absurd read
 taken_sizes store bytes fits (file ∷ files) (one ∷ contents) read =
-    sum_by-cons (λ (t : Taken). t.size) (taken_as store (file, one)) (taken_from store files contents)
+    sum_by-cons (λ (t : Taken). t.size) (taken_as store (file, one)) (taken_with_contents store files contents)
     ∙ ap (λ n. file.content.size + n) (taken_sizes store bytes fits files contents read.1)
     ∙ sym (sum_by-cons (λ (f : FlowFile). f.content.size) file files)
 
 pub source_sizes : (store : ℕ) (bytes : ContentRef → List ℕ) (fits : Bool) (files : List FlowFile) (contents : List (Option (List ℕ))) → AreReadOf bytes fits files contents
-    → bench.sizes_of (map source_of (taken_from store files contents)) ≡ sizes_of files
+    → bench.sizes_of (map taken_source (taken_with_contents store files contents)) ≡ content_sizes files
 source_sizes store bytes fits [] [] read = refl
 source_sizes store bytes fits [] (one ∷ contents) read = absurd read
 source_sizes store bytes fits (file ∷ files) [] read = absurd read
@@ -58,7 +58,7 @@ source_sizes store bytes fits (file ∷ files) (one ∷ contents) read =
 -- ---- what was read
 
 pub are_read : (store : ℕ) (bytes : ContentRef → List ℕ) (fits : Bool) (files : List FlowFile) (contents : List (Option (List ℕ))) → AreReadOf bytes fits files contents
-    → AreRead bytes files (map source_of (taken_from store files contents))
+    → AreReadSources bytes files (map taken_source (taken_with_contents store files contents))
 are_read store bytes fits [] [] read = tt
 are_read store bytes fits [] (one ∷ contents) read = absurd read
 are_read store bytes fits (file ∷ files) [] read = absurd read
@@ -66,7 +66,7 @@ are_read store bytes fits (file ∷ files) (one ∷ contents) read =
     (record { size = read.0.size; digest = read.0.digest; read = read.0.is }, are_read store bytes fits files contents read.1)
 
 pub are_taken_as : (state : State) (bytes : ContentRef → List ℕ) (fits : Bool) (files : List FlowFile) (contents : List (Option (List ℕ))) → AreReadOf bytes fits files contents
-    → AreTakenAs (map (as_taken state) (map (queued_file bytes) files)) (taken_from state.store files contents)
+    → AreTakenAs (map (as_taken state) (map (queued_file bytes) files)) (taken_with_contents state.store files contents)
 are_taken_as state bytes fits [] [] read = tt
 are_taken_as state bytes fits [] (one ∷ contents) read = absurd read
 are_taken_as state bytes fits (file ∷ files) [] read = absurd read
@@ -79,51 +79,51 @@ whole_as content size None is same = tt
 whole_as content size (Some read) is same = ap length same ∙ sym is
 
 are_whole : (store : ℕ) (bytes : ContentRef → List ℕ) (fits : Bool) (files : List FlowFile) (contents : List (Option (List ℕ))) → AreReadOf bytes fits files contents
-    → All IsWhole (taken_from store files contents)
+    → All IsWhole (taken_with_contents store files contents)
 are_whole store bytes fits [] [] read = All-nil IsWhole
 are_whole store bytes fits [] (one ∷ contents) read = absurd read
 are_whole store bytes fits (file ∷ files) [] read = absurd read
 are_whole store bytes fits (file ∷ files) (one ∷ contents) read =
-    All-cons IsWhole (taken_as store (file, one)) (taken_from store files contents)
+    All-cons IsWhole (taken_as store (file, one)) (taken_with_contents store files contents)
     (whole_as (bytes file.content) file.content.size one read.0.size read.0.is) (are_whole store bytes fits files contents read.1)
 
 -- no content is longer than one may be
 are_small : (store : ℕ) (bytes : ContentRef → List ℕ) (fits : Bool) (files : List FlowFile) (contents : List (Option (List ℕ))) → All (λ file. file.content.size ≤ CONTENT_MAX) files
-    → AreReadOf bytes fits files contents → All (λ one. one.size ≤ CONTENT_MAX) (taken_from store files contents)
+    → AreReadOf bytes fits files contents → All (λ one. one.size ≤ CONTENT_MAX) (taken_with_contents store files contents)
 are_small store bytes fits [] [] small read = All-nil (λ (one : Taken). one.size ≤ CONTENT_MAX)
 are_small store bytes fits [] (one ∷ contents) small read = absurd read
 are_small store bytes fits (file ∷ files) [] small read = absurd read
 are_small store bytes fits (file ∷ files) (one ∷ contents) small read =
-    All-cons (λ (t : Taken). t.size ≤ CONTENT_MAX) (taken_as store (file, one)) (taken_from store files contents)
+    All-cons (λ (t : Taken). t.size ≤ CONTENT_MAX) (taken_as store (file, one)) (taken_with_contents store files contents)
     (All-head (λ (f : FlowFile). f.content.size ≤ CONTENT_MAX) file files small)
     (are_small store bytes fits files contents (All-tail (λ (f : FlowFile). f.content.size ≤ CONTENT_MAX) file files small) read.1)
 
 are_filled : (store : ℕ) (bytes : ContentRef → List ℕ) (fits : Bool) (files : List FlowFile) (contents : List (Option (List ℕ))) → AreReadOf bytes fits files contents
-    → All (λ one. is_some one.bytes ≡ fits) (taken_from store files contents)
+    → All (λ one. is_some one.bytes ≡ fits) (taken_with_contents store files contents)
 are_filled store bytes fits [] [] read = All-nil (λ (one : Taken). is_some one.bytes ≡ fits)
 are_filled store bytes fits [] (one ∷ contents) read = absurd read
 are_filled store bytes fits (file ∷ files) [] read = absurd read
 are_filled store bytes fits (file ∷ files) (one ∷ contents) read =
-    All-cons (λ (t : Taken). is_some t.bytes ≡ fits) (taken_as store (file, one)) (taken_from store files contents) read.0.filled
+    All-cons (λ (t : Taken). is_some t.bytes ≡ fits) (taken_as store (file, one)) (taken_with_contents store files contents) read.0.filled
     (are_filled store bytes fits files contents read.1)
 
 handed_read : (store : ℕ) (bytes : ContentRef → List ℕ) (files : List FlowFile) (contents : List (Option (List ℕ))) → All (λ file. file.content.size ≤ CONTENT_MAX) files
-    → AreReadOf bytes (fit_a_content files) files contents → acts.AreRead (taken_from store files contents)
+    → AreReadOf bytes (files_fit_a_content files) files contents → acts.AreRead (taken_with_contents store files contents)
 handed_read store bytes files contents small read =
-    let fits : fit_a_content files ≡ acts.fit_a_content (taken_from store files contents) =
-    ap (λ n. nat_le n CONTENT_MAX) (sym (taken_sizes store bytes (fit_a_content files) files contents read)) in
+    let fits : files_fit_a_content files ≡ acts.fit_a_content (taken_with_contents store files contents) =
+    ap (λ n. nat_le n CONTENT_MAX) (sym (taken_sizes store bytes (files_fit_a_content files) files contents read)) in
     record {
-      small = are_small store bytes (fit_a_content files) files contents small read;
-      whole = are_whole store bytes (fit_a_content files) files contents read;
-      filled = subst (λ (b : Bool). All (λ one. is_some one.bytes ≡ b) (taken_from store files contents)) fits (are_filled store bytes (fit_a_content files) files contents read);
+      small = are_small store bytes (files_fit_a_content files) files contents small read;
+      whole = are_whole store bytes (files_fit_a_content files) files contents read;
+      filled = subst (λ (b : Bool). All (λ one. is_some one.bytes ≡ b) (taken_with_contents store files contents)) fits (are_filled store bytes (files_fit_a_content files) files contents read);
     }
 
 -- ---- the laws
 
 pub files_count : (k : Kept) (connection : ℕ) (numbers : List ℕ) (bytes : ContentRef → List ℕ) (files : List FlowFile) (contents : List (Option (List ℕ))) → AreTaken k connection numbers bytes files contents
-    → length (taken_from k.store files contents) ≡ length numbers
+    → length (taken_with_contents k.store files contents) ≡ length numbers
 files_count k connection numbers bytes files contents taken =
-    taken_count k.store bytes (fit_a_content files) files contents taken.read ∙ ap length taken.are ∙ live_count k connection numbers taken.active
+    taken_count k.store bytes (files_fit_a_content files) files contents taken.read ∙ ap length taken.are ∙ live_count k connection numbers taken.active
 
 -- the files of a consistent state are within the limits of flow files
 live_small : (k : Kept) → IsConsistent k → (connection : ℕ) (files : List FlowFile) → All (λ file. Contains k.files (active connection file)) files → All (λ file. file.content.size ≤ CONTENT_MAX) files
@@ -148,20 +148,20 @@ taken-files-may-be-handed k connection numbers bytes files contents kind given c
 
 pub taken-files-are-the-machines : TakenFilesAreTheMachines
 taken-files-are-the-machines k connection numbers bytes files contents events taken =
-    are_taken_as (state_with bytes events k) bytes (fit_a_content files) files contents taken.read
+    are_taken_as (state_with bytes events k) bytes (files_fit_a_content files) files contents taken.read
 
 pub taken-files-are-there : TakenFilesAreThere
 taken-files-are-there k connection numbers bytes files contents taken = record {
   there = subst (λ (f : List FlowFile). All (λ file. Contains k.files (active connection file)) f) (sym taken.are) (live_there k connection numbers taken.active);
   differ = subst (λ (f : List FlowFile). AllPairs (λ one other. one.number ≢ other.number) f) (sym taken.are) (live_differ k connection numbers taken.active taken.distinct);
-  read = are_read k.store bytes (fit_a_content files) files contents taken.read;
+  read = are_read k.store bytes (files_fit_a_content files) files contents taken.read;
 }
 
 -- ---- parts of what was read
 
 -- where all contents were read, each is as long as its file says
 pub source_lengths : (store : ℕ) (bytes : ContentRef → List ℕ) (files : List FlowFile) (contents : List (Option (List ℕ))) (of : ℕ) → AreReadOf bytes true files contents
-    → slice_index (sizes_of files) of ≡ length (source_bytes (map source_of (taken_from store files contents)) of)
+    → slice_index (content_sizes files) of ≡ length (source_bytes (map taken_source (taken_with_contents store files contents)) of)
 source_lengths store bytes [] [] of read = refl
 source_lengths store bytes [] (one ∷ contents) of read = absurd read
 source_lengths store bytes (file ∷ files) [] of read = absurd read

@@ -9,8 +9,8 @@ use Rattle.flowfile_record.specs.Stored.{Kept}
 use Rattle.flowfile_record.specs.declared.flow_file.FlowFile.{FlowFile}
 use Rattle.flowfile_record.specs.declared.stored.ActiveFile.{ActiveFile}
 use Rattle.record_codec.specs.ActiveFile.{active}
-use Rattle.kept_state.specs.Applied.{number_of}
-use Rattle.kept_state.specs.Fits.{active_of, are_active_in, are_distinct, is_in}
+use Rattle.kept_state.specs.Applied.{active_number}
+use Rattle.kept_state.specs.Fits.{active_of, are_active_in, are_distinct_numbers, is_in_connection}
 use Rattle.machine_model.specs.Files as files
 use Rattle.machine_model.proofs.Among.{Among, all_among, contains_among}
 use Rattle.machine_model.proofs.Keyed.{differ_from_once}
@@ -19,14 +19,14 @@ use Rattle.engine_session.specs.Handing.{live_files}
 
 -- ---- one file
 
-pub found_active : (a : ActiveFile) (files : List ActiveFile) → AscendsByNumber number_of files → Among a files → active_of (number_of a) files ≡ Some a
+pub found_active : (a : ActiveFile) (files : List ActiveFile) → AscendsByNumber active_number files → Among a files → active_of (active_number a) files ≡ Some a
 found_active a [] ascends there = absurd there
 found_active a (b ∷ files) ascends (inl same) =
-    let yes : (number_of b == number_of a) ≡ true = eq-eqb (number_of b) (number_of a) (ap number_of same) in
+    let yes : (active_number b == active_number a) ≡ true = eq-eqb (active_number b) (active_number a) (ap active_number same) in
     rw yes (ap (λ (x : ActiveFile). Some x) same)
 found_active a (b ∷ files) ascends (inr later) =
-    let above : number_of b < number_of a = all_among (λ l. number_of b < number_of l) a files ascends.0 later in
-    let other : (number_of b == number_of a) ≡ false = ne_eqb (number_of b) (number_of a) (λ e. omega arith) in
+    let above : active_number b < active_number a = all_among (λ l. active_number b < active_number l) a files ascends.0 later in
+    let other : (active_number b == active_number a) ≡ false = ne_eqb (active_number b) (active_number a) (λ e. omega arith) in
     rw other (found_active a files ascends.1 later)
 
 -- the live file of a number
@@ -38,14 +38,14 @@ pub record HasLive (files : List ActiveFile) (connection number : ℕ) : Type 0 
 
 record IsItem (files : List ActiveFile) (number : ℕ) (a : ActiveFile) : Type 0 where
   there : Among a files
-  named : number_of a ≡ number
+  named : active_number a ≡ number
 
 item_found : (files : List ActiveFile) (number : ℕ) (a : ActiveFile) → active_of number files ≡ Some a → IsItem files number a
 item_found [] number a is = absurd cc
 item_found (b ∷ files) number a is =
-    elim (cases_Bool (number_of b == number)) [
+    elim (cases_Bool (active_number b == number)) [
       | inl t ↦ let same : b ≡ a = some_same b a (sym (ap (λ t. cond t (Some b) (active_of number files)) t) ∙ is) in
-          record { there = inl same; named = ap number_of (sym same) ∙ eqb-true (number_of b) number t }
+          record { there = inl same; named = ap active_number (sym same) ∙ eqb-true (active_number b) number t }
       | inr f ↦ let rest = item_found files number a (sym (ap (λ t. cond t (Some b) (active_of number files)) f) ∙ is) in
           record { there = inr rest.there; named = rest.named }
     ]
@@ -53,7 +53,7 @@ item_found (b ∷ files) number a is =
     some_same : (x y : ActiveFile) → ◌≡◌ {A = Option ActiveFile} (Some x) (Some y) → x ≡ y
     some_same x y same = cc
 
-has_live : (files : List ActiveFile) (connection number : ℕ) (o : Option ActiveFile) → active_of number files ≡ o → is_in connection o ≡ true → HasLive files connection number
+has_live : (files : List ActiveFile) (connection number : ℕ) (o : Option ActiveFile) → active_of number files ≡ o → is_in_connection connection o ≡ true → HasLive files connection number
 has_live files connection number None is within = absurd (false≢true within)
 has_live files connection number (Some a) is within =
     let item = item_found files number a is in
@@ -69,7 +69,7 @@ pub live_head : (files : List ActiveFile) (connection number : ℕ) (numbers : L
 live_head files connection number numbers all = has_live files connection number (active_of number files) refl (and_parts _ _ all).0
 
 pub live_rest : (files : List ActiveFile) (connection number : ℕ) (numbers : List ℕ) → are_active_in files connection (number ∷ numbers) ≡ true → are_active_in files connection numbers ≡ true
-live_rest files connection number numbers all = (and_parts (is_in connection (active_of number files)) (are_active_in files connection numbers) all).1
+live_rest files connection number numbers all = (and_parts (is_in_connection connection (active_of number files)) (are_active_in files connection numbers) all).1
 
 -- ---- all of them
 
@@ -107,10 +107,10 @@ none_among number (other ∷ numbers) none =
       | inr f ↦ rw f (omega (arith, none_among number numbers (sym (ap (λ b. b || list_any (λ m. m == number) numbers) f) ∙ none)))
     ]
 
-once : (numbers : List ℕ) → are_distinct numbers ≡ true → (n : ℕ) → many (λ (m : ℕ). m) n numbers ≤ 1
+once : (numbers : List ℕ) → are_distinct_numbers numbers ≡ true → (n : ℕ) → many (λ (m : ℕ). m) n numbers ≤ 1
 once [] distinct n = omega arith
 once (number ∷ numbers) distinct n =
-    let both = and_parts (not (list_any (λ m. m == number) numbers)) (are_distinct numbers) distinct in
+    let both = and_parts (not (list_any (λ m. m == number) numbers)) (are_distinct_numbers numbers) distinct in
     elim (cases_eq number n) [
       | inl e ↦
           let yes : (number == n) ≡ true = eq-eqb number n e in
@@ -123,7 +123,7 @@ once (number ∷ numbers) distinct n =
     is_not true h = absurd (false≢true h)
     is_not false h = refl
 
-pub live_differ : (k : Kept) (connection : ℕ) (numbers : List ℕ) → are_active_in k.files connection numbers ≡ true → are_distinct numbers ≡ true
+pub live_differ : (k : Kept) (connection : ℕ) (numbers : List ℕ) → are_active_in k.files connection numbers ≡ true → are_distinct_numbers numbers ≡ true
     → AllPairs (λ one other. one.number ≢ other.number) (live_files k numbers)
 live_differ k connection numbers all distinct =
     differ_from_once (λ (file : FlowFile). file.number) (live_files k numbers)
@@ -140,7 +140,7 @@ found_any number (other ∷ numbers) =
       | false ↦ found_any number numbers
     ]
 
-pub distinct_as : (numbers : List ℕ) → files.are_distinct numbers ≡ are_distinct numbers
+pub distinct_as : (numbers : List ℕ) → files.are_distinct numbers ≡ are_distinct_numbers numbers
 distinct_as [] = refl
 distinct_as (number ∷ numbers) =
     ap (λ b. not b && files.are_distinct numbers) (found_any number numbers)

@@ -9,8 +9,8 @@ use Rattle.flowfile_record.specs.declared.content.ContentRef.{ContentRef}
 use Rattle.flowfile_record.specs.declared.event.Event.{Event}
 use Rattle.flowfile_record.specs.declared.stored.ActiveFile.{ActiveFile}
 use Rattle.checkpoint_store.specs.Consistent.{IsConsistent}
-use Rattle.kept_state.specs.Applied.{number_of}
-use Rattle.kept_state.specs.Fits.{active_of, are_active_in, is_in}
+use Rattle.kept_state.specs.Applied.{active_number}
+use Rattle.kept_state.specs.Fits.{active_of, are_active_in, is_in_connection}
 use Rattle.machine_model.specs.declared.flow.Connection.{Connection}
 use Rattle.machine_model.specs.declared.flow.Flow.{Flow}
 use Rattle.machine_model.specs.declared.kind.TakeRule.{TakeRule}
@@ -26,10 +26,10 @@ use Rattle.machine_model.proofs.Among.{Among, among_contained, contains_among, k
 use Rattle.machine_model.proofs.Numbered.{found-itself, own-numbers}
 use Rattle.machine_model.proofs.Tally.{find-passes}
 use Rattle.store_core.specs.Flow as store
-use Rattle.store_core.specs.State.{queued, state_with}
+use Rattle.store_core.specs.State.{queued_active, state_with}
 use Rattle.store_core.specs.Valid.{KeptIsValid, QueuedFilesAreLive}
 use Rattle.engine_session.specs.Handing.{live_files}
-use Rattle.engine_session.specs.Laws.{AreLive, MachinesFilesAreLive}
+use Rattle.engine_session.specs.Laws.{AreLiveFiles, MachinesFilesAreLive}
 use Rattle.engine_session.proofs.Lookups.{distinct_as, found_active}
 
 -- what is kept, as the machine sees it
@@ -49,7 +49,7 @@ record IsSame (k : Kept) (bytes : ContentRef → List ℕ) (queue : List QueuedF
   active : ActiveFile
   found : active_of number k.files ≡ Some active
   place : active.connection ≡ connection
-  same : file_numbered queue number ≡ Some (queued bytes active)
+  same : file_numbered queue number ≡ Some (queued_active bytes active)
 
 -- the file that was found
 record IsFound (queue : List QueuedFile) (number : ℕ) : Type 0 where
@@ -80,7 +80,7 @@ module _ (k : Kept) (bytes : ContentRef → List ℕ) (events : List Event) (see
   is_same : (connection number : ℕ) → IsFound (queue_at state connection) number → IsSame k bytes (queue_at state connection) connection number
   is_same connection number found =
       let live = seen.live bytes events k connection found.file (contains_among found.file (queue_at state connection) found.there) in
-      let named : number_of live.active ≡ number = ap (λ (f : QueuedFile). f.number) live.is ∙ found.named in
+      let named : active_number live.active ≡ number = ap (λ (f : QueuedFile). f.number) live.is ∙ found.named in
       record {
         active = live.active;
         found = ap (λ n. active_of n k.files) (sym named) ∙ found_active live.active k.files seen.consistent.numbers (among_contained live.active k.files live.there);
@@ -105,8 +105,8 @@ module _ (k : Kept) (bytes : ContentRef → List ℕ) (events : List Event) (see
   all_active connection [] all = refl
   all_active connection (number ∷ numbers) all =
       let one = head_same connection number numbers all in
-      and_from (is_in connection (active_of number k.files)) (are_active_in k.files connection numbers)
-      (ap (is_in connection) one.found ∙ eq-eqb one.active.connection connection one.place)
+      and_from (is_in_connection connection (active_of number k.files)) (are_active_in k.files connection numbers)
+      (ap (is_in_connection connection) one.found ∙ eq-eqb one.active.connection connection one.place)
       (all_active connection numbers (rest_active connection number numbers all))
 
   all_same : (connection : ℕ) (numbers : List ℕ) → are_active (queue_at state connection) numbers ≡ true
@@ -115,18 +115,18 @@ module _ (k : Kept) (bytes : ContentRef → List ℕ) (events : List Event) (see
   all_same connection (number ∷ numbers) all =
       let one = head_same connection number numbers all in
       ap (λ (o : Option QueuedFile). cons_option o (files_of (queue_at state connection) numbers)) one.same
-      ∙ ap (λ (rest : List QueuedFile). queued bytes one.active ∷ rest) (all_same connection numbers (rest_active connection number numbers all))
+      ∙ ap (λ (rest : List QueuedFile). queued_active bytes one.active ∷ rest) (all_same connection numbers (rest_active connection number numbers all))
       ∙ sym (ap (λ (o : Option ActiveFile). map (queued_file bytes) (cons_option (option_map (λ (a : ActiveFile). a.file) o) (live_files k numbers))) one.found)
 
   abbrev seen_of : ℕ → List ℕ → List FileView
   seen_of connection numbers = map view_of (files_of (queue_at state connection) numbers)
 
   from_connection : (rule : TakeRule) (numbers : List ℕ) (moment : ℕ) (files : List QueuedFile) (at : ℕ × Connection) → are_active (queue_at state at.0) numbers ≡ true
-      → taken_from state rule numbers moment at ≡ Some files → AreLive k bytes numbers files
+      → taken_from state rule numbers moment at ≡ Some files → AreLiveFiles k bytes numbers files
   from_connection rule numbers moment files at all taken =
       decide (queues.are_distinct numbers) (list_all (may_be_taken at.1 moment) (seen_of at.0 numbers)) (admits rule at.1.order (seen_of at.0 numbers)) refl taken
     where
-      decide : (b c d : Bool) → queues.are_distinct numbers ≡ b → cond ((b && c) && d) (Some (files_of (queue_at state at.0) numbers)) None ≡ Some files → AreLive k bytes numbers files
+      decide : (b c d : Bool) → queues.are_distinct numbers ≡ b → cond ((b && c) && d) (Some (files_of (queue_at state at.0) numbers)) None ≡ Some files → AreLiveFiles k bytes numbers files
       decide true true true distinct is = record {
         connection = at.0;
         active = all_active at.0 numbers all;
@@ -138,7 +138,7 @@ module _ (k : Kept) (bytes : ContentRef → List ℕ) (events : List Event) (see
       decide false c d distinct is = absurd cc
 
   from_source : (flow : Flow) (place : ℕ) (rule : TakeRule) (numbers : List ℕ) (moment : ℕ) (files : List QueuedFile) (o : Option (ℕ × Connection)) → source_of flow state place numbers ≡ o
-      → option_and_then (taken_from state rule numbers moment) o ≡ Some files → AreLive k bytes numbers files
+      → option_and_then (taken_from state rule numbers moment) o ≡ Some files → AreLiveFiles k bytes numbers files
   from_source flow place rule numbers moment files None is taken = absurd cc
   from_source flow place rule numbers moment files (Some at) is taken =
       from_connection rule numbers moment files at
@@ -146,7 +146,7 @@ module _ (k : Kept) (bytes : ContentRef → List ℕ) (events : List Event) (see
       taken
 
   are_live : (flow : Flow) (place : ℕ) (rule : TakeRule) (numbers : List ℕ) (moment : ℕ) (files : List QueuedFile) → taken_files flow state place rule numbers moment ≡ Some files
-      → AreLive k bytes numbers files
+      → AreLiveFiles k bytes numbers files
   are_live flow place Source [] moment files taken = record { connection = 0; active = refl; distinct = refl; are = sym (some_same [] files taken) }
   are_live flow place Source (number ∷ numbers) moment files taken = absurd cc
   are_live flow place One numbers moment files taken = from_source flow place One numbers moment files (source_of flow state place numbers) refl taken

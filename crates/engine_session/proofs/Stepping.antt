@@ -9,7 +9,7 @@ use Rattle.machine_model.specs.Settling.{settle}
 use Rattle.machine_model.specs.State.{QueuedFile, State, World, Machine}
 use Rattle.machine_model.specs.Stepping.{after_session, given_in, session_after, session_step, world_after}
 use Rattle.machine_model.specs.Stepping as stepping
-use Rattle.settlement.specs.Handed.{session_of}
+use Rattle.settlement.specs.Handed.{ended_session}
 use Rattle.store_core.specs.State.{state_with}
 use Rattle.engine_session.specs.Steps.{SessionsAreSteps, SettledSessionsAreSteps, machine_in}
 
@@ -40,10 +40,10 @@ without-bytes session bytes outcome = refl
 pub settled-sessions-are-steps : SettledSessionsAreSteps
 settled-sessions-are-steps flow world numbers moment given handed left ended processor contents events k settled is keeps leaves ranges read row =
     let state : State = state_with contents events k in
-    let session : EndedSession = session_of flow handed ended processor contents state in
+    let session : EndedSession = ended_session flow handed ended processor contents state in
     let settles : state_after contents state settled ≡ settle session ended.outcome =
     leaves processor is.processor contents ranges read events row
-    ∙ ap (λ (g : Given). settle (session_of flow g ended processor contents state) ended.outcome) keeps.but_bytes
+    ∙ ap (λ (g : Given). settle (ended_session flow g ended processor contents state) ended.outcome) keeps.but_bytes
     ∙ without-bytes session left.bytes ended.outcome in
     let after : State → Option Machine =
     λ s. Some (record { state = s; world = world_after processor.kind world session ended.outcome }) in

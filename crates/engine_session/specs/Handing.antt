@@ -9,7 +9,7 @@ use Rattle.flowfile_record.specs.declared.limits.TheConstants.{NUMBER_LIMIT}
 use Rattle.flowfile_record.specs.declared.worked.Outcome.{Outcome}
 use Rattle.flowfile_record.specs.declared.stored.ActiveFile.{ActiveFile}
 use Rattle.checkpoint_store.specs.Consistent.{IsConsistent}
-use Rattle.kept_state.specs.Fits.{active_of, are_active_in, are_distinct}
+use Rattle.kept_state.specs.Fits.{active_of, are_active_in, are_distinct_numbers}
 use Rattle.machine_model.specs.declared.flow.Flow.{Flow}
 use Rattle.machine_model.specs.declared.given.Given.{Given}
 use Rattle.machine_model.specs.Placing.{uuid_text}
@@ -29,11 +29,11 @@ live_files k numbers = live_among k.files numbers
 -- ---- their contents
 
 -- together they are no larger than a content may be
-abbrev pub fit_a_content : List FlowFile → Bool
-fit_a_content files = nat_le (sum_by (λ file. file.content.size) files) CONTENT_MAX
+abbrev pub files_fit_a_content : List FlowFile → Bool
+files_fit_a_content files = nat_le (sum_by (λ file. file.content.size) files) CONTENT_MAX
 
 -- a content where references stand for these bytes, and what was read of it: all of it, or nothing
-pub record IsReadOf (bytes : ContentRef → List ℕ) (fits : Bool) (file : FlowFile) (read : Option (List ℕ)) : Type 0
+pub record IsReadContent (bytes : ContentRef → List ℕ) (fits : Bool) (file : FlowFile) (read : Option (List ℕ)) : Type 0
   where
     pub size : file.content.size ≡ length (bytes file.content)
     pub digest : file.content.digest ≡ sha256 (bytes file.content)
@@ -43,7 +43,7 @@ pub record IsReadOf (bytes : ContentRef → List ℕ) (fits : Bool) (file : Flow
 abbrev pub AreReadOf : (bytes : ContentRef → List ℕ) → (fits : Bool) → List FlowFile → List (Option (List ℕ)) → Type 0
 AreReadOf bytes fits [] [] = Unit {0}
 AreReadOf bytes fits (file ∷ files) (read ∷ contents) =
-    IsReadOf bytes fits file read × AreReadOf bytes fits files contents
+    IsReadContent bytes fits file read × AreReadOf bytes fits files contents
 AreReadOf bytes fits _ _ = ⊥
 
 -- A session takes these files: the live ones of these numbers, each once, all of one connection. Their contents were
@@ -51,9 +51,9 @@ AreReadOf bytes fits _ _ = ⊥
 pub record AreTaken (k : Kept) (connection : ℕ) (numbers : List ℕ) (bytes : ContentRef → List ℕ)
     (files : List FlowFile) (contents : List (Option (List ℕ))) : Type 0 where
   pub active : are_active_in k.files connection numbers ≡ true
-  pub distinct : are_distinct numbers ≡ true
+  pub distinct : are_distinct_numbers numbers ≡ true
   pub are : files ≡ live_files k numbers
-  pub read : AreReadOf bytes (fit_a_content files) files contents
+  pub read : AreReadOf bytes (files_fit_a_content files) files contents
 
 -- ---- how a session is handed them
 
@@ -65,19 +65,19 @@ taken_as store (file, read) = record {
   bytes = read;
 }
 
-abbrev pub taken_from : (store : ℕ) → List FlowFile → List (Option (List ℕ)) → List Taken
-taken_from store files contents = map (taken_as store) (zip files contents)
+abbrev pub taken_with_contents : (store : ℕ) → List FlowFile → List (Option (List ℕ)) → List Taken
+taken_with_contents store files contents = map (taken_as store) (zip files contents)
 
 -- ---- how it may end
 
 -- The processor at this place was handed these files and did this work on them.
-pub record MayEnd (flow : Flow) (k : Kept) (given : Given) (place connection : ℕ) (files : List FlowFile)
+pub record MayEndSession (flow : Flow) (k : Kept) (given : Given) (place connection : ℕ) (files : List FlowFile)
     (done : Outcome × List Source) : Type 0 where
   pub consistent : IsConsistent k
   pub numbers : List ℕ
   pub bytes : ContentRef → List ℕ
   pub contents : List (Option (List ℕ))
   pub taken : AreTaken k connection numbers bytes files contents
-  pub may : MayWork flow place (taken_from k.store files contents) given
-  pub work : IsWorkAt flow place (taken_from k.store files contents) given done
+  pub may : MayWork flow place (taken_with_contents k.store files contents) given
+  pub work : IsWorkAt flow place (taken_with_contents k.store files contents) given done
   pub index : given.index < NUMBER_LIMIT

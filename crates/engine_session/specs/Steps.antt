@@ -17,7 +17,7 @@ use Rattle.machine_model.specs.Placing.{EndedSession}
 use Rattle.machine_model.specs.State.{State, World, Machine}
 use Rattle.machine_model.specs.Stepping.{as_taken, given_in, session_after, step, taken_files, world_after}
 use Rattle.processor_api.specs.Acts.{KeepsGiven}
-use Rattle.settlement.specs.Handed.{AreRead, session_of}
+use Rattle.settlement.specs.Handed.{AreReadSources, ended_session}
 use Rattle.settlement.specs.declared.handed.Ended.{Ended}
 use Rattle.store_core.specs.State.{state_with}
 use Rattle.engine_core.specs.Committing.{AreEventsUpTo, LeavesState}
@@ -28,7 +28,7 @@ machine_in state world = record { state = state; world = world }
 -- A session of the machine: its processor is the one at its place, it takes the files of these numbers, which it may
 -- take at this moment, it is handed what it is given as that stands in the state and the world, and this is what it
 -- makes of both.
-pub record IsSession (world : World) (numbers : List ℕ) (moment : ℕ) (given : Given) (session : EndedSession)
+pub record IsMachineSession (world : World) (numbers : List ℕ) (moment : ℕ) (given : Given) (session : EndedSession)
     (outcome : Outcome) : Type 0 where
   pub processor : slice_get session.flow.processors session.place ≡ Some session.processor
   pub no_bytes : given.bytes ≡ None
@@ -42,7 +42,7 @@ pub record IsSession (world : World) (numbers : List ℕ) (moment : ℕ) (given 
 abbrev pub SessionsAreSteps : Type 0
 SessionsAreSteps =
     (world : World) (numbers : List ℕ) (moment : ℕ) (given : Given) (session : EndedSession) (outcome : Outcome)
-    → IsSession world numbers moment given session outcome
+    → IsMachineSession world numbers moment given session outcome
     → step session.flow (machine_in session.state world) (Session session.place numbers moment given)
     ≡ Some (session_after (machine_in session.state world) session outcome)
 
@@ -52,14 +52,14 @@ abbrev pub SettledSessionsAreSteps : Type 0
 SettledSessionsAreSteps =
     (flow : Flow) (world : World) (numbers : List ℕ) (moment : ℕ) (given handed left : Given) (ended : Ended)
     (processor : Processor) (contents : ContentRef → List ℕ) (events : List Event) (k : Kept) (settled : Settled)
-    → IsSession world numbers moment given
-    (session_of flow handed ended processor contents (state_with contents events k)) ended.outcome
+    → IsMachineSession world numbers moment given
+    (ended_session flow handed ended processor contents (state_with contents events k)) ended.outcome
     → KeepsGiven handed left
     → LeavesState flow left ended k settled
-    → HaveRanges contents → AreRead contents ended.taken ended.sources → AreEventsUpTo k.last_event events
+    → HaveRanges contents → AreReadSources contents ended.taken ended.sources → AreEventsUpTo k.last_event events
     → step flow (machine_in (state_with contents events k) world) (Session ended.processor numbers moment given)
     ≡ Some (record {
       state = state_after contents (state_with contents events k) settled;
       world = world_after processor.kind world
-          (session_of flow handed ended processor contents (state_with contents events k)) ended.outcome;
+          (ended_session flow handed ended processor contents (state_with contents events k)) ended.outcome;
     })

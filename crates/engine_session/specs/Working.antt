@@ -7,10 +7,10 @@ use Rattle.machine_model.specs.declared.flow.Processor.{Processor}
 use Rattle.machine_model.specs.declared.given.Given.{Given}
 use Rattle.machine_model.specs.declared.kind.Kind.{Kind}
 use Rattle.machine_model.specs.Kinds.{relationships_of}
-use Rattle.process_session.specs.Bench.{source_of, sizes_of}
+use Rattle.process_session.specs.Bench.{taken_source, sizes_of}
 use Rattle.process_session.specs.declared.file.Source.{Source}
 use Rattle.process_session.specs.declared.file.Taken.{Taken}
-use Rattle.processor_api.specs.Acts.{IsOutcomeOf, MayBeHanded}
+use Rattle.processor_api.specs.Acts.{IsOutcomeOf, MayBeHandedTo}
 use Rattle.proc_attribute.specs.Kinds.{is_attributes_to_json, is_cryptographic_hash_content, is_duplicate_flow_file, is_route_on_attribute, is_update_attribute}
 use Rattle.proc_merge.specs.Kinds.{is_merge_content}
 use Rattle.proc_source.specs.Kinds.{is_get_file, is_generate_flow_file, is_put_file}
@@ -39,14 +39,14 @@ pub record MayWork (flow : Flow) (place : ℕ) (taken : List Taken) (given : Giv
   pub processor : Processor
   pub found : slice_get flow.processors place ≡ Some processor
   pub built : IsTrue (is_built processor.kind)
-  pub handed : MayBeHanded processor.kind taken given
+  pub handed : MayBeHandedTo processor.kind taken given
 
 -- The outcome is the one that the machine gives, one of a session with the kind's relationships over the contents that
 -- were taken; what stays of the files is as they were taken.
 pub record IsWorkOf (kind : Kind) (taken : List Taken) (given : Given) (done : Outcome × List Source) : Type 0 where
   pub outcome : IsOutcomeOf kind taken given done.0
-  pub sound : IsOutcome (length (relationships_of kind)) (sizes_of (map source_of taken)) done.0
-  pub sources : done.1 ≡ map source_of taken
+  pub sound : IsOutcome (length (relationships_of kind)) (sizes_of (map taken_source taken)) done.0
+  pub sources : done.1 ≡ map taken_source taken
 
 -- it is the work of the processor at this place
 abbrev pub IsWorkAt : Flow → (place : ℕ) → List Taken → Given → Outcome × List Source → Type 0

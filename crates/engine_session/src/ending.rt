@@ -5,7 +5,7 @@ ghost use Rattle.machine_model.specs.declared.flow.Flow.{Flow as TheFlow};
 ghost use Rattle.machine_model.specs.declared.given.Given.{Given as TheGiven};
 ghost use Rattle.processor_api.specs.Acts.{KeepsGiven};
 ghost use Rattle.engine_core.specs.Committing.{MayCommit};
-ghost use Rattle.engine_session.specs.Handing.{MayEnd};
+ghost use Rattle.engine_session.specs.Handing.{MayEndSession};
 
 use flowfile_record::{FileList, Outcome};
 use process_session::SourceList;
@@ -27,7 +27,7 @@ pub fn end_session(
       outcome = done.0;
     } }
     ensures may { (flow : TheFlow) (kept : Kept) (given left : TheGiven)
-        → MayEnd flow kept given processor connection taken done → KeepsGiven given left
+        → MayEndSession flow kept given processor connection taken done → KeepsGiven given left
         → MayCommit flow left kept result }
 {
     let (outcome, sources) = done;

@@ -2,7 +2,7 @@
 ghost use Rattle.std.specs.Prelude.{◌≡◌, length, IfOk};
 ghost use Rattle.machine_model.specs.Placing.{uuid_text};
 ghost use Rattle.store_core.specs.Store.{kept_by};
-ghost use Rattle.engine_session.specs.Handing.{fit_a_content, live_among, live_files, taken_as, taken_from};
+ghost use Rattle.engine_session.specs.Handing.{files_fit_a_content, live_among, live_files, taken_as, taken_with_contents};
 
 use flowfile_record::{
     ActiveList, Bytes, CONTENT_MAX, FileList, FlowFile, Sequence, Text, uuid_of,
@@ -36,7 +36,7 @@ fn live_among(alloc: Global, live: &ActiveList, numbers: &[u64]) -> Result<FileL
 
 /// Whether the contents of these files together are no larger than one may be. If so, a session is handed them.
 pub fn fit_a_content(files: &[FlowFile]) -> bool
-    ensures { result ≡ fit_a_content files.now }
+    ensures { result ≡ files_fit_a_content files.now }
 {
     let mut room = CONTENT_MAX;
     for file in files {
@@ -55,7 +55,7 @@ pub fn taken_from(
     files: &[FlowFile],
     contents: ReadList,
 ) -> Result<TakenList, AllocError>
-    ensures { IfOk result (λ taken. taken ≡ taken_from store files.now contents) }
+    ensures { IfOk result (λ taken. taken ≡ taken_with_contents store files.now contents) }
 {
     let mut taken = TakenList::new(alloc);
     for (file, read) in files.iter().zip(contents.into_vec()) {

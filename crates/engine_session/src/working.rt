@@ -1,6 +1,6 @@
 //! The work of a flow's processors.
 ghost use Rattle.std.specs.Prelude.{◌≡◌, IfOk, IsTrue};
-ghost use Rattle.processor_api.specs.Acts.{KeepsGiven, MayBeHanded};
+ghost use Rattle.processor_api.specs.Acts.{KeepsGiven, MayBeHandedTo};
 ghost use Rattle.engine_session.specs.Working.{is_built, is_of_attributes, is_of_texts, IsWorkAt, IsWorkOf, MayWork};
 
 use flowfile_record::Outcome;
@@ -43,7 +43,7 @@ fn work_as(
     given: &mut Given,
 ) -> Result<(Outcome, SourceList), AllocError>
     requires built { IsTrue (is_built kind.now) }
-    requires handed { MayBeHanded kind.now taken given.old }
+    requires handed { MayBeHandedTo kind.now taken given.old }
     ensures work { IfOk result (IsWorkOf kind.now taken given.old) }
     ensures given { KeepsGiven given.old given.new }
 {
@@ -88,7 +88,7 @@ fn work_on_attributes(
     given: &mut Given,
 ) -> Result<(Outcome, SourceList), AllocError>
     requires built { IsTrue (is_of_attributes kind.now) }
-    requires handed { MayBeHanded kind.now taken given.old }
+    requires handed { MayBeHandedTo kind.now taken given.old }
     ensures work { IfOk result (IsWorkOf kind.now taken given.old) }
     ensures given { KeepsGiven given.old given.new }
 {
@@ -119,7 +119,7 @@ fn work_on_texts(
     given: &mut Given,
 ) -> Result<(Outcome, SourceList), AllocError>
     requires built { IsTrue (is_of_texts kind.now) }
-    requires handed { MayBeHanded kind.now taken given.old }
+    requires handed { MayBeHandedTo kind.now taken given.old }
     ensures work { IfOk result (IsWorkOf kind.now taken given.old) }
     ensures given { KeepsGiven given.old given.new }
 {

@@ -9,7 +9,7 @@ use Rattle.machine_model.specs.State.{State}
 use Rattle.machine_model.specs.Valid.{files_of_all, IsValid}
 use Rattle.machine_model.proofs.Among.{Among, contains_among}
 use Rattle.machine_model.proofs.EventRows.{IsAdding, adding-none, adding-on, adds-both}
-use Rattle.event_laws.specs.Told.{IsTold, TellsOfComing, TellsOfGoing, AreComingsTold, AreGoingsTold}
+use Rattle.event_laws.specs.Told.{IsToldByEvent, TellsOfComing, TellsOfGoing, AreComingsTold, AreGoingsTold}
 use Rattle.event_laws.proofs.Files.{Has, queued-has, has-queued}
 
 -- ---- drafts
@@ -34,7 +34,7 @@ numbered_draft first (other ∷ drafts) draft (inr h) =
     let rest = numbered_draft (first + 1) drafts draft h in record { number = rest.number; there = inr rest.there }
 
 -- events that are added tell what their drafts tell
-pub added-told : (before after : State) (first : ℕ) (drafts : List Draft) (Tells : Event → Type 0) → AddsEvents before after (numbered_from first drafts) → Tell Tells drafts → IsTold before after Tells
+pub added-told : (before after : State) (first : ℕ) (drafts : List Draft) (Tells : Event → Type 0) → AddsEvents before after (numbered_from first drafts) → Tell Tells drafts → IsToldByEvent before after Tells
 added-told before after first drafts Tells adds told =
     let at = numbered_draft first drafts told.draft told.there in
     (told.draft.event at.number, (numbered_from first drafts, adds, contains_among (told.draft.event at.number) (numbered_from first drafts) at.there), told.tells at.number)
@@ -44,14 +44,14 @@ added-told before after first drafts Tells adds told =
 -- Events are added, and tell of all that came and, from a valid state, of all that went.
 pub record IsTelling (flow : Flow) (before after : State) : Type 0 where
   pub adds : IsAdding before after
-  pub comes : (number : ℕ) → Has (files_of_all after) number → Has (files_of_all before) number ⊎ IsTold before after (λ event. TellsOfComing event number)
-  pub goes : IsValid flow before → (number : ℕ) → Has (files_of_all before) number → Has (files_of_all after) number ⊎ IsTold before after (λ event. TellsOfGoing event number)
+  pub comes : (number : ℕ) → Has (files_of_all after) number → Has (files_of_all before) number ⊎ IsToldByEvent before after (λ event. TellsOfComing event number)
+  pub goes : IsValid flow before → (number : ℕ) → Has (files_of_all before) number → Has (files_of_all after) number ⊎ IsToldByEvent before after (λ event. TellsOfGoing event number)
 
-told_first : (before mid after : State) (Tells : Event → Type 0) → IsAdding before mid → IsAdding mid after → IsTold before mid Tells → IsTold before after Tells
+told_first : (before mid after : State) (Tells : Event → Type 0) → IsAdding before mid → IsAdding mid after → IsToldByEvent before mid Tells → IsToldByEvent before after Tells
 told_first before mid after Tells one two (event, (first, adds, there), tells) =
     (event, (first ++ two.more, adds-both before mid after first two.more adds two.adds one.told, Contains-append_left first two.more event there), tells)
 
-told_then : (before mid after : State) (Tells : Event → Type 0) → IsAdding before mid → IsTold mid after Tells → IsTold before after Tells
+told_then : (before mid after : State) (Tells : Event → Type 0) → IsAdding before mid → IsToldByEvent mid after Tells → IsToldByEvent before after Tells
 told_then before mid after Tells one (event, (then, adds, there), tells) =
     (event, (one.more ++ then, adds-both before mid after one.more then one.adds adds one.told, Contains-append_right one.more then event there), tells)
 

@@ -45,18 +45,18 @@ abbrev pub IsNewEvent : (before after : State) → Event → Type 0
 IsNewEvent before after event = (more : List Event) × AddsEvents before after more × Contains more event
 
 -- some new event tells this
-abbrev pub IsTold : (before after : State) → (Event → Type 0) → Type 0
-IsTold before after Tells = (event : Event) × IsNewEvent before after event × Tells event
+abbrev pub IsToldByEvent : (before after : State) → (Event → Type 0) → Type 0
+IsToldByEvent before after Tells = (event : Event) × IsNewEvent before after event × Tells event
 
 -- of each file that is in the queues after and wasn't before, a new event tells that it came
 abbrev pub AreComingsTold : (before after : State) → Type 0
 AreComingsTold before after = (number : ℕ) → IsQueued after number → (IsQueued before number → ⊥) →
-    IsTold before after (λ event. TellsOfComing event number)
+    IsToldByEvent before after (λ event. TellsOfComing event number)
 
 -- of each file that was in the queues before and isn't after, a new event tells that it went
 abbrev pub AreGoingsTold : (before after : State) → Type 0
 AreGoingsTold before after = (number : ℕ) → IsQueued before number → (IsQueued after number → ⊥) →
-    IsTold before after (λ event. TellsOfGoing event number)
+    IsToldByEvent before after (λ event. TellsOfGoing event number)
 
 -- ---- the laws: comings from any state, goings from a valid one
 

@@ -16,12 +16,12 @@ use Rattle.flow_definition.specs.declared.rule.Rule.TheVariants.{UnknownType, Ba
 use Rattle.machine_model.specs.declared.flow.Flow.{Flow}
 use Rattle.flow_definition.specs.Made.{AreMade, AreAllMade, told_all, first_refused, processor_in}
 use Rattle.flow_definition.specs.Patterns.{HasRisen, Told}
-use Rattle.flow_definition.specs.Looks.{items_at}
+use Rattle.flow_definition.specs.Looks.{list_items_at}
 use Rattle.flow_definition.specs.Reading.{AreProcessorsOf, IsFlowOf, connection_of}
 use Rattle.sha2.specs.Sha256.{sha256}
 use Rattle.flow_definition.specs.Rules.{Path}
 use Rattle.flow_definition.specs.Verdict.{object_only, object_in, refused, first_behind, IsError, Refuses, Accepts, IsAnswerBehind, IsPatternTooBig, IsToldIn}
-use Rattle.flow_definition.specs.Walk.{first_place, first_of, last_rules}
+use Rattle.flow_definition.specs.Walk.{first_broken_place, first_broken, last_rules}
 use Rattle.flow_definition.proofs.Passed.{none_or, none_map}
 use Rattle.flow_definition.proofs.Verdicts.{all_made, told_none, processors_made, risen}
 
@@ -56,11 +56,11 @@ small_or : (rule : Rule) (o : Option Path) (rest : Option (Rule × Path)) (b : R
 small_or rule None rest b small more e = more e
 small_or rule (Some path) rest b small more e = λ big. small (ap (λ x. x.0) (same_Some (rule, path) b e) ∙ big)
 
-small_first : (rules : List Rule) (top : Data) (b : Rule × Path) → AreSmall rules → first_of rules top ≡ Some b → b.0 ≢ PatternTooBig
+small_first : (rules : List Rule) (top : Data) (b : Rule × Path) → AreSmall rules → first_broken rules top ≡ Some b → b.0 ≢ PatternTooBig
 unfolding AreSmall
 small_first [] top b small e = absurd (none-some _ e)
 small_first (rule ∷ rules) top b small e =
-    small_or rule (first_place rule top) (first_of rules top) b small.0 (small_first rules top b small.1) e
+    small_or rule (first_broken_place rule top) (first_broken rules top) b small.0 (small_first rules top b small.1) e
 
 last_small : AreSmall last_rules
 unfolding AreSmall
@@ -87,13 +87,13 @@ pub big_first : (top : Data) (ms : List Made) (b : Rule × Path) → first_behin
 big_first top ms b e big =
     let C : Type 0 = first_refused PatternTooBig 0 ms ≡ Some b.1 in
     let small : Option (Rule × Path) = refused PatternTooBig ms in
-    let last : Option (Rule × Path) = option_or (first_of last_rules top) small in
+    let last : Option (Rule × Path) = option_or (first_broken last_rules top) small in
     let expressed : Option (Rule × Path) = option_or (refused BadExpression ms) last in
     let read : Option (Rule × Path) = option_or (refused BadPattern ms) expressed in
     passes_small C UnknownType (first_refused UnknownType 0 ms) read b (λ h. cc) (λ e1 big1.
     passes_small C BadPattern (first_refused BadPattern 0 ms) expressed b (λ h. cc) (λ e2 big2.
     passes_small C BadExpression (first_refused BadExpression 0 ms) last b (λ h. cc) (λ e3 big3.
-    passes_last C (first_of last_rules top) small b (λ x h. small_first last_rules top x last_small h) (λ e4 big4.
+    passes_last C (first_broken last_rules top) small b (λ x h. small_first last_rules top x last_small h) (λ e4 big4.
     some_named (first_refused PatternTooBig 0 ms) b e4)
     e3 big3) e2 big2) e1 big1) e big
 
@@ -105,7 +105,7 @@ big_rises R top ds ms b each e big = risen R ds ms 0 b.1 each (big_first top ms 
 -- ---- what the builder tells behind an answer
 
 pub behind_told : (before now : Told) (top : Data) (ms : List Made) (b : Rule × Path) (e : FlowError)
-    → AreMade (HasRisen before.count now.count) (items_at Processors top) ms → now ≡ told_all before (items_at Processors top) ms
+    → AreMade (HasRisen before.count now.count) (list_items_at Processors top) ms → now ≡ told_all before (list_items_at Processors top) ms
     → first_behind top ms ≡ Some b → IsError b e → IsToldIn before now top (Err e)
 behind_told before now top ms b error.Memory each told found is = tt
 behind_told before now top ms b (error.Rule rule place) each told found is = λ passed. record {
@@ -124,29 +124,29 @@ none_behind top ms e =
     let typed = none_or (refused UnknownType ms) _ e in
     let read = none_or (refused BadPattern ms) _ typed.1 in
     let expressed = none_or (refused BadExpression ms) _ read.1 in
-    let last = none_or (first_of last_rules top) _ expressed.1 in
+    let last = none_or (first_broken last_rules top) _ expressed.1 in
     let none : (rule : Rule) → refused rule ms ≡ None → first_refused rule 0 ms ≡ None =
     λ rule. none_map {Y = Rule × Path} (λ path. (rule, path)) (first_refused rule 0 ms) in
     all_made ms 0 (none UnknownType typed.0) (none BadPattern read.0) (none BadExpression expressed.0) (none PatternTooBig last.1)
 
-pub accepted_told : (before now : Told) (top : Data) (ms : List Made) → now ≡ told_all before (items_at Processors top) ms
+pub accepted_told : (before now : Told) (top : Data) (ms : List Made) → now ≡ told_all before (list_items_at Processors top) ms
     → first_behind top ms ≡ None → now ≡ before
-accepted_told before now top ms told found = told ∙ told_none before (items_at Processors top) ms (none_behind top ms found)
+accepted_told before now top ms told found = told ∙ told_none before (list_items_at Processors top) ms (none_behind top ms found)
 
 -- ---- answers
 
 pub behind_accepted : (R : Type 0) (bytes : List ℕ) (top : Data) (ms : List Made) (flow : Flow)
-    → AreMade R (items_at Processors top) ms → first_behind top ms ≡ None → IsFlowOf bytes top flow → IsAnswerBehind R bytes top (Ok flow)
+    → AreMade R (list_items_at Processors top) ms → first_behind top ms ≡ None → IsFlowOf bytes top flow → IsAnswerBehind R bytes top (Ok flow)
 behind_accepted R bytes top ms flow each found is =
     let Settles : Option (Rule × Path) → Type 0 = λ o. MatchOption o (Accepts bytes top (Ok flow)) (λ x. Refuses x (Ok flow)) in
     (ms, each, subst Settles (sym found) is)
 
 pub flow_made : (R : Type 0) (bytes : List ℕ) (top : Data) (ms : List Made) (flow : Flow)
-    → AreMade R (items_at Processors top) ms → first_behind top ms ≡ None → flow.processors ≡ filter_map processor_in ms
-    → flow.connections ≡ map (connection_of top) (items_at Connections top) → flow.digest ≡ sha256 bytes → IsFlowOf bytes top flow
+    → AreMade R (list_items_at Processors top) ms → first_behind top ms ≡ None → flow.processors ≡ filter_map processor_in ms
+    → flow.connections ≡ map (connection_of top) (list_items_at Connections top) → flow.digest ≡ sha256 bytes → IsFlowOf bytes top flow
 flow_made R bytes top ms flow each found processors connections digest = record {
-  processors = subst (AreProcessorsOf (items_at Processors top)) (sym processors)
-      (processors_made R (items_at Processors top) ms each (none_behind top ms found));
+  processors = subst (AreProcessorsOf (list_items_at Processors top)) (sym processors)
+      (processors_made R (list_items_at Processors top) ms each (none_behind top ms found));
   connections = connections;
   digest = digest;
 }

@@ -14,7 +14,7 @@ use Rattle.serde_json.specs.Data.{Data}
 use Rattle.machine_model.specs.declared.flow.Processor.{Processor}
 use Rattle.machine_model.specs.declared.limits.TheConstants.{PROCESSORS_MAX}
 use Rattle.flow_definition.specs.declared.field.Field.TheVariants.{Id, From, Processors}
-use Rattle.flow_definition.specs.Looks.{text_at, has_text, items_at}
+use Rattle.flow_definition.specs.Looks.{field_text, has_text, list_items_at}
 use Rattle.flow_definition.specs.Reading.{id_at, IsProcessorOf, AreProcessorsOf, place_below, place_at}
 use Rattle.flow_definition.specs.Rules.{leaves}
 use Rattle.flow_definition.proofs.Names.{IsNamed, has_given, place_of_id}
@@ -73,8 +73,8 @@ place_found p ds few there =
 
 -- ---- whether a connection leads from the processor at a place
 
-pub leads_from : (top : Data) (earlier ds : List Data) (d c : Data) → items_at Processors top ≡ earlier ++ d ∷ ds → IsNamed earlier d
-    → text_at From c ≡ Some (id_at From c) → HasPlace (has_text Id (id_at From c)) (items_at Processors top)
+pub leads_from : (top : Data) (earlier ds : List Data) (d c : Data) → list_items_at Processors top ≡ earlier ++ d ∷ ds → IsNamed earlier d
+    → field_text From c ≡ Some (id_at From c) → HasPlace (has_text Id (id_at From c)) (list_items_at Processors top)
     → (place_at top From c == length earlier) ≡ leaves d c
 leads_from top earlier ds d c all named given place =
     same_from_decides (place_at top From c == length earlier) (leaves d c) by_place by_id

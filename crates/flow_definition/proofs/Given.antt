@@ -16,8 +16,8 @@ use Rattle.prioritizer.specs.Order.{name_of}
 use Rattle.prioritizer.specs.declared.prioritizer.Prioritizer.{Prioritizer}
 use Rattle.prioritizer.specs.declared.prioritizer.Prioritizer.TheVariants.{FirstInFirstOut, NewestFlowFileFirst, OldestFlowFileFirst, PriorityAttribute}
 use Rattle.flow_definition.specs.declared.field.Shape.TheVariants as shape
-use Rattle.flow_definition.specs.Looks.{is_object, is_text, items_of, names_in, text_of}
-use Rattle.flow_definition.specs.Reading.{number_or}
+use Rattle.flow_definition.specs.Looks.{is_object, is_text, list_items, texts_in, text_or_empty}
+use Rattle.flow_definition.specs.Reading.{number_in_range}
 use Rattle.flow_definition.specs.Shapes.{has_shape, is_list, is_list_of_texts, is_prioritizer, are_prioritizers, prioritizer_named}
 
 -- the text in a field that has to be there, as a text
@@ -42,25 +42,25 @@ id_given (Some d) there shaped = id_is (as_str d) shaped
 
 -- a list of objects
 pub objects_given : (o : Option Data) → option_map_or (λ d. not (has_shape shape.Objects d)) o false ≡ false
-    → list_all is_object (option_map_or items_of o []) ≡ true
+    → list_all is_object (option_map_or list_items o []) ≡ true
 objects_given None shaped = refl
 objects_given (Some d) shaped =
-    (and_parts (is_list d) (list_all is_object (items_of d)) (not-false (has_shape shape.Objects d) shaped)).1
+    (and_parts (is_list d) (list_all is_object (list_items d)) (not-false (has_shape shape.Objects d) shaped)).1
 
 -- a list with at least one text
 pub names_given : (o : Option Data) → is_none o ≡ false → option_map_or (λ d. not (has_shape shape.SomeNames d)) o false ≡ false
-    → nat_lt 0 (length (names_in (option_map_or items_of o []))) ≡ true
+    → nat_lt 0 (length (texts_in (option_map_or list_items o []))) ≡ true
 names_given None there shaped = absurd (true≢false there)
 names_given (Some d) there shaped =
-    let listed = and_parts (is_list_of_texts d) (nat_le 1 (length (items_of d))) (not-false (has_shape shape.SomeNames d) shaped) in
-    let texts = and_parts (is_list d) (list_all is_text (items_of d)) listed.0 in
-    ap (λ names. nat_lt 0 (length names)) (cond-true (list_all is_text (items_of d)) (map text_of (items_of d)) [] texts.1)
-    ∙ ap (λ n. nat_lt 0 n) (length-map (items_of d) text_of)
+    let listed = and_parts (is_list_of_texts d) (nat_le 1 (length (list_items d))) (not-false (has_shape shape.SomeNames d) shaped) in
+    let texts = and_parts (is_list d) (list_all is_text (list_items d)) listed.0 in
+    ap (λ names. nat_lt 0 (length names)) (cond-true (list_all is_text (list_items d)) (map text_or_empty (list_items d)) [] texts.1)
+    ∙ ap (λ n. nat_lt 0 n) (length-map (list_items d) text_or_empty)
     ∙ listed.1
 
 -- a number, or what a missing one stands for
 pub number_within : (default least most : ℕ) (given : Option ℕ) → within least default most ≡ true
-    → within least (number_or default least most given) most ≡ true
+    → within least (number_in_range default least most given) most ≡ true
 number_within default least most None is = is
 number_within default least most (Some n) is = either (within least n most) refl
   where
@@ -68,9 +68,9 @@ number_within default least most (Some n) is = either (within least n most) refl
     either true e = e
     either false e = is
 
-pub number_below : (default most : ℕ) (given : Option ℕ) → within 0 default most ≡ true → nat_le (number_or default 0 most given) most ≡ true
+pub number_below : (default most : ℕ) (given : Option ℕ) → within 0 default most ≡ true → nat_le (number_in_range default 0 most given) most ≡ true
 number_below default most given is =
-    (and_parts (nat_le 0 (number_or default 0 most given)) (nat_le (number_or default 0 most given) most) (number_within default 0 most given is)).1
+    (and_parts (nat_le 0 (number_in_range default 0 most given)) (nat_le (number_in_range default 0 most given) most) (number_within default 0 most given is)).1
 
 -- ---- prioritizers, each once
 
@@ -119,9 +119,9 @@ each_once (name ∷ names) distinct =
     one_more (filter_map prioritizer_named names) (prioritizer_named name) (λ p e. others_differ p names (apart p e)) (each_once names parts.1)
 
 pub prioritizers_given : (o : Option Data) → option_map_or (λ d. not (has_shape shape.Prioritizers d)) o false ≡ false
-    → EachOnce (filter_map prioritizer_named (names_in (option_map_or items_of o [])))
+    → EachOnce (filter_map prioritizer_named (texts_in (option_map_or list_items o [])))
 prioritizers_given None shaped = each_once [] refl
 prioritizers_given (Some d) shaped =
-    let listed = and_parts (is_list_of_texts d) (are_prioritizers (items_of d)) (not-false (has_shape shape.Prioritizers d) shaped) in
-    let named = and_parts (list_all is_prioritizer (names_in (items_of d))) (are_distinct_texts (names_in (items_of d))) listed.1 in
-    each_once (names_in (items_of d)) named.1
+    let listed = and_parts (is_list_of_texts d) (are_prioritizers (list_items d)) (not-false (has_shape shape.Prioritizers d) shaped) in
+    let named = and_parts (list_all is_prioritizer (texts_in (list_items d))) (are_distinct_texts (texts_in (list_items d))) listed.1 in
+    each_once (texts_in (list_items d)) named.1

@@ -12,9 +12,9 @@ use Rattle.machine_model.specs.declared.flow.Flow.{Flow}
 use Rattle.machine_model.specs.declared.flow.Processor.{Processor}
 use Rattle.machine_model.specs.declared.limits.TheConstants.{FAN_OUT_MAX, PROCESSORS_MAX}
 use Rattle.flow_definition.specs.declared.field.Field.TheVariants.{Processors, Connections, Terminated, From, Relationships}
-use Rattle.flow_definition.specs.Looks.{items_at, names_at, relationships_in}
+use Rattle.flow_definition.specs.Looks.{list_items_at, names_at, relationships_in}
 use Rattle.flow_definition.specs.Reading.{place_at, connection_of, IsProcessorOf, AreProcessorsOf}
-use Rattle.flow_definition.specs.Rules.{leaves, carries, is_connected, is_loose, is_crowded}
+use Rattle.flow_definition.specs.Rules.{leaves, connection_carries, is_connected, is_loose, is_crowded}
 use Rattle.flow_definition.proofs.Ends.{leads_from}
 use Rattle.flow_definition.proofs.Names.{IsNamed}
 use Rattle.flow_definition.proofs.Parts.{kind_typed, named_processor, source_given, source_place}
@@ -52,8 +52,8 @@ abbrev Lead : (top : Data) (place : ℕ) (d : Data) → List Data → Type 0
 Lead top place d [] = Unit {0}
 Lead top place d (c ∷ cs) = ((place_at top From c == place) ≡ leaves d c) × Lead top place d cs
 
-all_lead : (top : Data) (before behind : List Data) (d : Data) (earlier cs : List Data) → items_at Processors top ≡ before ++ d ∷ behind
-    → IsNamed before d → length (items_at Processors top) ≤ PROCESSORS_MAX → ArePassedConnections top earlier cs → Lead top (length before) d cs
+all_lead : (top : Data) (before behind : List Data) (d : Data) (earlier cs : List Data) → list_items_at Processors top ≡ before ++ d ∷ behind
+    → IsNamed before d → length (list_items_at Processors top) ≤ PROCESSORS_MAX → ArePassedConnections top earlier cs → Lead top (length before) d cs
 all_lead top before behind d earlier [] all named few passed = tt
 all_lead top before behind d earlier (c ∷ cs) all named few passed = (
   leads_from top before behind d c all named (source_given top earlier c passed.0) (source_place top earlier c few passed.0),
@@ -61,11 +61,11 @@ all_lead top before behind d earlier (c ∷ cs) all named few passed = (
 )
 
 counted_alike : (top : Data) (place : ℕ) (d : Data) (name : List ℕ) (cs : List Data) (n : ℕ) → Lead top place d cs
-    → fold (counts (sound.carries place name)) n (map (connection_of top) cs) ≡ fold (counts (carries d name)) n cs
+    → fold (counts (sound.carries place name)) n (map (connection_of top) cs) ≡ fold (counts (connection_carries d name)) n cs
 counted_alike top place d name [] n lead = refl
 counted_alike top place d name (c ∷ cs) n lead =
     ap (λ b. fold (counts (sound.carries place name)) (n + cond (b && is_among name (names_at Relationships c)) 1 0) (map (connection_of top) cs)) lead.0
-    ∙ counted_alike top place d name cs (n + cond (carries d name c) 1 0) lead.1
+    ∙ counted_alike top place d name cs (n + cond (connection_carries d name c) 1 0) lead.1
 
 -- ---- relationships
 
@@ -75,20 +75,20 @@ either_way true any n none some few fate = eq-eqb n 0 (none fate)
 either_way false any n none some few fate = and_from _ _ (le-leb 1 n (some (not-false any fate))) (le-leb n FAN_OUT_MAX few)
 
 sound_relationship : (top : Data) (flow : Flow) (place : ℕ) (d : Data) (p : Processor) (name : List ℕ) → IsProcessorOf d p
-    → flow.connections ≡ map (connection_of top) (items_at Connections top) → Lead top place d (items_at Connections top)
+    → flow.connections ≡ map (connection_of top) (list_items_at Connections top) → Lead top place d (list_items_at Connections top)
     → is_loose top d name ≡ false → is_crowded top d name ≡ false → is_sound_relationship flow place p name ≡ true
 sound_relationship top flow place d p name read connections lead loose crowded =
-    let cs : List Data = items_at Connections top in
-    let n : ℕ = count_by (carries d name) cs in
+    let cs : List Data = list_items_at Connections top in
+    let n : ℕ = count_by (connection_carries d name) cs in
     let counted : connection_count flow place name ≡ n =
     ap (count_by (sound.carries place name)) connections ∙ counted_alike top place d name cs 0 lead in
     ap (λ m. cond (is_among name p.terminated) (m == 0) (within 1 m FAN_OUT_MAX)) counted
     ∙ ap (λ names. cond (is_among name names) (n == 0) (within 1 n FAN_OUT_MAX)) read.terminated
-    ∙ either_way (is_among name (names_at Terminated d)) (is_connected top d name) n (none_counted (carries d name) cs 0)
-    (some_counted (carries d name) cs 0) (ltb-false FAN_OUT_MAX n crowded) loose
+    ∙ either_way (is_among name (names_at Terminated d)) (is_connected top d name) n (none_counted (connection_carries d name) cs 0)
+    (some_counted (connection_carries d name) cs 0) (ltb-false FAN_OUT_MAX n crowded) loose
 
 each_sound : (top : Data) (flow : Flow) (place : ℕ) (d : Data) (p : Processor) (names : List (List ℕ)) → IsProcessorOf d p
-    → flow.connections ≡ map (connection_of top) (items_at Connections top) → Lead top place d (items_at Connections top)
+    → flow.connections ≡ map (connection_of top) (list_items_at Connections top) → Lead top place d (list_items_at Connections top)
     → list_any (is_loose top d) names ≡ false → list_any (is_crowded top d) names ≡ false
     → list_all (is_sound_relationship flow place p) names ≡ true
 each_sound top flow place d p [] read connections lead loose crowded = refl
@@ -100,8 +100,8 @@ each_sound top flow place d p (name ∷ names) read connections lead loose crowd
     (each_sound top flow place d p names read connections lead l.1 c.1)
 
 pub sound_relationships : (top : Data) (flow : Flow) (before ds : List Data) (ps : List Processor)
-    → items_at Processors top ≡ before ++ ds → length (items_at Processors top) ≤ PROCESSORS_MAX
-    → flow.connections ≡ map (connection_of top) (items_at Connections top) → ArePassedConnections top [] (items_at Connections top)
+    → list_items_at Processors top ≡ before ++ ds → length (list_items_at Processors top) ≤ PROCESSORS_MAX
+    → flow.connections ≡ map (connection_of top) (list_items_at Connections top) → ArePassedConnections top [] (list_items_at Connections top)
     → ArePassedProcessors top before ds → AreProcessorsOf ds ps
     → list_all (are_sound_relationships flow) (enumerate_from (length before) ps) ≡ true
 sound_relationships top flow before [] [] all few connections linked passed each = refl
@@ -110,7 +110,7 @@ sound_relationships top flow before (d ∷ ds) [] all few connections linked pas
 sound_relationships top flow before (d ∷ ds) (p ∷ ps) all few connections linked passed each =
     let place : ℕ = length before in
     let typed = kind_typed d p.kind each.0.kind in
-    let lead = all_lead top before ds d [] (items_at Connections top) all (named_processor top before d passed.0) few linked in
+    let lead = all_lead top before ds d [] (list_items_at Connections top) all (named_processor top before d passed.0) few linked in
     and_from (are_sound_relationships flow (place, p)) _
     (subst (λ names. list_all (is_sound_relationship flow place p) names ≡ true) typed.names
     (each_sound top flow place d p (relationships_in d) each.0 connections lead passed.0.loose passed.0.few))

@@ -4,9 +4,9 @@ use Rattle.std.specs.List.{list_any, list_all, prefix_len}
 use Rattle.std.proofs.lemmas.List.{length-map}
 use Rattle.serde_json.specs.View.{view, items_view, members_view}
 use Rattle.serde_json.specs.declared.value.Value.{Value}
-use Rattle.flow_definition.specs.Looks.{list_of, member_list, names_of}
+use Rattle.flow_definition.specs.Looks.{list_of_items, member_list, member_names}
 
-pub list_of_view : (vs : List Value) → list_of (items_view vs) ≡ map view vs
+pub list_of_view : (vs : List Value) → list_of_items (items_view vs) ≡ map view vs
 list_of_view [] = refl
 list_of_view (v ∷ vs) = ap (λ ds. view v ∷ ds) (list_of_view vs)
 
@@ -47,7 +47,7 @@ pub seen_behind : {A B : Type 0} (f : A → B) (r : Option (Bor A)) → option_m
 seen_behind f None = refl
 seen_behind f (Some x) = refl
 
-pub member_names_view : (es : List (String Global × Value)) → map string_bytes (map (λ e. e.0) es) ≡ names_of (member_list (members_view es))
+pub member_names_view : (es : List (String Global × Value)) → map string_bytes (map (λ e. e.0) es) ≡ member_names (member_list (members_view es))
 member_names_view [] = refl
 member_names_view (e ∷ es) = ap (λ names. string_bytes e.0 ∷ names) (member_names_view es)
 

@@ -9,7 +9,7 @@ use Rattle.serde_json.specs.Data.{Data}
 use Rattle.machine_model.specs.Kinds.{is_among}
 use Rattle.machine_model.specs.Sound.{are_distinct_texts}
 use Rattle.flow_definition.specs.declared.field.Field.TheVariants.{Id}
-use Rattle.flow_definition.specs.Looks.{text_at, has_text}
+use Rattle.flow_definition.specs.Looks.{field_text, has_text}
 use Rattle.flow_definition.specs.Reading.{id_at}
 use Rattle.flow_definition.specs.Rules.{is_doubled, is_wrong, wrong_name}
 use Rattle.flow_definition.proofs.Passed.{none_first}
@@ -56,7 +56,7 @@ names_distinct rs earlier (name ∷ names) right =
 -- ---- the ids of a list, each of which is a text that no earlier one has
 
 pub record IsNamed (earlier : List Data) (d : Data) : Type 0 where
-  pub text : text_at Id d ≡ Some (id_at Id d)
+  pub text : field_text Id d ≡ Some (id_at Id d)
   pub once : is_doubled earlier d ≡ false
 
 abbrev pub AreNamed : (earlier ds : List Data) → Type 0
@@ -64,7 +64,7 @@ AreNamed earlier [] = Unit {0}
 AreNamed earlier (d ∷ ds) = IsNamed earlier d × AreNamed (earlier ++ d ∷ []) ds
 
 -- an object's text, where it is there
-pub has_given : (id : List ℕ) (d : Data) → text_at Id d ≡ Some (id_at Id d) → has_text Id id d ≡ bytes_eq id (id_at Id d)
+pub has_given : (id : List ℕ) (d : Data) → field_text Id d ≡ Some (id_at Id d) → has_text Id id d ≡ bytes_eq id (id_at Id d)
 has_given id d text = ap (λ (o : Option (List ℕ)). option_map_or (bytes_eq id) o false) text
 
 none_before : (earlier : List Data) (d : Data) → IsNamed earlier d → list_any (has_text Id (id_at Id d)) earlier ≡ false

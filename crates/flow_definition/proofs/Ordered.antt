@@ -15,12 +15,12 @@ use Rattle.serde_json.specs.Find.{get, get_member}
 use Rattle.serde_json.specs.Read.{number_of, of_json, of_items, of_members, max_depth, read}
 use Rattle.machine_model.specs.Sound.{are_ascending}
 use Rattle.flow_definition.specs.declared.field.Field.TheVariants.{Processors, Properties}
-use Rattle.flow_definition.specs.Fields.{name_of}
-use Rattle.flow_definition.specs.Looks.{value_at, is_object, list_of, items_of, items_at, member_list, members_of, names_of, given_in}
+use Rattle.flow_definition.specs.Fields.{field_name}
+use Rattle.flow_definition.specs.Looks.{value_at, is_object, list_of_items, list_items, list_items_at, member_list, members_of, member_names, given_properties}
 use Rattle.flow_definition.specs.Verdict.{object_only, object_in}
 
 abbrev names : Members → List (List ℕ)
-names ms = names_of (member_list ms)
+names ms = member_names (member_list ms)
 
 abbrev mutual
   pub is_ordered : Data → Bool
@@ -29,7 +29,7 @@ abbrev mutual
   is_ordered (number n) = true
   is_ordered (string s) = true
   is_ordered (array ds) = are_items_ordered ds
-  is_ordered (object ms) = are_ascending (names_of (member_list ms)) && are_values_ordered ms
+  is_ordered (object ms) = are_ascending (member_names (member_list ms)) && are_values_ordered ms
 
   pub are_items_ordered : Items → Bool
   are_items_ordered no_items = true
@@ -184,13 +184,13 @@ ordered_get k (string s) all = tt
 ordered_get k (array ds) all = tt
 ordered_get k (object ms) all = ordered_member k ms (and_parts (are_ascending (names ms)) (are_values_ordered ms) all).1
 
-ordered_list : (ds : Items) → are_items_ordered ds ≡ true → list_all is_ordered (list_of ds) ≡ true
+ordered_list : (ds : Items) → are_items_ordered ds ≡ true → list_all is_ordered (list_of_items ds) ≡ true
 ordered_list no_items all = refl
 ordered_list (item d ds) all =
     let parts = and_parts (is_ordered d) (are_items_ordered ds) all in
     and_from (is_ordered d) _ parts.0 (ordered_list ds parts.1)
 
-ordered_items_of : (d : Data) → is_ordered d ≡ true → list_all is_ordered (items_of d) ≡ true
+ordered_items_of : (d : Data) → is_ordered d ≡ true → list_all is_ordered (list_items d) ≡ true
 ordered_items_of null all = refl
 ordered_items_of (boolean b) all = refl
 ordered_items_of (number n) all = refl
@@ -198,11 +198,11 @@ ordered_items_of (string s) all = refl
 ordered_items_of (array ds) all = ordered_list ds all
 ordered_items_of (object ms) all = refl
 
-ordered_items_in : (o : Option Data) → Holds is_ordered o → list_all is_ordered (option_map_or items_of o []) ≡ true
+ordered_items_in : (o : Option Data) → Holds is_ordered o → list_all is_ordered (option_map_or list_items o []) ≡ true
 ordered_items_in None all = refl
 ordered_items_in (Some d) all = ordered_items_of d all
 
-ascending_members : (d : Data) → is_ordered d ≡ true → are_ascending (names_of (members_of d)) ≡ true
+ascending_members : (d : Data) → is_ordered d ≡ true → are_ascending (member_names (members_of d)) ≡ true
 ascending_members null all = refl
 ascending_members (boolean b) all = refl
 ascending_members (number n) all = refl
@@ -210,21 +210,21 @@ ascending_members (string s) all = refl
 ascending_members (array ds) all = refl
 ascending_members (object ms) all = (and_parts (are_ascending (names ms)) (are_values_ordered ms) all).0
 
-ascending_given : (o : Option Data) → Holds is_ordered o → are_ascending (names_of (option_map_or members_of o [])) ≡ true
+ascending_given : (o : Option Data) → Holds is_ordered o → are_ascending (member_names (option_map_or members_of o [])) ≡ true
 ascending_given None all = refl
 ascending_given (Some d) all = ascending_members d all
 
 -- each names its properties in ascending order
 abbrev pub AreAscending : List Data → Type 0
 AreAscending [] = Unit {0}
-AreAscending (d ∷ ds) = (are_ascending (names_of (given_in d)) ≡ true) × AreAscending ds
+AreAscending (d ∷ ds) = (are_ascending (member_names (given_properties d)) ≡ true) × AreAscending ds
 
 all_ascending : (ds : List Data) → list_all is_ordered ds ≡ true → AreAscending ds
 all_ascending [] all = tt
 all_ascending (d ∷ ds) all =
     let parts = and_parts (is_ordered d) (list_all is_ordered ds) all in
-    (ascending_given (value_at Properties d) (ordered_get (name_of Properties) d parts.0), all_ascending ds parts.1)
+    (ascending_given (value_at Properties d) (ordered_get (field_name Properties) d parts.0), all_ascending ds parts.1)
 
-pub processors_ascending : (top : Data) → is_ordered top ≡ true → AreAscending (items_at Processors top)
+pub processors_ascending : (top : Data) → is_ordered top ≡ true → AreAscending (list_items_at Processors top)
 processors_ascending top all =
-    all_ascending (items_at Processors top) (ordered_items_in (value_at Processors top) (ordered_get (name_of Processors) top all))
+    all_ascending (list_items_at Processors top) (ordered_items_in (value_at Processors top) (ordered_get (field_name Processors) top all))

@@ -13,7 +13,7 @@ use Rattle.serde_json.specs.declared.value.Value.{Value}
 use Rattle.machine_model.specs.Kinds.{is_among}
 use Rattle.machine_model.specs.Sound.{are_ascending}
 use Rattle.flow_definition.specs.declared.processor_type.Property.{Property}
-use Rattle.flow_definition.specs.Looks.{is_fixed, member_list, others, names_of, text_of, texts_of}
+use Rattle.flow_definition.specs.Looks.{is_fixed, member_list, others, member_names, text_or_empty, texts_of}
 use Rattle.flow_definition.specs.Types.{property_name}
 use Rattle.flow_definition.proofs.Passed.{NoneOf}
 
@@ -24,7 +24,7 @@ others_seen ps f None = refl
 others_seen ps f (Some x) = refl
 
 pub names_seen : {X : Type 0} (ps : List Property) (f : X → List (List ℕ × Data)) (o : Option X)
-    → option_map_or (λ x. names_of (others ps (f x))) o [] ≡ names_of (others ps (option_map_or f o []))
+    → option_map_or (λ x. member_names (others ps (f x))) o [] ≡ member_names (others ps (option_map_or f o []))
 names_seen ps f None = refl
 names_seen ps f (Some x) = refl
 
@@ -42,15 +42,15 @@ texts_left ps es = texts_of (others ps (member_list (members_view es)))
 
 pub texts_one : (ps : List Property) (front : List (List ℕ × List ℕ)) (name : String Global) (value : Value) (es : List (String Global × Value))
     → is_fixed ps (string_bytes name) ≡ false
-    → front ++ texts_left ps ((name, value) ∷ es) ≡ front ++ (string_bytes name, text_of (view value)) ∷ texts_left ps es
+    → front ++ texts_left ps ((name, value) ∷ es) ≡ front ++ (string_bytes name, text_or_empty (view value)) ∷ texts_left ps es
 texts_one ps front name value es is =
     ap (λ gs. front ++ texts_of gs) (other_more ps (string_bytes name, view value) (member_list (members_view es)) is)
 
 pub texts_more : (ps : List Property) (front : List (List ℕ × List ℕ)) (name : String Global) (value : Value) (es : List (String Global × Value))
     → is_fixed ps (string_bytes name) ≡ false
-    → front ++ texts_left ps ((name, value) ∷ es) ≡ (front ++ (string_bytes name, text_of (view value)) ∷ []) ++ texts_left ps es
+    → front ++ texts_left ps ((name, value) ∷ es) ≡ (front ++ (string_bytes name, text_or_empty (view value)) ∷ []) ++ texts_left ps es
 texts_more ps front name value es is =
-    texts_one ps front name value es is ∙ sym (append_assoc front ((string_bytes name, text_of (view value)) ∷ []) (texts_left ps es))
+    texts_one ps front name value es is ∙ sym (append_assoc front ((string_bytes name, text_or_empty (view value)) ∷ []) (texts_left ps es))
 
 pub texts_past : (ps : List Property) (name : String Global) (value : Value) (es : List (String Global × Value))
     → is_fixed ps (string_bytes name) ≡ true → texts_left ps ((name, value) ∷ es) ≡ texts_left ps es
@@ -72,14 +72,14 @@ others_counted ps (e ∷ es) = counted_at (is_fixed ps (string_bytes e.0)) ps e 
 -- ---- what is among them
 
 any_at : (b : Bool) (ps : List Property) (test : List ℕ → Bool) (g : List ℕ × Data) (gs : List (List ℕ × Data))
-    → list_any (λ name. not (is_fixed ps name) && test name) (names_of gs) ≡ list_any test (names_of (others ps gs))
-    → ((not b && test g.0) || list_any (λ name. not (is_fixed ps name) && test name) (names_of gs))
-    ≡ list_any test (names_of (cond (not b) (g ∷ others ps gs) (others ps gs)))
+    → list_any (λ name. not (is_fixed ps name) && test name) (member_names gs) ≡ list_any test (member_names (others ps gs))
+    → ((not b && test g.0) || list_any (λ name. not (is_fixed ps name) && test name) (member_names gs))
+    ≡ list_any test (member_names (cond (not b) (g ∷ others ps gs) (others ps gs)))
 any_at true ps test g gs later = later
 any_at false ps test g gs later = ap (λ b. test g.0 || b) later
 
 pub any_others : (ps : List Property) (test : List ℕ → Bool) (gs : List (List ℕ × Data))
-    → list_any (λ name. not (is_fixed ps name) && test name) (names_of gs) ≡ list_any test (names_of (others ps gs))
+    → list_any (λ name. not (is_fixed ps name) && test name) (member_names gs) ≡ list_any test (member_names (others ps gs))
 any_others ps test [] = refl
 any_others ps test (g ∷ gs) = any_at (is_fixed ps g.0) ps test g gs (any_others ps test gs)
 
@@ -92,13 +92,13 @@ names_differ ps name k b one other =
     apart false e = absurd (cc)
 
 among_at : (b c : Bool) (ps : List Property) (name : List ℕ) (g : List ℕ × Data) (gs : List (List ℕ × Data)) → is_fixed ps name ≡ b
-    → is_fixed ps g.0 ≡ c → (not b && is_among name (names_of gs)) ≡ is_among name (names_of (others ps gs))
-    → (not b && (bytes_eq name g.0 || is_among name (names_of gs))) ≡ is_among name (names_of (cond (not c) (g ∷ others ps gs) (others ps gs)))
+    → is_fixed ps g.0 ≡ c → (not b && is_among name (member_names gs)) ≡ is_among name (member_names (others ps gs))
+    → (not b && (bytes_eq name g.0 || is_among name (member_names gs))) ≡ is_among name (member_names (cond (not c) (g ∷ others ps gs) (others ps gs)))
 among_at true true ps name g gs is one later = later
 among_at true false ps name g gs is one later =
-    later ∙ sym (ap (λ b. b || is_among name (names_of (others ps gs))) (names_differ ps name g.0 true is one))
+    later ∙ sym (ap (λ b. b || is_among name (member_names (others ps gs))) (names_differ ps name g.0 true is one))
 among_at false true ps name g gs is one later =
-    ap (λ b. b || is_among name (names_of gs)) (names_differ ps name g.0 false is one) ∙ later
+    ap (λ b. b || is_among name (member_names gs)) (names_differ ps name g.0 false is one) ∙ later
 among_at false false ps name g gs is one later = ap (λ b. bytes_eq name g.0 || b) later
 
 among_none : (b : Bool) → (not b && false) ≡ false
@@ -106,7 +106,7 @@ among_none true = refl
 among_none false = refl
 
 pub among_others : (ps : List Property) (name : List ℕ) (gs : List (List ℕ × Data))
-    → (not (is_fixed ps name) && is_among name (names_of gs)) ≡ is_among name (names_of (others ps gs))
+    → (not (is_fixed ps name) && is_among name (member_names gs)) ≡ is_among name (member_names (others ps gs))
 among_others ps name [] = among_none (is_fixed ps name)
 among_others ps name (g ∷ gs) = among_at (is_fixed ps name) (is_fixed ps g.0) ps name g gs refl refl (among_others ps name gs)
 
@@ -154,16 +154,16 @@ without_second a b (c ∷ names) all =
     and_from (is_lt (slice_cmp nat_cmp a c)) _ (less_later a b c first.0 second.0) second.1
 
 behind_at : (b : Bool) (name : List ℕ) (ps : List Property) (g : List ℕ × Data) (gs : List (List ℕ × Data))
-    → are_ascending (name ∷ g.0 ∷ names_of gs) ≡ true
-    → ((before : List ℕ) → are_ascending (before ∷ names_of gs) ≡ true → are_ascending (before ∷ names_of (others ps gs)) ≡ true)
-    → are_ascending (name ∷ names_of (cond (not b) (g ∷ others ps gs) (others ps gs))) ≡ true
-behind_at true name ps g gs all later = later name (without_second name g.0 (names_of gs) all)
+    → are_ascending (name ∷ g.0 ∷ member_names gs) ≡ true
+    → ((before : List ℕ) → are_ascending (before ∷ member_names gs) ≡ true → are_ascending (before ∷ member_names (others ps gs)) ≡ true)
+    → are_ascending (name ∷ member_names (cond (not b) (g ∷ others ps gs) (others ps gs))) ≡ true
+behind_at true name ps g gs all later = later name (without_second name g.0 (member_names gs) all)
 behind_at false name ps g gs all later =
-    let both = and_parts (is_lt (slice_cmp nat_cmp name g.0)) (are_ascending (g.0 ∷ names_of gs)) all in
+    let both = and_parts (is_lt (slice_cmp nat_cmp name g.0)) (are_ascending (g.0 ∷ member_names gs)) all in
     and_from (is_lt (slice_cmp nat_cmp name g.0)) _ both.0 (later g.0 both.1)
 
-ascending_behind : (name : List ℕ) (ps : List Property) (gs : List (List ℕ × Data)) → are_ascending (name ∷ names_of gs) ≡ true
-    → are_ascending (name ∷ names_of (others ps gs)) ≡ true
+ascending_behind : (name : List ℕ) (ps : List Property) (gs : List (List ℕ × Data)) → are_ascending (name ∷ member_names gs) ≡ true
+    → are_ascending (name ∷ member_names (others ps gs)) ≡ true
 ascending_behind name ps [] all = refl
 ascending_behind name ps (g ∷ gs) all =
     behind_at (is_fixed ps g.0) name ps g gs all (λ before h. ascending_behind before ps gs h)
@@ -172,12 +172,12 @@ tail_ascends : (name : List ℕ) (names : List (List ℕ)) → are_ascending (na
 tail_ascends name [] all = refl
 tail_ascends name (next ∷ names) all = (and_parts (is_lt (slice_cmp nat_cmp name next)) (are_ascending (next ∷ names)) all).1
 
-ascending_at : (b : Bool) (ps : List Property) (g : List ℕ × Data) (gs : List (List ℕ × Data)) → are_ascending (g.0 ∷ names_of gs) ≡ true
-    → are_ascending (names_of (others ps gs)) ≡ true → are_ascending (names_of (cond (not b) (g ∷ others ps gs) (others ps gs))) ≡ true
+ascending_at : (b : Bool) (ps : List Property) (g : List ℕ × Data) (gs : List (List ℕ × Data)) → are_ascending (g.0 ∷ member_names gs) ≡ true
+    → are_ascending (member_names (others ps gs)) ≡ true → are_ascending (member_names (cond (not b) (g ∷ others ps gs) (others ps gs))) ≡ true
 ascending_at true ps g gs all later = later
 ascending_at false ps g gs all later = ascending_behind g.0 ps gs all
 
-pub ascending_others : (ps : List Property) (gs : List (List ℕ × Data)) → are_ascending (names_of gs) ≡ true → are_ascending (names_of (others ps gs)) ≡ true
+pub ascending_others : (ps : List Property) (gs : List (List ℕ × Data)) → are_ascending (member_names gs) ≡ true → are_ascending (member_names (others ps gs)) ≡ true
 ascending_others ps [] all = refl
 ascending_others ps (g ∷ gs) all =
-    ascending_at (is_fixed ps g.0) ps g gs all (ascending_others ps gs (tail_ascends g.0 (names_of gs) all))
+    ascending_at (is_fixed ps g.0) ps g gs all (ascending_others ps gs (tail_ascends g.0 (member_names gs) all))

@@ -9,7 +9,7 @@ use Rattle.machine_model.specs.Sound.{MatchesWhole}
 use Rattle.machine_model.specs.declared.kind.OwnPattern.{OwnPattern}
 use Rattle.flow_definition.specs.declared.own_patterns.Attempt.{Attempt}
 use Rattle.flow_definition.specs.declared.own_patterns.Attempt.TheVariants.{Read, Unread, TooBig}
-use Rattle.flow_definition.specs.Looks.{names_of, own_properties_in, own_texts_in}
+use Rattle.flow_definition.specs.Looks.{member_names, own_properties_in, own_texts_in}
 use Rattle.flow_definition.specs.OwnPatterns.{IsAttempt, AreAttempts, is_read, read_in, unread_in, told_attempt, told_attempts}
 use Rattle.flow_definition.specs.Patterns.{Told}
 use Rattle.flow_definition.specs.Reading.{own_patterns, patterns_of, patterns_in, is_whole_in}
@@ -95,7 +95,7 @@ names_by_texts whole [] = refl
 names_by_texts whole (t ∷ ts) = ap (λ names. t.0 ∷ names) (names_by_texts whole ts)
 
 pub pattern_names : (d : Data) (list : List OwnPattern) → own_patterns list ≡ patterns_in d
-    → map (λ property. property.name) list ≡ names_of (own_properties_in d)
+    → map (λ property. property.name) list ≡ member_names (own_properties_in d)
 pattern_names d list is =
     names_by_pairs list ∙ ap (map (λ t. t.0)) is ∙ names_by_texts (is_whole_in d) (own_texts_in d) ∙ texts_named (own_properties_in d)
 

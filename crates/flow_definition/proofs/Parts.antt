@@ -28,11 +28,11 @@ use Rattle.flow_definition.specs.declared.processor_type.ProcessorType.TheVarian
 use Rattle.flow_definition.specs.declared.processor_type.ReplaceStrategy.{ReplaceStrategy}
 use Rattle.flow_definition.specs.declared.processor_type.ReplaceStrategy.TheVariants as strategy
 use Rattle.flow_definition.specs.declared.processor_type.Property.TheVariants.{FileFilter, Count, CustomText, AttributesList, Copies, LineSplitCount, ReplacementValue, SearchValue, MinimumEntries, MaximumEntries, SegmentSize, StartOffset, EndOffset}
-use Rattle.flow_definition.specs.Looks.{value_at, text_at, has_text, items_at, names_at, type_of, relationships_in, relationships_given, names_of, given_in, others, own_given, own_texts_in, processor_named, property_text}
+use Rattle.flow_definition.specs.Looks.{value_at, field_text, has_text, list_items_at, names_at, type_of, relationships_in, relationships_given, member_names, given_properties, others, own_given, own_texts_in, processor_named, property_text}
 use Rattle.flow_definition.specs.Reading.{id_at, place_at, connection_of, replace_strategy_in, requirement_in, must_match_whole, IsReplacementOf, IsKindOf, IsProcessorOf, AreProcessorsOf}
 use Rattle.flow_definition.specs.Rules.{may_be_end, in_item, wrong_item, wrong_name}
-use Rattle.flow_definition.specs.Shapes.{number_in}
-use Rattle.flow_definition.specs.Types.{own_of, properties_of, relationships_of, is_source}
+use Rattle.flow_definition.specs.Shapes.{number_of_digits}
+use Rattle.flow_definition.specs.Types.{own_of_type, properties_of, relationships_of_type, is_source_type}
 use Rattle.flow_definition.proofs.Ends.{HasPlace, place_found, HasProcessor, processor_at}
 use Rattle.flow_definition.proofs.Given.{text_given, id_given, names_given, number_within, number_below, prioritizers_given}
 use Rattle.flow_definition.proofs.Commas.{names_listed}
@@ -57,92 +57,92 @@ matches text (Some pattern) is = (text, is)
 pub record IsTyped (d : Data) (k : Kind) : Type 0 where
   pub typed : is_some (type_of d) ≡ true
   pub names : relationships_in d ≡ kinds.relationships_of k
-  pub source : option_map_or is_source (type_of d) false ≡ kinds.is_source k
+  pub source : option_map_or is_source_type (type_of d) false ≡ kinds.is_source k
 
 abbrev names_by : Data → Option ProcessorType → List (List ℕ)
 names_by d type =
-    names_of (relationships_given (option_map_or own_of type own.Nothing) (others (option_map_or properties_of type []) (given_in d)))
-    ++ option_map_or relationships_of type []
+    member_names (relationships_given (option_map_or own_of_type type own.Nothing) (others (option_map_or properties_of type []) (given_properties d)))
+    ++ option_map_or relationships_of_type type []
 
 abbrev own_names_by : Data → Option ProcessorType → List (List ℕ)
-own_names_by d type = names_of (own_given (option_map_or own_of type own.Nothing) (others (option_map_or properties_of type []) (given_in d)))
+own_names_by d type = member_names (own_given (option_map_or own_of_type type own.Nothing) (others (option_map_or properties_of type []) (given_properties d)))
 
 pub kind_typed : (d : Data) (k : Kind) → IsKindOf d k → IsTyped d k
 kind_typed d (kind.GetFile filter) is = record {
   typed = ap is_some is.0;
   names = ap (names_by d) is.0;
-  source = ap (λ type. option_map_or is_source type false) is.0;
+  source = ap (λ type. option_map_or is_source_type type false) is.0;
 }
 kind_typed d (kind.GenerateFlowFile count text) is = record {
   typed = ap is_some is.0;
   names = ap (names_by d) is.0;
-  source = ap (λ type. option_map_or is_source type false) is.0;
+  source = ap (λ type. option_map_or is_source_type type false) is.0;
 }
 kind_typed d (kind.PutFile conflict) is = record {
   typed = ap is_some is.0;
   names = ap (names_by d) is.0;
-  source = ap (λ type. option_map_or is_source type false) is.0;
+  source = ap (λ type. option_map_or is_source_type type false) is.0;
 }
 kind_typed d (kind.UpdateAttribute own) is = record {
   typed = ap is_some is.0;
   names = ap (names_by d) is.0;
-  source = ap (λ type. option_map_or is_source type false) is.0;
+  source = ap (λ type. option_map_or is_source_type type false) is.0;
 }
 kind_typed d (kind.RouteOnAttribute list) is = record {
   typed = ap is_some is.0;
   names = ap (names_by d) is.0 ∙ ap (λ names. names ++ codes "unmatched" ∷ []) (sym (names_read d list is.1 ∙ ap (own_names_by d) is.0));
-  source = ap (λ type. option_map_or is_source type false) is.0;
+  source = ap (λ type. option_map_or is_source_type type false) is.0;
 }
 kind_typed d (kind.AttributesToJson destination names) is = record {
   typed = ap is_some is.0;
   names = ap (names_by d) is.0;
-  source = ap (λ type. option_map_or is_source type false) is.0;
+  source = ap (λ type. option_map_or is_source_type type false) is.0;
 }
 kind_typed d (kind.DuplicateFlowFile copies) is = record {
   typed = ap is_some is.0;
   names = ap (names_by d) is.0;
-  source = ap (λ type. option_map_or is_source type false) is.0;
+  source = ap (λ type. option_map_or is_source_type type false) is.0;
 }
 kind_typed d kind.CryptographicHashContent is = record {
   typed = ap is_some is;
   names = ap (names_by d) is;
-  source = ap (λ type. option_map_or is_source type false) is;
+  source = ap (λ type. option_map_or is_source_type type false) is;
 }
 kind_typed d (kind.SplitText lines) is = record {
   typed = ap is_some is.0;
   names = ap (names_by d) is.0;
-  source = ap (λ type. option_map_or is_source type false) is.0;
+  source = ap (λ type. option_map_or is_source_type type false) is.0;
 }
 kind_typed d (kind.ReplaceText by) is = record {
   typed = ap is_some is.0;
   names = ap (names_by d) is.0;
-  source = ap (λ type. option_map_or is_source type false) is.0;
+  source = ap (λ type. option_map_or is_source_type type false) is.0;
 }
 kind_typed d (kind.ExtractText list) is = record {
   typed = ap is_some is.0;
   names = ap (names_by d) is.0;
-  source = ap (λ type. option_map_or is_source type false) is.0;
+  source = ap (λ type. option_map_or is_source_type type false) is.0;
 }
 kind_typed d (kind.RouteOnContent requirement list) is = record {
   typed = ap is_some is.0;
   names = ap (names_by d) is.0
       ∙ ap (λ names. names ++ codes "unmatched" ∷ []) (sym (pattern_names d list is.2 ∙ ap (own_names_by d) is.0));
-  source = ap (λ type. option_map_or is_source type false) is.0;
+  source = ap (λ type. option_map_or is_source_type type false) is.0;
 }
 kind_typed d (kind.MergeContent by minimum maximum) is = record {
   typed = ap is_some is.0;
   names = ap (names_by d) is.0;
-  source = ap (λ type. option_map_or is_source type false) is.0;
+  source = ap (λ type. option_map_or is_source_type type false) is.0;
 }
 kind_typed d (kind.SegmentContent size) is = record {
   typed = ap is_some is.0;
   names = ap (names_by d) is.0;
-  source = ap (λ type. option_map_or is_source type false) is.0;
+  source = ap (λ type. option_map_or is_source_type type false) is.0;
 }
 kind_typed d (kind.ModifyBytes start end) is = record {
   typed = ap is_some is.0;
   names = ap (names_by d) is.0;
-  source = ap (λ type. option_map_or is_source type false) is.0;
+  source = ap (λ type. option_map_or is_source_type type false) is.0;
 }
 
 replacement_sound : (d : Data) (s : ReplaceStrategy) (by : Replacement) → IsRight d → type_of d ≡ Some type.ReplaceText
@@ -158,7 +158,7 @@ kind_sound : (d : Data) (k : Kind) → IsRight d → IsKindOf d k → IsSoundKin
 kind_sound d (kind.GetFile filter) right is =
     record { ranges = refl; texts = matches (property_text FileFilter d) filter is.1 }
 kind_sound d (kind.GenerateFlowFile count text) right is = record {
-  ranges = ap (λ n. nat_le n GENERATED_MAX) is.1 ∙ number_below 0 GENERATED_MAX (number_in (property_text Count d)) refl;
+  ranges = ap (λ n. nat_le n GENERATED_MAX) is.1 ∙ number_below 0 GENERATED_MAX (number_of_digits (property_text Count d)) refl;
   texts = (property_text CustomText d, is.2);
 }
 kind_sound d (kind.PutFile conflict) right is = record { ranges = refl; texts = tt }
@@ -177,12 +177,12 @@ kind_sound d (kind.AttributesToJson destination names) right is = record {
   texts = tt;
 }
 kind_sound d (kind.DuplicateFlowFile copies) right is = record {
-  ranges = ap (λ n. within 1 n COPIES_MAX) is.1 ∙ number_within 100 1 COPIES_MAX (number_in (property_text Copies d)) refl;
+  ranges = ap (λ n. within 1 n COPIES_MAX) is.1 ∙ number_within 100 1 COPIES_MAX (number_of_digits (property_text Copies d)) refl;
   texts = tt;
 }
 kind_sound d kind.CryptographicHashContent right is = record { ranges = refl; texts = tt }
 kind_sound d (kind.SplitText lines) right is = record {
-  ranges = ap (λ n. within 1 n LINES_MAX) is.1 ∙ number_within 1 1 LINES_MAX (number_in (property_text LineSplitCount d)) refl;
+  ranges = ap (λ n. within 1 n LINES_MAX) is.1 ∙ number_within 1 1 LINES_MAX (number_of_digits (property_text LineSplitCount d)) refl;
   texts = tt;
 }
 kind_sound d (kind.ReplaceText by) right is =
@@ -195,7 +195,7 @@ kind_sound d (kind.RouteOnContent requirement.Exactly list) right is = record {
   ranges = ap are_own_relationships (pattern_names d list is.2)
       ∙ relationships_sound d type.RouteOnContent right is.0 (λ gs. refl) (λ name. refl);
   texts = whole_matched d list
-      (ap (λ type. must_match_whole (option_map_or own_of type own.Nothing) (requirement_in d)) is.0
+      (ap (λ type. must_match_whole (option_map_or own_of_type type own.Nothing) (requirement_in d)) is.0
       ∙ ap (must_match_whole own.RelationshipPatterns) (sym is.1)) is.2;
 }
 kind_sound d (kind.RouteOnContent requirement.Contains list) right is = record {
@@ -206,20 +206,20 @@ kind_sound d (kind.RouteOnContent requirement.Contains list) right is = record {
 kind_sound d (kind.MergeContent by minimum maximum) right is = record {
   ranges = and_from _ _
       (and_from _ _
-      (ap (λ n. within 1 n TAKEN_MAX) is.2 ∙ number_within 1 1 TAKEN_MAX (number_in (property_text MinimumEntries d)) refl)
-      (ap (λ n. within 1 n TAKEN_MAX) is.3 ∙ number_within 1 1 TAKEN_MAX (number_in (property_text MaximumEntries d)) refl))
+      (ap (λ n. within 1 n TAKEN_MAX) is.2 ∙ number_within 1 1 TAKEN_MAX (number_of_digits (property_text MinimumEntries d)) refl)
+      (ap (λ n. within 1 n TAKEN_MAX) is.3 ∙ number_within 1 1 TAKEN_MAX (number_of_digits (property_text MaximumEntries d)) refl))
       ((λ i. are_entries_sound (is.1 i) (is.2 i) (is.3 i)) ∙ entries_sound d right is.0);
   texts = tt;
 }
 kind_sound d (kind.SegmentContent size) right is = record {
   ranges = ap (λ n. within 1 n CONTENT_MAX) is.1
-      ∙ number_within 1 1 CONTENT_MAX (number_in (property_text SegmentSize d)) refl;
+      ∙ number_within 1 1 CONTENT_MAX (number_of_digits (property_text SegmentSize d)) refl;
   texts = tt;
 }
 kind_sound d (kind.ModifyBytes start end) right is = record {
   ranges = and_from _ _
-      (ap (λ n. nat_le n CONTENT_MAX) is.1 ∙ number_below 0 CONTENT_MAX (number_in (property_text StartOffset d)) refl)
-      (ap (λ n. nat_le n CONTENT_MAX) is.2 ∙ number_below 0 CONTENT_MAX (number_in (property_text EndOffset d)) refl);
+      (ap (λ n. nat_le n CONTENT_MAX) is.1 ∙ number_below 0 CONTENT_MAX (number_of_digits (property_text StartOffset d)) refl)
+      (ap (λ n. nat_le n CONTENT_MAX) is.2 ∙ number_below 0 CONTENT_MAX (number_of_digits (property_text EndOffset d)) refl);
   texts = tt;
 }
 
@@ -319,16 +319,16 @@ pub connection_ids : (top : Data) (cs : List Data) → map (λ connection. conne
 connection_ids top [] = refl
 connection_ids top (c ∷ cs) = ap (λ ids. id_at Id c ∷ ids) (connection_ids top cs)
 
-pub source_given : (top : Data) (earlier : List Data) (c : Data) → IsPassedConnection top earlier c → text_at From c ≡ Some (id_at From c)
+pub source_given : (top : Data) (earlier : List Data) (c : Data) → IsPassedConnection top earlier c → field_text From c ≡ Some (id_at From c)
 source_given top earlier c passed = text_given (value_at From c) passed.given.1.0 passed.shaped.1.0
 
-target_given : (top : Data) (earlier : List Data) (c : Data) → IsPassedConnection top earlier c → text_at To c ≡ Some (id_at To c)
+target_given : (top : Data) (earlier : List Data) (c : Data) → IsPassedConnection top earlier c → field_text To c ≡ Some (id_at To c)
 target_given top earlier c passed = text_given (value_at To c) passed.given.1.1.0 passed.shaped.1.1.0
 
-pub source_place : (top : Data) (earlier : List Data) (c : Data) → length (items_at Processors top) ≤ PROCESSORS_MAX
-    → IsPassedConnection top earlier c → HasPlace (has_text Id (id_at From c)) (items_at Processors top)
+pub source_place : (top : Data) (earlier : List Data) (c : Data) → length (list_items_at Processors top) ≤ PROCESSORS_MAX
+    → IsPassedConnection top earlier c → HasPlace (has_text Id (id_at From c)) (list_items_at Processors top)
 source_place top earlier c few passed =
-    place_found (has_text Id (id_at From c)) (items_at Processors top) few
+    place_found (has_text Id (id_at From c)) (list_items_at Processors top) few
     (sym (ap (λ (o : Option (List ℕ)). option_map_or (λ id. is_none (processor_named top id)) o false) (source_given top earlier c passed)) ∙ passed.source)
 
 may_end : (top : Data) (earlier : List Data) (c : Data) → IsPassedConnection top earlier c → may_be_end (processor_named top (id_at To c)) ≡ true
@@ -342,18 +342,18 @@ end_there None ends = absurd (false≢true ends)
 end_there (Some d) ends = refl
 
 -- the processor at the end that a field names
-end_at : (top : Data) (ps : List Processor) (f : Field) (c : Data) (place : HasPlace (has_text Id (id_at f c)) (items_at Processors top))
-    → AreProcessorsOf (items_at Processors top) ps → HasProcessor place.found (slice_get ps (place_at top f c))
+end_at : (top : Data) (ps : List Processor) (f : Field) (c : Data) (place : HasPlace (has_text Id (id_at f c)) (list_items_at Processors top))
+    → AreProcessorsOf (list_items_at Processors top) ps → HasProcessor place.found (slice_get ps (place_at top f c))
 end_at top ps f c place each =
-    let has = processor_at (items_at Processors top) ps (position_or_len (has_text Id (id_at f c)) (items_at Processors top)) place.found each place.at in
+    let has = processor_at (list_items_at Processors top) ps (position_or_len (has_text Id (id_at f c)) (list_items_at Processors top)) place.found each place.at in
     record {
       processor = has.processor;
       is = ap (slice_get ps) place.place ∙ has.is;
       read = has.read;
     }
 
-sound_source : (top : Data) (flow : Flow) (earlier : List Data) (c : Data) → length (items_at Processors top) ≤ PROCESSORS_MAX
-    → AreProcessorsOf (items_at Processors top) flow.processors → IsPassedConnection top earlier c
+sound_source : (top : Data) (flow : Flow) (earlier : List Data) (c : Data) → length (list_items_at Processors top) ≤ PROCESSORS_MAX
+    → AreProcessorsOf (list_items_at Processors top) flow.processors → IsPassedConnection top earlier c
     → (are_distinct_texts (names_at Relationships c) ≡ true)
     × (has_relationships (connection_of top c) (slice_get flow.processors (place_at top From c)) ≡ true)
 sound_source top flow earlier c few each passed =
@@ -365,12 +365,12 @@ sound_source top flow earlier c few each passed =
     let names = has_names Relationships place.found c end.processor.kind (kind_typed place.found end.processor.kind end.read.kind) named in
     (names.distinct, ap (has_relationships (connection_of top c)) end.is ∙ names.among)
 
-sound_target : (top : Data) (flow : Flow) (earlier : List Data) (c : Data) → length (items_at Processors top) ≤ PROCESSORS_MAX
-    → AreProcessorsOf (items_at Processors top) flow.processors → IsPassedConnection top earlier c
+sound_target : (top : Data) (flow : Flow) (earlier : List Data) (c : Data) → length (list_items_at Processors top) ≤ PROCESSORS_MAX
+    → AreProcessorsOf (list_items_at Processors top) flow.processors → IsPassedConnection top earlier c
     → may_be_target (slice_get flow.processors (place_at top To c)) ≡ true
 sound_target top flow earlier c few each passed =
     let ends = may_end top earlier c passed in
-    let place = place_found (has_text Id (id_at To c)) (items_at Processors top) few (end_there _ ends) in
+    let place = place_found (has_text Id (id_at To c)) (list_items_at Processors top) few (end_there _ ends) in
     let end = end_at top flow.processors To c place each in
     let typed = kind_typed place.found end.processor.kind end.read.kind in
     ap may_be_target end.is ∙ ap not (sym typed.source) ∙ sym (ap may_be_end place.is) ∙ ends
@@ -385,8 +385,8 @@ sound_limits top c =
     (number_below 1_073_741_824 QUEUE_LIMIT_MAX (number_given Bytes c) refl))
     (number_within 20_000 SWAP_MIN SWAP_MAX (number_given Swap c) refl)
 
-sound_connection : (top : Data) (flow : Flow) (earlier : List Data) (c : Data) → length (items_at Processors top) ≤ PROCESSORS_MAX
-    → AreProcessorsOf (items_at Processors top) flow.processors → IsPassedConnection top earlier c
+sound_connection : (top : Data) (flow : Flow) (earlier : List Data) (c : Data) → length (list_items_at Processors top) ≤ PROCESSORS_MAX
+    → AreProcessorsOf (list_items_at Processors top) flow.processors → IsPassedConnection top earlier c
     → is_sound_connection flow (connection_of top c) ≡ true
 sound_connection top flow earlier c few each passed =
     let source = sound_source top flow earlier c few each passed in
@@ -402,8 +402,8 @@ sound_connection top flow earlier c few each passed =
     source.1)
     (sound_target top flow earlier c few each passed)
 
-pub sound_connections : (top : Data) (flow : Flow) (earlier cs : List Data) → length (items_at Processors top) ≤ PROCESSORS_MAX
-    → AreProcessorsOf (items_at Processors top) flow.processors → ArePassedConnections top earlier cs
+pub sound_connections : (top : Data) (flow : Flow) (earlier cs : List Data) → length (list_items_at Processors top) ≤ PROCESSORS_MAX
+    → AreProcessorsOf (list_items_at Processors top) flow.processors → ArePassedConnections top earlier cs
     → list_all (is_sound_connection flow) (map (connection_of top) cs) ≡ true
 sound_connections top flow earlier [] few each passed = refl
 sound_connections top flow earlier (c ∷ cs) few each passed =

@@ -12,10 +12,10 @@ use Rattle.flow_definition.specs.declared.field.Level.TheVariants as level
 use Rattle.flow_definition.specs.declared.rule.Rule.{Rule}
 use Rattle.flow_definition.specs.declared.rule.Rule.TheVariants.{MissingField, DoubleId, UnknownEnd, RelationshipUnconnected, BadProperty, TooMany, BadNumber}
 use Rattle.flow_definition.specs.Fields.{fields_of}
-use Rattle.flow_definition.specs.Looks.{items_at, is_object, relationships_in, given_in, own_properties_in, properties_in}
+use Rattle.flow_definition.specs.Looks.{list_items_at, is_object, relationships_in, given_properties, own_properties_in, properties_in}
 use Rattle.flow_definition.specs.Rules.{Path, in_field, in_property, is_missing, missing_field, is_missing_property, missing_property, is_doubled, is_unknown_source, is_unknown_target, is_loose, wrong_item, not_of_source, is_misshapen, misshapen_field, is_bad_property, bad_property, bad_number, is_bad_number_property, bad_number_property, has_crowded, are_connections_too_many}
 use Rattle.flow_definition.specs.Types.{property_name}
-use Rattle.flow_definition.specs.Walk.{in_top, in_level, in_list_item, in_object, first_in, first_place, first_of, first_rules, last_rules}
+use Rattle.flow_definition.specs.Walk.{in_top, in_level, in_list_item, in_object, first_broken_in, first_broken_place, first_broken, first_rules, last_rules}
 
 -- ---- nothing was found
 
@@ -46,24 +46,24 @@ unfound p (x ∷ xs) e =
 
 pub record IsPassed (rule : Rule) (top : Data) : Type 0 where
   pub whole : in_top rule top ≡ None
-  pub processors : first_in (in_level level.Processor rule top) Processors [] (items_at Processors top) ≡ None
-  pub connections : first_in (in_level level.Connection rule top) Connections [] (items_at Connections top) ≡ None
+  pub processors : first_broken_in (in_level level.Processor rule top) Processors [] (list_items_at Processors top) ≡ None
+  pub connections : first_broken_in (in_level level.Connection rule top) Connections [] (list_items_at Connections top) ≡ None
 
-passed : (rule : Rule) (top : Data) → first_place rule top ≡ None → IsPassed rule top
+passed : (rule : Rule) (top : Data) → first_broken_place rule top ≡ None → IsPassed rule top
 passed rule top e =
     let below = none_or (in_top rule top) _ e in
-    let lists = none_or (first_in (in_level level.Processor rule top) Processors [] (items_at Processors top)) _ below.1 in
+    let lists = none_or (first_broken_in (in_level level.Processor rule top) Processors [] (list_items_at Processors top)) _ below.1 in
     record { whole = below.0; processors = lists.0; connections = lists.1 }
 
 abbrev AllPassed : List Rule → Data → Type 0
 AllPassed [] top = Unit {0}
 AllPassed (rule ∷ rules) top = IsPassed rule top × AllPassed rules top
 
-all_passed : (rules : List Rule) (top : Data) → first_of rules top ≡ None → AllPassed rules top
+all_passed : (rules : List Rule) (top : Data) → first_broken rules top ≡ None → AllPassed rules top
 all_passed [] top e = tt
 all_passed (rule ∷ rules) top e =
-    let both = none_or (option_map {U = Rule × Path} (λ path. (rule, path)) (first_place rule top)) (first_of rules top) e in
-    (passed rule top (none_map {Y = Rule × Path} (λ path. (rule, path)) (first_place rule top) both.0), all_passed rules top both.1)
+    let both = none_or (option_map {U = Rule × Path} (λ path. (rule, path)) (first_broken_place rule top)) (first_broken rules top) e in
+    (passed rule top (none_map {Y = Rule × Path} (λ path. (rule, path)) (first_broken_place rule top) both.0), all_passed rules top both.1)
 
 pub record IsUnbroken (top : Data) : Type 0 where
   pub given : IsPassed MissingField top
@@ -74,7 +74,7 @@ pub record IsUnbroken (top : Data) : Type 0 where
   pub few : IsPassed TooMany top
   pub numbers : IsPassed BadNumber top
 
-pub unbroken : (top : Data) → first_of first_rules top ≡ None → first_of last_rules top ≡ None → IsUnbroken top
+pub unbroken : (top : Data) → first_broken first_rules top ≡ None → first_broken last_rules top ≡ None → IsUnbroken top
 unbroken top first last =
     let before : AllPassed first_rules top = all_passed first_rules top first in
     let behind : AllPassed last_rules top = all_passed last_rules top last in
@@ -91,7 +91,7 @@ unbroken top first last =
 -- ---- each object, behind the earlier ones of its list
 
 head_passed : (rule : List Data → Data → Option Path) (f : Field) (earlier ds : List Data) (d : Data) → is_object d ≡ true
-    → first_in rule f earlier (d ∷ ds) ≡ None → (rule earlier d ≡ None) × (first_in rule f (earlier ++ d ∷ []) ds ≡ None)
+    → first_broken_in rule f earlier (d ∷ ds) ≡ None → (rule earlier d ≡ None) × (first_broken_in rule f (earlier ++ d ∷ []) ds ≡ None)
 head_passed rule f earlier ds d is e =
     let both = none_or (option_map (in_list_item f (length earlier)) (in_object rule earlier d)) _ e in (
       sym (cond-true (is_object d) (rule earlier d) None is) ∙ none_map (in_list_item f (length earlier)) (in_object rule earlier d) both.0,
@@ -105,7 +105,7 @@ pub record IsPassedProcessor (top : Data) (earlier : List Data) (d : Data) : Typ
   pub named : wrong_item Terminated (Some d) d ≡ None
   pub shaped : NoneOf (is_misshapen d) (fields_of level.Processor)
   pub few : has_crowded top d ≡ false
-  pub own : NoneOf (is_bad_property d) (given_in d)
+  pub own : NoneOf (is_bad_property d) (given_properties d)
   pub properties : NoneOf (is_missing_property d) (properties_in d)
   pub numbers : NoneOf (is_bad_number_property d) (properties_in d)
   pub own_few : nat_lt OWN_PROPERTIES_MAX (length (own_properties_in d)) ≡ false
@@ -115,12 +115,12 @@ ArePassedProcessors top earlier [] = Unit {0}
 ArePassedProcessors top earlier (d ∷ ds) = IsPassedProcessor top earlier d × ArePassedProcessors top (earlier ++ d ∷ []) ds
 
 pub passed_processors : (top : Data) (earlier ds : List Data) → list_all is_object ds ≡ true
-    → first_in (in_level level.Processor MissingField top) Processors earlier ds ≡ None
-    → first_in (in_level level.Processor DoubleId top) Processors earlier ds ≡ None
-    → first_in (in_level level.Processor RelationshipUnconnected top) Processors earlier ds ≡ None
-    → first_in (in_level level.Processor BadProperty top) Processors earlier ds ≡ None
-    → first_in (in_level level.Processor TooMany top) Processors earlier ds ≡ None
-    → first_in (in_level level.Processor BadNumber top) Processors earlier ds ≡ None
+    → first_broken_in (in_level level.Processor MissingField top) Processors earlier ds ≡ None
+    → first_broken_in (in_level level.Processor DoubleId top) Processors earlier ds ≡ None
+    → first_broken_in (in_level level.Processor RelationshipUnconnected top) Processors earlier ds ≡ None
+    → first_broken_in (in_level level.Processor BadProperty top) Processors earlier ds ≡ None
+    → first_broken_in (in_level level.Processor TooMany top) Processors earlier ds ≡ None
+    → first_broken_in (in_level level.Processor BadNumber top) Processors earlier ds ≡ None
     → list_any (has_crowded top) ds ≡ false → ArePassedProcessors top earlier ds
 passed_processors top earlier [] objects given once connected shaped own numbers few = tt
 passed_processors top earlier (d ∷ ds) objects given once connected shaped own numbers few =
@@ -143,7 +143,7 @@ passed_processors top earlier (d ∷ ds) objects given once connected shaped own
         named = linked.1;
         shaped = unfound (is_misshapen d) (fields_of level.Processor) (none_map in_field _ p.0);
         few = f.0;
-        own = unfound (is_bad_property d) (given_in d) (none_map (λ given. in_property given.0) _ p.1);
+        own = unfound (is_bad_property d) (given_properties d) (none_map (λ given. in_property given.0) _ p.1);
         properties = unfound (is_missing_property d) (properties_in d) (none_map (λ p. in_property (property_name p)) _ n.1);
         numbers = unfound (is_bad_number_property d) (properties_in d)
             (none_map (λ p. in_property (property_name p)) _ (none_or (bad_number level.Processor d) (bad_number_property d) m.0).1);
@@ -165,11 +165,11 @@ ArePassedConnections top earlier [] = Unit {0}
 ArePassedConnections top earlier (d ∷ ds) = IsPassedConnection top earlier d × ArePassedConnections top (earlier ++ d ∷ []) ds
 
 pub passed_connections : (top : Data) (earlier ds : List Data) → list_all is_object ds ≡ true
-    → first_in (in_level level.Connection MissingField top) Connections earlier ds ≡ None
-    → first_in (in_level level.Connection DoubleId top) Connections earlier ds ≡ None
-    → first_in (in_level level.Connection UnknownEnd top) Connections earlier ds ≡ None
-    → first_in (in_level level.Connection RelationshipUnconnected top) Connections earlier ds ≡ None
-    → first_in (in_level level.Connection BadProperty top) Connections earlier ds ≡ None → ArePassedConnections top earlier ds
+    → first_broken_in (in_level level.Connection MissingField top) Connections earlier ds ≡ None
+    → first_broken_in (in_level level.Connection DoubleId top) Connections earlier ds ≡ None
+    → first_broken_in (in_level level.Connection UnknownEnd top) Connections earlier ds ≡ None
+    → first_broken_in (in_level level.Connection RelationshipUnconnected top) Connections earlier ds ≡ None
+    → first_broken_in (in_level level.Connection BadProperty top) Connections earlier ds ≡ None → ArePassedConnections top earlier ds
 passed_connections top earlier [] objects given once ends connected shaped = tt
 passed_connections top earlier (d ∷ ds) objects given once ends connected shaped =
     let is = and_parts (is_object d) (list_all is_object ds) objects in
@@ -194,13 +194,13 @@ passed_connections top earlier (d ∷ ds) objects given once ends connected shap
 -- ---- how many there are
 
 pub record IsFew (top : Data) : Type 0 where
-  pub processors : nat_lt PROCESSORS_MAX (length (items_at Processors top)) ≡ false
-  pub connections : nat_lt CONNECTIONS_MAX (length (items_at Connections top)) ≡ false
-  pub crowded : list_any (has_crowded top) (items_at Processors top) ≡ false
+  pub processors : nat_lt PROCESSORS_MAX (length (list_items_at Processors top)) ≡ false
+  pub connections : nat_lt CONNECTIONS_MAX (length (list_items_at Connections top)) ≡ false
+  pub crowded : list_any (has_crowded top) (list_items_at Processors top) ≡ false
 
 pub passed_few : (top : Data) → IsPassed TooMany top → IsFew top
 passed_few top few =
-    let processors = none_first (nat_lt PROCESSORS_MAX (length (items_at Processors top))) (in_field Processors) _ few.whole in
+    let processors = none_first (nat_lt PROCESSORS_MAX (length (list_items_at Processors top))) (in_field Processors) _ few.whole in
     let connections = none_first (are_connections_too_many top) (in_field Connections) None processors.1 in
-    let both = or_parts (nat_lt CONNECTIONS_MAX (length (items_at Connections top))) (list_any (has_crowded top) (items_at Processors top)) connections.0 in
+    let both = or_parts (nat_lt CONNECTIONS_MAX (length (list_items_at Connections top))) (list_any (has_crowded top) (list_items_at Processors top)) connections.0 in
     record { processors = processors.0; connections = both.0; crowded = both.1 }

@@ -18,9 +18,9 @@ use Rattle.flow_definition.specs.declared.processor_type.Form.TheVariants as for
 use Rattle.flow_definition.specs.declared.processor_type.ProcessorType.TheVariants.{ReplaceText, MergeContent}
 use Rattle.flow_definition.specs.declared.processor_type.Property.TheVariants.{SearchValue, MinimumEntries, MaximumEntries}
 use Rattle.flow_definition.specs.declared.processor_type.ReplaceStrategy.TheVariants.{Literal}
-use Rattle.flow_definition.specs.Looks.{value_at, is_object, member_list, members_of, names_of, type_of, properties_in, own_properties_in, given_in, given_at, property_text}
-use Rattle.flow_definition.specs.Reading.{replace_strategy_in, merge_strategy_in, number_by}
-use Rattle.flow_definition.specs.Rules.{is_misshapen, is_missing_property, is_bad_property, is_bad_value, is_above, is_above_most, is_bad_number_property, is_empty_search, may_give, may_hold, property_named}
+use Rattle.flow_definition.specs.Looks.{value_at, is_object, member_list, members_of, member_names, type_of, properties_in, own_properties_in, given_properties, given_value, property_text}
+use Rattle.flow_definition.specs.Reading.{replace_strategy_in, merge_strategy_in, property_number}
+use Rattle.flow_definition.specs.Rules.{is_misshapen, is_missing_property, is_bad_property, is_bad_value, is_above, is_above_most, is_bad_number_property, is_empty_search, may_give, property_may_hold, property_named}
 use Rattle.flow_definition.specs.Shapes.{is_of_set}
 use Rattle.flow_definition.specs.Types.{properties_of, property_name, default_of, form_of}
 use Rattle.flow_definition.proofs.Passed.{NoneOf}
@@ -29,10 +29,10 @@ use Rattle.flow_definition.proofs.Passed.{NoneOf}
 pub record IsRight (d : Data) : Type 0 where
   pub shaped : is_misshapen d Properties ≡ false
   pub given : NoneOf (is_missing_property d) (properties_in d)
-  pub right : NoneOf (is_bad_property d) (given_in d)
+  pub right : NoneOf (is_bad_property d) (given_properties d)
   pub numbers : NoneOf (is_bad_number_property d) (properties_in d)
   pub few : nat_lt OWN_PROPERTIES_MAX (length (own_properties_in d)) ≡ false
-  pub ascending : are_ascending (names_of (given_in d)) ≡ true
+  pub ascending : are_ascending (member_names (given_properties d)) ≡ true
 
 -- ---- what is given under a name was looked at
 
@@ -63,7 +63,7 @@ passes_option : (p : List ℕ × Data → Bool) (name : List ℕ) (o : Option Da
 passes_option p name None v e none = absurd (none-some v e)
 passes_option p name (Some d) v e none = passes_data p name d v e none
 
-pub passes_given : (p : List ℕ × Data → Bool) (name : List ℕ) (d v : Data) → given_at name d ≡ Some v → NoneOf p (given_in d) → p (name, v) ≡ false
+pub passes_given : (p : List ℕ × Data → Bool) (name : List ℕ) (d v : Data) → given_value name d ≡ Some v → NoneOf p (given_properties d) → p (name, v) ≡ false
 passes_given p name d v e none = passes_option p name (value_at Properties d) v e none
 
 -- ---- a required property is there
@@ -82,7 +82,7 @@ sought_some : (text : List ℕ) → is_empty_search Literal form.Search text ≡
 sought_some [] e = absurd (true≢false e)
 sought_some (c ∷ cs) e = lt-ltb 0 (length (c ∷ cs)) (omega arith)
 
-sought_text : (d : Data) (o : Option (List ℕ)) → replace_strategy_in d ≡ Literal → not (option_map_or (may_hold d SearchValue) o false) ≡ false
+sought_text : (d : Data) (o : Option (List ℕ)) → replace_strategy_in d ≡ Literal → not (option_map_or (property_may_hold d SearchValue) o false) ≡ false
     → nat_lt 0 (length (unwrap_or o (unwrap_or (default_of SearchValue) []))) ≡ true
 sought_text d None literal e = absurd (true≢false e)
 sought_text d (Some text) literal e =
@@ -90,7 +90,7 @@ sought_text d (Some text) literal e =
     sought_some text (sym (ap (λ s. is_empty_search s form.Search text) literal) ∙ not-true _ both.1)
 
 sought_given : (d : Data) (o : Option Data) → replace_strategy_in d ≡ Literal → is_none o ≡ false
-    → ((v : Data) → o ≡ Some v → not (option_map_or (may_hold d SearchValue) (as_str v) false) ≡ false)
+    → ((v : Data) → o ≡ Some v → not (option_map_or (property_may_hold d SearchValue) (as_str v) false) ≡ false)
     → nat_lt 0 (length (unwrap_or (option_and_then as_str o) (unwrap_or (default_of SearchValue) []))) ≡ true
 sought_given d None literal is right = absurd (true≢false is)
 sought_given d (Some v) literal is right = sought_text d (as_str v) literal (right v refl)
@@ -102,8 +102,8 @@ search_sound d right is literal =
     let each = subst (NoneOf (is_missing_property d)) (ap (λ type. option_map_or properties_of type []) is) right.given in
     let named : property_named d name ≡ Some SearchValue =
     ap (λ type. find (λ p. bytes_eq (property_name p) name) (option_map_or properties_of type [])) is in
-    sought_given d (given_at name d) literal
-    (there (may_give d) (is_none (given_at name d)) (gives (value_at Properties d) right.shaped) each.1.1.0)
+    sought_given d (given_value name d) literal
+    (there (may_give d) (is_none (given_value name d)) (gives (value_at Properties d) right.shaped) each.1.1.0)
     (λ v e. sym (ap (is_bad_value d (name, v)) named) ∙ passes_given (is_bad_property d) name d v e right.right)
 
 -- ---- of files that are joined by number the least isn't above the most
@@ -113,8 +113,8 @@ entries_at BinPacking minimum maximum within = le-leb minimum maximum (ltb-false
 entries_at Defragment minimum maximum within = refl
 
 pub entries_sound : (d : Data) → IsRight d → type_of d ≡ Some MergeContent
-    → are_entries_sound (merge_strategy_in d) (number_by MinimumEntries d) (number_by MaximumEntries d) ≡ true
+    → are_entries_sound (merge_strategy_in d) (property_number MinimumEntries d) (property_number MaximumEntries d) ≡ true
 entries_sound d right is =
     let each = subst (NoneOf (is_bad_number_property d)) (ap (λ type. option_map_or properties_of type []) is) right.numbers in
-    entries_at (merge_strategy_in d) (number_by MinimumEntries d) (number_by MaximumEntries d)
+    entries_at (merge_strategy_in d) (property_number MinimumEntries d) (property_number MaximumEntries d)
     (or_parts _ (is_above_most d MinimumEntries) each.1.1.0).1

@@ -13,12 +13,12 @@ use Rattle.flow_definition.specs.declared.field.Field.TheVariants.{Processors, C
 use Rattle.flow_definition.specs.declared.field.Level.TheVariants as level
 use Rattle.flow_definition.specs.declared.rule.Rule.{Rule}
 use Rattle.flow_definition.specs.declared.rule.Rule.TheVariants.{UnknownType, BadPattern, BadExpression}
-use Rattle.flow_definition.specs.Looks.{value_at, items_at}
+use Rattle.flow_definition.specs.Looks.{value_at, list_items_at}
 use Rattle.flow_definition.specs.Reading.{IsFlowOf, connection_of}
 use Rattle.flow_definition.specs.Fields.{fields_of}
 use Rattle.flow_definition.specs.Rules.{Path, in_field, is_misshapen}
 use Rattle.flow_definition.specs.Verdict.{object_in, IsAnswerOf, IsAnswerBehind, IsSettled, Accepts, Refuses, first_behind, refused}
-use Rattle.flow_definition.specs.Walk.{first_of, first_rules, last_rules}
+use Rattle.flow_definition.specs.Walk.{first_broken, first_rules, last_rules}
 use Rattle.flow_definition.proofs.Ends.{processors_length}
 use Rattle.flow_definition.proofs.Given.{objects_given}
 use Rattle.flow_definition.proofs.Linked.{sound_relationships}
@@ -31,9 +31,9 @@ use Rattle.flow_definition.proofs.Passed.{none_or, none_map, unfound, IsUnbroken
 
 record IsWhole (top : Data) : Type 0 where
   few : IsFew top
-  processors : ArePassedProcessors top [] (items_at Processors top)
-  connections : ArePassedConnections top [] (items_at Connections top)
-  ascending : AreAscending (items_at Processors top)
+  processors : ArePassedProcessors top [] (list_items_at Processors top)
+  connections : ArePassedConnections top [] (list_items_at Connections top)
+  ascending : AreAscending (list_items_at Processors top)
 
 whole : (top : Data) → is_ordered top ≡ true → IsUnbroken top → IsWhole top
 whole top ordered right =
@@ -41,10 +41,10 @@ whole top ordered right =
     let few = passed_few top right.few in
     record {
       few = few;
-      processors = passed_processors top [] (items_at Processors top) (objects_given (value_at Processors top) shaped.0)
+      processors = passed_processors top [] (list_items_at Processors top) (objects_given (value_at Processors top) shaped.0)
           right.given.processors right.once.processors right.connected.processors right.shaped.processors right.few.processors
           right.numbers.processors few.crowded;
-      connections = passed_connections top [] (items_at Connections top) (objects_given (value_at Connections top) shaped.1.0)
+      connections = passed_connections top [] (list_items_at Connections top) (objects_given (value_at Connections top) shaped.1.0)
           right.given.connections right.once.connections right.ends.connections right.connected.connections
           right.shaped.connections;
       ascending = processors_ascending top ordered;
@@ -52,39 +52,39 @@ whole top ordered right =
 
 sound : (bytes : List ℕ) (top : Data) (flow : Flow) → IsWhole top → IsFlowOf bytes top flow → IsSound flow
 sound bytes top flow right read =
-    let few : length (items_at Processors top) ≤ PROCESSORS_MAX = ltb-false PROCESSORS_MAX _ right.few.processors in
+    let few : length (list_items_at Processors top) ≤ PROCESSORS_MAX = ltb-false PROCESSORS_MAX _ right.few.processors in
     record {
-      processor_count = subst (λ n. n ≤ PROCESSORS_MAX) (sym (processors_length (items_at Processors top) flow.processors read.processors)) few;
+      processor_count = subst (λ n. n ≤ PROCESSORS_MAX) (sym (processors_length (list_items_at Processors top) flow.processors read.processors)) few;
       connection_count = subst (λ n. n ≤ CONNECTIONS_MAX)
-          (sym (ap length read.connections ∙ length-map (items_at Connections top) (connection_of top)))
+          (sym (ap length read.connections ∙ length-map (list_items_at Connections top) (connection_of top)))
           (ltb-false CONNECTIONS_MAX _ right.few.connections);
-      processor_ids = ap are_distinct_texts (ids_of (items_at Processors top) flow.processors read.processors)
-          ∙ ids_distinct [] (items_at Processors top) (named_processors top [] (items_at Processors top) right.processors);
+      processor_ids = ap are_distinct_texts (ids_of (list_items_at Processors top) flow.processors read.processors)
+          ∙ ids_distinct [] (list_items_at Processors top) (named_processors top [] (list_items_at Processors top) right.processors);
       connection_ids = ap (λ (cs : List Connection). are_distinct_texts (map (λ connection. connection.id) cs)) read.connections
-          ∙ ap are_distinct_texts (connection_ids top (items_at Connections top))
-          ∙ ids_distinct [] (items_at Connections top) (named_connections top [] (items_at Connections top) right.connections);
-      processors = sound_processors top [] (items_at Processors top) flow.processors right.processors read.processors;
-      kinds = sound_kinds top [] (items_at Processors top) flow.processors right.processors right.ascending read.processors;
+          ∙ ap are_distinct_texts (connection_ids top (list_items_at Connections top))
+          ∙ ids_distinct [] (list_items_at Connections top) (named_connections top [] (list_items_at Connections top) right.connections);
+      processors = sound_processors top [] (list_items_at Processors top) flow.processors right.processors read.processors;
+      kinds = sound_kinds top [] (list_items_at Processors top) flow.processors right.processors right.ascending read.processors;
       connections = ap (list_all (is_sound_connection flow)) read.connections
-          ∙ sound_connections top flow [] (items_at Connections top) few read.processors right.connections;
-      relationships = sound_relationships top flow [] (items_at Processors top) flow.processors refl few read.connections right.connections
+          ∙ sound_connections top flow [] (list_items_at Connections top) few read.processors right.connections;
+      relationships = sound_relationships top flow [] (list_items_at Processors top) flow.processors refl few read.connections right.connections
           right.processors read.processors;
       prioritizers = subst (All (λ connection. EachOnce connection.order)) (sym read.connections)
-          (orders_once top [] (items_at Connections top) right.connections);
+          (orders_once top [] (list_items_at Connections top) right.connections);
     }
 
 -- ---- an answer that gives a flow
 
-sound_settled : (R : Type 0) (bytes : List ℕ) (top : Data) (flow : Flow) → is_ordered top ≡ true → first_of first_rules top ≡ None
+sound_settled : (R : Type 0) (bytes : List ℕ) (top : Data) (flow : Flow) → is_ordered top ≡ true → first_broken first_rules top ≡ None
     → IsSettled R bytes top (Ok flow) → IsSound flow
 sound_settled R bytes top flow ordered first settled = either (first_behind top settled.0) refl settled.2
   where
-    last : first_behind top settled.0 ≡ None → first_of last_rules top ≡ None
+    last : first_behind top settled.0 ≡ None → first_broken last_rules top ≡ None
     last e =
         let typed = none_or (refused UnknownType settled.0) _ e in
         let read = none_or (refused BadPattern settled.0) _ typed.1 in
         let expressed = none_or (refused BadExpression settled.0) _ read.1 in
-        (none_or (first_of last_rules top) _ expressed.1).0
+        (none_or (first_broken last_rules top) _ expressed.1).0
 
     either : (o : Option (Rule × Path)) → first_behind top settled.0 ≡ o
         → MatchOption o (Accepts bytes top (Ok flow)) (λ broken. Refuses broken (Ok flow)) → IsSound flow
@@ -92,9 +92,9 @@ sound_settled R bytes top flow ordered first settled = either (first_behind top 
     either (Some broken) e is = absurd is
 
 sound_of : (R : Type 0) (bytes : List ℕ) (top : Data) (flow : Flow) → is_ordered top ≡ true → IsAnswerOf R bytes top (Ok flow) → IsSound flow
-sound_of R bytes top flow ordered answer = either (first_of first_rules top) refl answer
+sound_of R bytes top flow ordered answer = either (first_broken first_rules top) refl answer
   where
-    either : (o : Option (Rule × Path)) → first_of first_rules top ≡ o
+    either : (o : Option (Rule × Path)) → first_broken first_rules top ≡ o
         → MatchOption o (IsAnswerBehind R bytes top (Ok flow)) (λ broken. Refuses broken (Ok flow)) → IsSound flow
     either None e is = sound_settled R bytes top flow ordered e is
     either (Some broken) e is = absurd is

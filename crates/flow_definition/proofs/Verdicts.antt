@@ -15,10 +15,10 @@ use Rattle.flow_definition.specs.declared.rule.Rule.TheVariants.{UnknownType, Ba
 use Rattle.flow_definition.specs.declared.processor_type.ProcessorType.TheVariants.{GetFile, GenerateFlowFile, ReplaceText}
 use Rattle.flow_definition.specs.declared.processor_type.Property.TheVariants.{FileFilter, CustomText, SearchValue}
 use Rattle.flow_definition.specs.Looks.{type_of, properties_in, own_texts_in}
-use Rattle.flow_definition.specs.Numbers.{number_of}
+use Rattle.flow_definition.specs.Numbers.{rule_number}
 use Rattle.flow_definition.specs.OwnPatterns.{name_refused, rule_by, unread_in}
 use Rattle.flow_definition.specs.Types.{properties_of}
-use Rattle.flow_definition.specs.Made.{IsRefusal, IsMade, IsMadeKind, told_kind, AreMade, AreAllMade, told_all, told_made, first_refused, processor_in}
+use Rattle.flow_definition.specs.Made.{IsCauseOfRefusal, IsMade, IsMadeKind, told_kind, AreMade, AreAllMade, told_all, told_made, first_refused, processor_in}
 use Rattle.flow_definition.specs.Patterns.{HasRisen, Told}
 use Rattle.flow_definition.specs.Reading.{AreProcessorsOf, is_whole_in}
 use Rattle.flow_definition.specs.Rules.{Path, in_property}
@@ -27,13 +27,13 @@ use Rattle.flow_definition.proofs.OwnPatterns.{attempts_later, none_big, some_bi
 
 -- own patterns are refused by one of two rules
 refused_so : (k : ℕ) (unread : Option (List ℕ)) (place : Path) (rest other : Option Path)
-    → option_or (option_map (in_list_item Processors k) (cond (number_of (rule_by unread) == number_of BadPattern) (Some place) None)) rest ≡ None
-    → option_or (option_map (in_list_item Processors k) (cond (number_of (rule_by unread) == number_of PatternTooBig) (Some place) None)) other ≡ None → ⊥
+    → option_or (option_map (in_list_item Processors k) (cond (rule_number (rule_by unread) == rule_number BadPattern) (Some place) None)) rest ≡ None
+    → option_or (option_map (in_list_item Processors k) (cond (rule_number (rule_by unread) == rule_number PatternTooBig) (Some place) None)) other ≡ None → ⊥
 refused_so k (Some name) place rest other read small = absurd (none-some _ (sym read))
 refused_so k None place rest other read small = absurd (none-some _ (sym small))
 
 risen_own : (R : Type 0) (k : ℕ) (unread : Option (List ℕ)) (place path : Path) (rest : Option Path) → (unread ≡ None → R) → (rest ≡ Some path → R)
-    → option_or (option_map (in_list_item Processors k) (cond (number_of (rule_by unread) == number_of PatternTooBig) (Some place) None)) rest ≡ Some path → R
+    → option_or (option_map (in_list_item Processors k) (cond (rule_number (rule_by unread) == rule_number PatternTooBig) (Some place) None)) rest ≡ Some path → R
 risen_own R k (Some name) place path rest here later found = later found
 risen_own R k None place path rest here later found = here refl
 
@@ -93,7 +93,7 @@ made_push R [] (n ∷ ms) d m each last = absurd each
 made_push R (e ∷ ds) [] d m each last = absurd each
 made_push R (e ∷ ds) (n ∷ ms) d m each last = (each.0, made_push R ds ms d m each.1 last)
 
-refusal_later : (R S : Type 0) (d : Data) (r : Refusal) → (R → S) → IsRefusal R d r → IsRefusal S d r
+refusal_later : (R S : Type 0) (d : Data) (r : Refusal) → (R → S) → IsCauseOfRefusal R d r → IsCauseOfRefusal S d r
 refusal_later R S d NoType f h = h
 refusal_later R S d (Unread p) f h = h
 refusal_later R S d (TooBig p) f h = (h.0, f h.1)

@@ -15,23 +15,23 @@ fields_of level.Processor = Id ∷ TypeName ∷ Tasks ∷ Penalty ∷ Properties
 fields_of level.Connection =
     Id ∷ From ∷ To ∷ Relationships ∷ Prioritizers ∷ Expiration ∷ Objects ∷ Bytes ∷ Swap ∷ []
 
-abbrev pub name_of : Field → List ℕ
-name_of Processors = codes "processors"
-name_of Connections = codes "connections"
-name_of Id = codes "id"
-name_of TypeName = codes "type"
-name_of Tasks = codes "tasks"
-name_of Penalty = codes "penalty"
-name_of Properties = codes "properties"
-name_of Terminated = codes "terminated"
-name_of From = codes "from"
-name_of To = codes "to"
-name_of Relationships = codes "relationships"
-name_of Prioritizers = codes "prioritizers"
-name_of Expiration = codes "expiration"
-name_of Objects = codes "objects"
-name_of Bytes = codes "bytes"
-name_of Swap = codes "swap"
+abbrev pub field_name : Field → List ℕ
+field_name Processors = codes "processors"
+field_name Connections = codes "connections"
+field_name Id = codes "id"
+field_name TypeName = codes "type"
+field_name Tasks = codes "tasks"
+field_name Penalty = codes "penalty"
+field_name Properties = codes "properties"
+field_name Terminated = codes "terminated"
+field_name From = codes "from"
+field_name To = codes "to"
+field_name Relationships = codes "relationships"
+field_name Prioritizers = codes "prioritizers"
+field_name Expiration = codes "expiration"
+field_name Objects = codes "objects"
+field_name Bytes = codes "bytes"
+field_name Swap = codes "swap"
 
 -- a number: the least, the most, and what a missing one stands for
 abbrev pub shape_of : Field → Shape

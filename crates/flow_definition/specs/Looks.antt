@@ -10,45 +10,45 @@ use Rattle.flow_definition.specs.declared.processor_type.ProcessorType.{Processo
 use Rattle.flow_definition.specs.declared.processor_type.Own.{Own}
 use Rattle.flow_definition.specs.declared.processor_type.Own.TheVariants as own
 use Rattle.flow_definition.specs.declared.processor_type.Property.{Property}
-use Rattle.flow_definition.specs.Fields.{name_of}
-use Rattle.flow_definition.specs.Types.{type_named, properties_of, own_of, relationships_of, property_name, default_of}
+use Rattle.flow_definition.specs.Fields.{field_name}
+use Rattle.flow_definition.specs.Types.{type_named, properties_of, own_of_type, relationships_of_type, property_name, default_of}
 
 abbrev pub value_at : Field → Data → Option Data
-value_at f part = get (name_of f) part
+value_at f part = get (field_name f) part
 
 abbrev pub is_text : Data → Bool
 is_text d = is_some (as_str d)
 
-abbrev pub text_of : Data → List ℕ
-text_of d = unwrap_or (as_str d) []
+abbrev pub text_or_empty : Data → List ℕ
+text_or_empty d = unwrap_or (as_str d) []
 
-abbrev pub text_at : Field → Data → Option (List ℕ)
-text_at f part = option_and_then as_str (value_at f part)
+abbrev pub field_text : Field → Data → Option (List ℕ)
+field_text f part = option_and_then as_str (value_at f part)
 
 -- the object has this text in this field
 abbrev pub has_text : Field → List ℕ → Data → Bool
-has_text f text part = option_map_or (bytes_eq text) (text_at f part) false
+has_text f text part = option_map_or (bytes_eq text) (field_text f part) false
 
 abbrev pub is_object : Data → Bool
 is_object d = is_some (as_object d)
 
-abbrev pub list_of : Items → List Data
-list_of no_items = []
-list_of (item d ds) = d ∷ list_of ds
+abbrev pub list_of_items : Items → List Data
+list_of_items no_items = []
+list_of_items (item d ds) = d ∷ list_of_items ds
 
 -- the items of a list, and none where it is no list
-abbrev pub items_of : Data → List Data
-items_of d = option_map_or list_of (as_array d) []
+abbrev pub list_items : Data → List Data
+list_items d = option_map_or list_of_items (as_array d) []
 
-abbrev pub items_at : Field → Data → List Data
-items_at f part = option_map_or items_of (value_at f part) []
+abbrev pub list_items_at : Field → Data → List Data
+list_items_at f part = option_map_or list_items (value_at f part) []
 
 -- the texts of a list of texts, and none where it is something else
-abbrev pub names_in : List Data → List (List ℕ)
-names_in items = if list_all is_text items then map text_of items else []
+abbrev pub texts_in : List Data → List (List ℕ)
+texts_in items = if list_all is_text items then map text_or_empty items else []
 
 abbrev pub names_at : Field → Data → List (List ℕ)
-names_at f part = names_in (items_at f part)
+names_at f part = texts_in (list_items_at f part)
 
 abbrev pub member_list : Members → List (List ℕ × Data)
 member_list no_members = []
@@ -58,34 +58,34 @@ member_list (member k d ms) = (k, d) ∷ member_list ms
 abbrev pub members_of : Data → List (List ℕ × Data)
 members_of d = option_map_or member_list (as_object d) []
 
-abbrev pub names_of : List (List ℕ × Data) → List (List ℕ)
-names_of members = map (λ given. given.0) members
+abbrev pub member_names : List (List ℕ × Data) → List (List ℕ)
+member_names members = map (λ given. given.0) members
 
 -- ---- processors
 
 abbrev pub type_of : Data → Option ProcessorType
-type_of processor = option_and_then type_named (text_at TypeName processor)
+type_of processor = option_and_then type_named (field_text TypeName processor)
 
 abbrev pub properties_in : Data → List Property
 properties_in processor = option_map_or properties_of (type_of processor) []
 
 abbrev pub fixed_relationships_in : Data → List (List ℕ)
-fixed_relationships_in processor = option_map_or relationships_of (type_of processor) []
+fixed_relationships_in processor = option_map_or relationships_of_type (type_of processor) []
 
 -- the first processor with this id
 abbrev pub processor_named : Data → List ℕ → Option Data
-processor_named top id = find (has_text Id id) (items_at Processors top)
+processor_named top id = find (has_text Id id) (list_items_at Processors top)
 
 -- the properties that a processor gives, and none where they are no object
-abbrev pub given_in : Data → List (List ℕ × Data)
-given_in processor = option_map_or members_of (value_at Properties processor) []
+abbrev pub given_properties : Data → List (List ℕ × Data)
+given_properties processor = option_map_or members_of (value_at Properties processor) []
 
 -- the value that a processor gives a property of this name
-abbrev pub given_at : List ℕ → Data → Option Data
-given_at name processor = option_and_then (get name) (value_at Properties processor)
+abbrev pub given_value : List ℕ → Data → Option Data
+given_value name processor = option_and_then (get name) (value_at Properties processor)
 
 abbrev pub given_text : Property → Data → Option (List ℕ)
-given_text property processor = option_and_then as_str (given_at (property_name property) processor)
+given_text property processor = option_and_then as_str (given_value (property_name property) processor)
 
 -- the text that a processor gives a property, or the one that a missing one stands for
 abbrev pub property_text : Property → Data → List ℕ
@@ -102,10 +102,10 @@ abbrev pub others : List Property → List (List ℕ × Data) → List (List ℕ
 others properties given = filter (λ member. not (is_fixed properties member.0)) given
 
 abbrev pub others_in : Data → List (List ℕ × Data)
-others_in processor = others (properties_in processor) (given_in processor)
+others_in processor = others (properties_in processor) (given_properties processor)
 
 abbrev pub own_in : Data → Own
-own_in processor = option_map_or own_of (type_of processor) own.Nothing
+own_in processor = option_map_or own_of_type (type_of processor) own.Nothing
 
 -- own properties of this sort hold expressions
 abbrev pub hold_expressions : Own → Bool
@@ -142,14 +142,14 @@ relationships_given own.RelationshipPatterns given = given
 
 -- an own property makes its relationship by its name, whatever its value is
 abbrev pub own_relationships_in : Data → List (List ℕ)
-own_relationships_in processor = names_of (relationships_given (own_in processor) (others_in processor))
+own_relationships_in processor = member_names (relationships_given (own_in processor) (others_in processor))
 
 abbrev pub relationships_in : Data → List (List ℕ)
 relationships_in processor = own_relationships_in processor ++ fixed_relationships_in processor
 
 -- the own properties with their texts
 abbrev pub texts_of : List (List ℕ × Data) → List (List ℕ × List ℕ)
-texts_of given = map (λ (name, value). (name, text_of value)) given
+texts_of given = map (λ (name, value). (name, text_or_empty value)) given
 
 abbrev pub own_texts_in : Data → List (List ℕ × List ℕ)
 own_texts_in processor = texts_of (own_properties_in processor)

@@ -20,7 +20,7 @@ use Rattle.flow_definition.specs.declared.rule.Rule.{Rule}
 use Rattle.flow_definition.specs.declared.rule.Rule.TheVariants.{UnknownType, BadPattern, BadExpression, PatternTooBig}
 use Rattle.flow_definition.specs.Building.{IsPattern, pattern_text}
 use Rattle.flow_definition.specs.Looks.{type_of, properties_in, property_text, own_in, own_texts_in, hold_expressions, hold_patterns}
-use Rattle.flow_definition.specs.Numbers.{number_of}
+use Rattle.flow_definition.specs.Numbers.{rule_number}
 use Rattle.flow_definition.specs.OwnPatterns.{AreRefused, told_attempts, name_refused, rule_by, unread_in}
 use Rattle.flow_definition.specs.Patterns.{IsUnread, Told, refuse}
 use Rattle.flow_definition.specs.Reading.{AreOwnOf, IsKindOf, IsProcessorOf, is_whole_in}
@@ -32,8 +32,8 @@ use Rattle.flow_definition.specs.Walk.{in_list_item}
 abbrev pub IsNoExpression : List ℕ → Type 0
 IsNoExpression text = (tree : Tree) → IsText text tree → ⊥
 
-abbrev pub IsExpression : Data → Property → Type 0
-IsExpression d property = Contains (properties_in d) property × (form_of property ≡ Expression)
+abbrev pub IsExpressionProperty : Data → Property → Type 0
+IsExpressionProperty d property = Contains (properties_in d) property × (form_of property ≡ Expression)
 
 -- the first of some own properties whose text is no expression has this name
 pub record IsFirstUnread (texts : List (List ℕ × List ℕ)) (name : List ℕ) : Type 0 where
@@ -45,14 +45,15 @@ pub record IsFirstUnread (texts : List (List ℕ × List ℕ)) (name : List ℕ)
   pub unread : IsNoExpression text
 
 -- the cause of a refusal. The builder may call any pattern too big where its count of such refusals rose
-abbrev pub IsRefusal : (Risen : Type 0) → Data → Refusal → Type 0
-IsRefusal Risen d NoType = type_of d ≡ None
-IsRefusal Risen d (Unread property) = IsPattern d property × IsUnread (pattern_text property d)
-IsRefusal Risen d (TooBig property) = IsPattern d property × Risen
-IsRefusal Risen d (NoExpression property) = IsExpression d property × IsNoExpression (property_text property d)
-IsRefusal Risen d (NoOwnExpression name) =
+abbrev pub IsCauseOfRefusal : (Risen : Type 0) → Data → Refusal → Type 0
+IsCauseOfRefusal Risen d NoType = type_of d ≡ None
+IsCauseOfRefusal Risen d (Unread property) = IsPattern d property × IsUnread (pattern_text property d)
+IsCauseOfRefusal Risen d (TooBig property) = IsPattern d property × Risen
+IsCauseOfRefusal Risen d (NoExpression property) = IsExpressionProperty d property
+    × IsNoExpression (property_text property d)
+IsCauseOfRefusal Risen d (NoOwnExpression name) =
     (hold_expressions (own_in d) ≡ true) × IsFirstUnread (own_texts_in d) name
-IsRefusal Risen d (NoOwnPatterns attempts) =
+IsCauseOfRefusal Risen d (NoOwnPatterns attempts) =
     (hold_patterns (own_in d) ≡ true) × AreRefused Risen (is_whole_in d) (own_texts_in d) attempts
 
 abbrev pub AreOwnMade : List (List ℕ × List ℕ) → MadeOwn → Type 0
@@ -61,11 +62,11 @@ AreOwnMade texts (own.Unread name) = IsFirstUnread texts name
 
 abbrev pub IsMade : (Risen : Type 0) → Data → Made → Type 0
 IsMade Risen d (made.Processor processor) = IsProcessorOf d processor
-IsMade Risen d (made.Refused refusal) = IsRefusal Risen d refusal
+IsMade Risen d (made.Refused refusal) = IsCauseOfRefusal Risen d refusal
 
 abbrev pub IsMadeKind : (Risen : Type 0) → Data → MadeKind → Type 0
 IsMadeKind Risen d (kind.Kind kind) = IsKindOf d kind
-IsMadeKind Risen d (kind.Refused refusal) = IsRefusal Risen d refusal
+IsMadeKind Risen d (kind.Refused refusal) = IsCauseOfRefusal Risen d refusal
 
 abbrev pub AreMade : (Risen : Type 0) → List Data → List Made → Type 0
 AreMade Risen [] [] = Unit {0}
@@ -81,19 +82,19 @@ rule_of (NoExpression property) = BadExpression
 rule_of (NoOwnExpression name) = BadExpression
 rule_of (NoOwnPatterns attempts) = rule_by (unread_in attempts)
 
-abbrev pub part_of : Refusal → Path
-part_of NoType = in_field TypeName
-part_of (Unread property) = in_property (property_name property)
-part_of (TooBig property) = in_property (property_name property)
-part_of (NoExpression property) = in_property (property_name property)
-part_of (NoOwnExpression name) = in_property name
-part_of (NoOwnPatterns attempts) = in_property (name_refused attempts)
+abbrev pub refused_part : Refusal → Path
+refused_part NoType = in_field TypeName
+refused_part (Unread property) = in_property (property_name property)
+refused_part (TooBig property) = in_property (property_name property)
+refused_part (NoExpression property) = in_property (property_name property)
+refused_part (NoOwnExpression name) = in_property name
+refused_part (NoOwnPatterns attempts) = in_property (name_refused attempts)
 
 -- where in the processor a refusal by this rule is
 abbrev pub refused_by : Rule → Made → Option Path
 refused_by rule (made.Processor processor) = None
 refused_by rule (made.Refused refusal) =
-    if number_of (rule_of refusal) == number_of rule then Some (part_of refusal) else None
+    if rule_number (rule_of refusal) == rule_number rule then Some (refused_part refusal) else None
 
 -- the first of the made processors, from this place on, that was refused by a rule
 abbrev pub first_refused : Rule → ℕ → List Made → Option Path

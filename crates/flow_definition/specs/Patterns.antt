@@ -32,8 +32,8 @@ pub record Told : Type 0 where
   pub count : ℕ
   pub texts : List (List ℕ)
 
-abbrev pub told : {S : Type 0} → (faults : S → ℕ) → (refused : S → List (List ℕ)) → S → Told
-told faults refused builder = record { count = faults builder; texts = refused builder }
+abbrev pub told_by_builder : {S : Type 0} → (faults : S → ℕ) → (refused : S → List (List ℕ)) → S → Told
+told_by_builder faults refused builder = record { count = faults builder; texts = refused builder }
 
 -- one more text was refused so
 abbrev pub refuse : Told → List ℕ → Told

@@ -7,11 +7,11 @@ use Rattle.flow_definition.specs.Rules.{Path, Step, member, item}
 abbrev pub escaped_char : ℕ → List ℕ
 escaped_char c = if c == 126 then codes "~0" else if c == 47 then codes "~1" else encode_utf8 c
 
-abbrev pub escaped : List ℕ → List ℕ
-escaped name = flat_map escaped_char (chars name)
+abbrev pub escaped_name : List ℕ → List ℕ
+escaped_name name = flat_map escaped_char (chars name)
 
 abbrev pub step_text : Step → List ℕ
-step_text (member name) = 47 ∷ escaped name
+step_text (member name) = 47 ∷ escaped_name name
 step_text (item place) = 47 ∷ decimal place
 
 abbrev pub steps_text : Path → List ℕ

@@ -41,33 +41,33 @@ use Rattle.flow_definition.specs.declared.processor_type.ReplaceStrategy.{Replac
 use Rattle.flow_definition.specs.declared.processor_type.ReplaceStrategy.TheVariants as strategy
 use Rattle.flow_definition.specs.Fields.{shape_of}
 use Rattle.flow_definition.specs.Listed.{listed_names}
-use Rattle.flow_definition.specs.Looks.{value_at, text_at, has_text, items_at, names_at, type_of, property_text, own_in, own_texts_in}
-use Rattle.flow_definition.specs.Shapes.{conflict_named, destination_named, number_in, prioritizer_named, replace_strategy_named, requirement_named, merge_strategy_named}
+use Rattle.flow_definition.specs.Looks.{value_at, field_text, has_text, list_items_at, names_at, type_of, property_text, own_in, own_texts_in}
+use Rattle.flow_definition.specs.Shapes.{conflict_named, destination_named, number_of_digits, prioritizer_named, replace_strategy_named, requirement_named, merge_strategy_named}
 use Rattle.flow_definition.specs.Types.{form_of}
 
 -- the number, where it is within the range
-abbrev pub number_or : (default least most : ℕ) → Option ℕ → ℕ
-number_or default least most given = option_map_or (λ n. if within least n most then n else default) given default
+abbrev pub number_in_range : (default least most : ℕ) → Option ℕ → ℕ
+number_in_range default least most given = option_map_or (λ n. if within least n most then n else default) given default
 
-abbrev pub number_of : Shape → Option ℕ → ℕ
-number_of (shape.Number least most default) given = number_or default least most given
-number_of shape.Objects given = 0
-number_of shape.Id given = 0
-number_of shape.Text given = 0
-number_of shape.Properties given = 0
-number_of shape.Names given = 0
-number_of shape.SomeNames given = 0
-number_of shape.Prioritizers given = 0
+abbrev pub shape_number : Shape → Option ℕ → ℕ
+shape_number (shape.Number least most default) given = number_in_range default least most given
+shape_number shape.Objects given = 0
+shape_number shape.Id given = 0
+shape_number shape.Text given = 0
+shape_number shape.Properties given = 0
+shape_number shape.Names given = 0
+shape_number shape.SomeNames given = 0
+shape_number shape.Prioritizers given = 0
 
-abbrev pub number_at : Field → Data → ℕ
-number_at f part = number_of (shape_of f) (option_and_then as_u64 (option_and_then as_number (value_at f part)))
+abbrev pub field_number : Field → Data → ℕ
+field_number f part = shape_number (shape_of f) (option_and_then as_u64 (option_and_then as_number (value_at f part)))
 
 abbrev pub id_at : Field → Data → List ℕ
-id_at f part = unwrap_or (text_at f part) []
+id_at f part = unwrap_or (field_text f part) []
 
 -- a generator's count
-abbrev pub count_in : Data → ℕ
-count_in processor = number_or 0 0 GENERATED_MAX (number_in (property_text Count processor))
+abbrev pub generated_count : Data → ℕ
+generated_count processor = number_in_range 0 0 GENERATED_MAX (number_of_digits (property_text Count processor))
 
 abbrev pub conflict_in : Data → Conflict
 conflict_in processor = unwrap_or (conflict_named (property_text ConflictResolution processor)) Fail
@@ -77,11 +77,11 @@ destination_in processor = unwrap_or (destination_named (property_text JsonDesti
 
 -- how many copies are made
 abbrev pub copies_in : Data → ℕ
-copies_in processor = number_or 100 1 COPIES_MAX (number_in (property_text Copies processor))
+copies_in processor = number_in_range 100 1 COPIES_MAX (number_of_digits (property_text Copies processor))
 
 -- the number that a property holds
 abbrev pub number_held : Form → Option ℕ → ℕ
-number_held (form.Number least most) given = number_or least least most given
+number_held (form.Number least most) given = number_in_range least least most given
 number_held form.WholePattern given = 0
 number_held form.Expression given = 0
 number_held form.Conflict given = 0
@@ -93,8 +93,9 @@ number_held form.Text given = 0
 number_held form.Requirement given = 0
 number_held form.MergeStrategy given = 0
 
-abbrev pub number_by : Property → Data → ℕ
-number_by property processor = number_held (form_of property) (number_in (property_text property processor))
+abbrev pub property_number : Property → Data → ℕ
+property_number property processor =
+    number_held (form_of property) (number_of_digits (property_text property processor))
 
 abbrev pub replace_strategy_in : Data → ReplaceStrategy
 replace_strategy_in processor =
@@ -151,7 +152,7 @@ IsKindOf processor (kind.GetFile filter) =
     (type_of processor ≡ Some type.GetFile)
     × IsSomeAnd filter (λ pattern. pattern.text ≡ to_match_whole (property_text FileFilter processor))
 IsKindOf processor (kind.GenerateFlowFile count text) =
-    (type_of processor ≡ Some type.GenerateFlowFile) × (count ≡ count_in processor)
+    (type_of processor ≡ Some type.GenerateFlowFile) × (count ≡ generated_count processor)
     × IsText (property_text CustomText processor) (tree_of text)
 IsKindOf processor (kind.PutFile conflict) =
     (type_of processor ≡ Some type.PutFile) × (conflict ≡ conflict_in processor)
@@ -166,7 +167,7 @@ IsKindOf processor (kind.DuplicateFlowFile copies) =
     (type_of processor ≡ Some type.DuplicateFlowFile) × (copies ≡ copies_in processor)
 IsKindOf processor kind.CryptographicHashContent = type_of processor ≡ Some type.CryptographicHashContent
 IsKindOf processor (kind.SplitText lines) =
-    (type_of processor ≡ Some type.SplitText) × (lines ≡ number_by LineSplitCount processor)
+    (type_of processor ≡ Some type.SplitText) × (lines ≡ property_number LineSplitCount processor)
 IsKindOf processor (kind.ReplaceText by) =
     (type_of processor ≡ Some type.ReplaceText)
     × IsReplacementOf (replace_strategy_in processor) (property_text SearchValue processor)
@@ -178,18 +179,18 @@ IsKindOf processor (kind.RouteOnContent requirement list) =
     × (own_patterns list ≡ patterns_in processor)
 IsKindOf processor (kind.MergeContent strategy minimum maximum) =
     (type_of processor ≡ Some type.MergeContent) × (strategy ≡ merge_strategy_in processor)
-    × (minimum ≡ number_by MinimumEntries processor) × (maximum ≡ number_by MaximumEntries processor)
+    × (minimum ≡ property_number MinimumEntries processor) × (maximum ≡ property_number MaximumEntries processor)
 IsKindOf processor (kind.SegmentContent size) =
-    (type_of processor ≡ Some type.SegmentContent) × (size ≡ number_by SegmentSize processor)
+    (type_of processor ≡ Some type.SegmentContent) × (size ≡ property_number SegmentSize processor)
 IsKindOf processor (kind.ModifyBytes start end) =
-    (type_of processor ≡ Some type.ModifyBytes) × (start ≡ number_by StartOffset processor)
-    × (end ≡ number_by EndOffset processor)
+    (type_of processor ≡ Some type.ModifyBytes) × (start ≡ property_number StartOffset processor)
+    × (end ≡ property_number EndOffset processor)
 
 pub record IsProcessorOf (d : Data) (processor : Processor) : Type 0 where
   pub id : processor.id ≡ id_at Id d
   pub kind : IsKindOf d processor.kind
-  pub tasks : processor.tasks ≡ number_at Tasks d
-  pub penalty : processor.penalty ≡ number_at Penalty d
+  pub tasks : processor.tasks ≡ field_number Tasks d
+  pub penalty : processor.penalty ≡ field_number Penalty d
   pub terminated : processor.terminated ≡ names_at Terminated d
 
 abbrev pub AreProcessorsOf : List Data → List Processor → Type 0
@@ -204,7 +205,7 @@ place_below None = 0
 place_below (Some place) = if nat_lt place PROCESSORS_MAX then place else 0
 
 abbrev pub place_at : Data → Field → Data → ℕ
-place_at top f part = place_below (position (has_text Id (id_at f part)) (items_at Processors top))
+place_at top f part = place_below (position (has_text Id (id_at f part)) (list_items_at Processors top))
 
 abbrev pub connection_of : Data → Data → Connection
 connection_of top d = record {
@@ -214,14 +215,14 @@ connection_of top d = record {
   target = place_at top To d;
   order = filter_map prioritizer_named (names_at Prioritizers d);
   limits = record {
-    expiration = number_at Expiration d;
-    objects = number_at Objects d;
-    bytes = number_at Bytes d;
-    swap = number_at Swap d;
+    expiration = field_number Expiration d;
+    objects = field_number Objects d;
+    bytes = field_number Bytes d;
+    swap = field_number Swap d;
   };
 }
 
 pub record IsFlowOf (bytes : List ℕ) (top : Data) (flow : Flow) : Type 0 where
-  pub processors : AreProcessorsOf (items_at Processors top) flow.processors
-  pub connections : flow.connections ≡ map (connection_of top) (items_at Connections top)
+  pub processors : AreProcessorsOf (list_items_at Processors top) flow.processors
+  pub connections : flow.connections ≡ map (connection_of top) (list_items_at Connections top)
   pub digest : flow.digest ≡ sha256 bytes

@@ -21,11 +21,11 @@ use Rattle.flow_definition.specs.declared.processor_type.ReplaceStrategy.TheVari
 use Rattle.machine_model.specs.declared.kind.MergeStrategy.{MergeStrategy}
 use Rattle.machine_model.specs.declared.kind.MergeStrategy.TheVariants.{BinPacking, Defragment}
 use Rattle.machine_model.specs.declared.limits.TheConstants.{PROCESSORS_MAX, CONNECTIONS_MAX, FAN_OUT_MAX, OWN_NAME_MAX, OWN_PROPERTIES_MAX}
-use Rattle.flow_definition.specs.Fields.{name_of, fields_of, shape_of, is_required}
-use Rattle.flow_definition.specs.Looks.{value_at, text_at, has_text, items_at, names_at, is_object, is_text, members_of, names_of, type_of, properties_in, own_in, fixed_relationships_in, relationships_in, own_properties_in, processor_named, given_in, given_at, given_text}
-use Rattle.flow_definition.specs.Reading.{merge_strategy_in, number_by, replace_strategy_in}
+use Rattle.flow_definition.specs.Fields.{field_name, fields_of, shape_of, is_required}
+use Rattle.flow_definition.specs.Looks.{value_at, field_text, has_text, list_items_at, names_at, is_object, is_text, members_of, member_names, type_of, properties_in, own_in, fixed_relationships_in, relationships_in, own_properties_in, processor_named, given_properties, given_value, given_text}
+use Rattle.flow_definition.specs.Reading.{merge_strategy_in, property_number, replace_strategy_in}
 use Rattle.flow_definition.specs.Shapes.{has_shape, is_in_range, is_of_set, is_number_text}
-use Rattle.flow_definition.specs.Types.{is_source, property_name, default_of, form_of}
+use Rattle.flow_definition.specs.Types.{is_source_type, property_name, default_of, form_of}
 
 -- a step of a path: a member of an object, or an item of a list
 pub data Step : Type 0 where
@@ -36,13 +36,13 @@ abbrev pub Path : Type 0
 Path = List Step
 
 abbrev pub in_field : Field → Path
-in_field f = member (name_of f) ∷ []
+in_field f = member (field_name f) ∷ []
 
 abbrev pub in_item : Field → ℕ → Path
-in_item f place = member (name_of f) ∷ item place ∷ []
+in_item f place = member (field_name f) ∷ item place ∷ []
 
 abbrev pub in_property : List ℕ → Path
-in_property name = member (name_of Properties) ∷ member name ∷ []
+in_property name = member (field_name Properties) ∷ member name ∷ []
 
 abbrev pub in_unknown : List ℕ → Path
 in_unknown name = member name ∷ []
@@ -60,7 +60,7 @@ may_give processor = option_map_or is_object (value_at Properties processor) tru
 
 abbrev pub is_missing_property : Data → Property → Bool
 is_missing_property processor property =
-    may_give processor && is_none (default_of property) && is_none (given_at (property_name property) processor)
+    may_give processor && is_none (default_of property) && is_none (given_value (property_name property) processor)
 
 abbrev pub missing_property : Data → Option Path
 missing_property processor =
@@ -70,12 +70,12 @@ missing_property processor =
 
 abbrev pub unknown_type : Data → Option Path
 unknown_type processor =
-    if is_some (text_at TypeName processor) && is_none (type_of processor) then Some (in_field TypeName) else None
+    if is_some (field_text TypeName processor) && is_none (type_of processor) then Some (in_field TypeName) else None
 
 -- ---- the id stands earlier in the list
 
 abbrev pub is_doubled : List Data → Data → Bool
-is_doubled earlier part = option_map_or (λ id. list_any (has_text Id id) earlier) (text_at Id part) false
+is_doubled earlier part = option_map_or (λ id. list_any (has_text Id id) earlier) (field_text Id part) false
 
 abbrev pub doubled_id : List Data → Data → Option Path
 doubled_id earlier part = if is_doubled earlier part then Some (in_field Id) else None
@@ -84,15 +84,15 @@ doubled_id earlier part = if is_doubled earlier part then Some (in_field Id) els
 
 abbrev pub may_be_end : Option Data → Bool
 may_be_end None = false
-may_be_end (Some processor) = not (option_map_or is_source (type_of processor) false)
+may_be_end (Some processor) = not (option_map_or is_source_type (type_of processor) false)
 
 abbrev pub is_unknown_source : Data → Data → Bool
 is_unknown_source top connection =
-    option_map_or (λ id. is_none (processor_named top id)) (text_at From connection) false
+    option_map_or (λ id. is_none (processor_named top id)) (field_text From connection) false
 
 abbrev pub is_unknown_target : Data → Data → Bool
 is_unknown_target top connection =
-    option_map_or (λ id. not (may_be_end (processor_named top id))) (text_at To connection) false
+    option_map_or (λ id. not (may_be_end (processor_named top id))) (field_text To connection) false
 
 abbrev pub unknown_end : Data → Data → Option Path
 unknown_end top connection =
@@ -103,13 +103,14 @@ unknown_end top connection =
 -- its processor, or stands earlier in its list. Where no type is known nothing is known of its relationships
 
 abbrev pub leaves : Data → Data → Bool
-leaves processor connection = option_map_or (λ id. has_text From id connection) (text_at Id processor) false
+leaves processor connection = option_map_or (λ id. has_text From id connection) (field_text Id processor) false
 
-abbrev pub carries : Data → List ℕ → Data → Bool
-carries processor name connection = leaves processor connection && is_among name (names_at Relationships connection)
+abbrev pub connection_carries : Data → List ℕ → Data → Bool
+connection_carries processor name connection =
+    leaves processor connection && is_among name (names_at Relationships connection)
 
 abbrev pub is_connected : Data → Data → List ℕ → Bool
-is_connected top processor name = list_any (carries processor name) (items_at Connections top)
+is_connected top processor name = list_any (connection_carries processor name) (list_items_at Connections top)
 
 abbrev pub is_loose : Data → Data → List ℕ → Bool
 is_loose top processor name =
@@ -139,7 +140,7 @@ unconnected top processor =
 
 abbrev pub not_of_source : Data → Data → Option Path
 not_of_source top connection =
-    wrong_item Relationships (option_and_then (processor_named top) (text_at From connection)) connection
+    wrong_item Relationships (option_and_then (processor_named top) (field_text From connection)) connection
 
 -- ---- a value is of another kind than it has to be, or outside its set; a property isn't one of the type, and none
 -- of the processor's own
@@ -172,38 +173,39 @@ abbrev pub is_empty_search : ReplaceStrategy → Form → List ℕ → Bool
 is_empty_search strategy.Literal form.Search [] = true
 is_empty_search _ _ _ = false
 
-abbrev pub may_hold : Data → Property → List ℕ → Bool
-may_hold processor property text =
+abbrev pub property_may_hold : Data → Property → List ℕ → Bool
+property_may_hold processor property text =
     is_of_set (form_of property) text && not (is_empty_search (replace_strategy_in processor) (form_of property) text)
 
 abbrev pub is_bad_value : Data → List ℕ × Data → Option Property → Bool
 is_bad_value processor given None = not (is_own_property processor given)
-is_bad_value processor given (Some property) = not (option_map_or (may_hold processor property) (as_str given.1) false)
+is_bad_value processor given (Some property) =
+    not (option_map_or (property_may_hold processor property) (as_str given.1) false)
 
 abbrev pub is_bad_property : Data → List ℕ × Data → Bool
 is_bad_property processor given = is_bad_value processor given (property_named processor given.0)
 
 abbrev pub bad_property : Data → Option Path
 bad_property processor =
-    option_map (λ given. in_property given.0) (find (is_bad_property processor) (given_in processor))
+    option_map (λ given. in_property given.0) (find (is_bad_property processor) (given_properties processor))
 
 -- ---- there are too many processors, connections, connections of one relationship, or properties of a processor's own
 
 abbrev pub is_crowded : Data → Data → List ℕ → Bool
 is_crowded top processor name =
-    nat_lt FAN_OUT_MAX (count_by (carries processor name) (items_at Connections top))
+    nat_lt FAN_OUT_MAX (count_by (connection_carries processor name) (list_items_at Connections top))
 
 abbrev pub has_crowded : Data → Data → Bool
 has_crowded top processor = list_any (is_crowded top processor) (relationships_in processor)
 
 abbrev pub are_connections_too_many : Data → Bool
 are_connections_too_many top =
-    nat_lt CONNECTIONS_MAX (length (items_at Connections top))
-    || list_any (has_crowded top) (items_at Processors top)
+    nat_lt CONNECTIONS_MAX (length (list_items_at Connections top))
+    || list_any (has_crowded top) (list_items_at Processors top)
 
 abbrev pub too_many : Data → Option Path
 too_many top =
-    if nat_lt PROCESSORS_MAX (length (items_at Processors top)) then Some (in_field Processors)
+    if nat_lt PROCESSORS_MAX (length (list_items_at Processors top)) then Some (in_field Processors)
     else if are_connections_too_many top then Some (in_field Connections) else None
 
 abbrev pub too_many_own : Data → Option Path
@@ -213,10 +215,10 @@ too_many_own processor =
 -- ---- a field isn't one of the object's
 
 abbrev pub is_unknown : Level → List ℕ → Bool
-is_unknown l name = not (list_any (λ f. bytes_eq (name_of f) name) (fields_of l))
+is_unknown l name = not (list_any (λ f. bytes_eq (field_name f) name) (fields_of l))
 
 abbrev pub unknown_field : Level → Data → Option Path
-unknown_field l part = option_map in_unknown (find (is_unknown l) (names_of (members_of part)))
+unknown_field l part = option_map in_unknown (find (is_unknown l) (member_names (members_of part)))
 
 -- ---- a number isn't a whole one without sign, point and exponent, or is out of range; of files that are joined by
 -- number the least is above the most
@@ -234,7 +236,8 @@ is_above Defragment minimum maximum = false
 
 abbrev pub is_above_most : Data → Property → Bool
 is_above_most processor MinimumEntries =
-    is_above (merge_strategy_in processor) (number_by MinimumEntries processor) (number_by MaximumEntries processor)
+    is_above (merge_strategy_in processor) (property_number MinimumEntries processor)
+    (property_number MaximumEntries processor)
 is_above_most processor _ = false
 
 abbrev pub is_bad_number_property : Data → Property → Bool

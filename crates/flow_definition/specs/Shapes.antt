@@ -24,13 +24,13 @@ use Rattle.flow_definition.specs.declared.processor_type.Form.{Form}
 use Rattle.flow_definition.specs.declared.processor_type.Form.TheVariants as form
 use Rattle.flow_definition.specs.declared.processor_type.ReplaceStrategy.{ReplaceStrategy}
 use Rattle.flow_definition.specs.declared.processor_type.ReplaceStrategy.TheVariants as strategy
-use Rattle.flow_definition.specs.Looks.{is_text, is_object, items_of, names_in}
+use Rattle.flow_definition.specs.Looks.{is_text, is_object, list_items, texts_in}
 
 abbrev pub is_list : Data → Bool
 is_list d = is_some (as_array d)
 
 abbrev pub is_list_of_texts : Data → Bool
-is_list_of_texts d = is_list d && list_all is_text (items_of d)
+is_list_of_texts d = is_list d && list_all is_text (list_items d)
 
 abbrev pub prioritizer_named : List ℕ → Option Prioritizer
 prioritizer_named name =
@@ -42,18 +42,18 @@ is_prioritizer name = is_some (prioritizer_named name)
 
 -- the texts of a list are names of prioritizers, each once
 abbrev pub are_prioritizers : List Data → Bool
-are_prioritizers items = list_all is_prioritizer (names_in items) && are_distinct_texts (names_in items)
+are_prioritizers items = list_all is_prioritizer (texts_in items) && are_distinct_texts (texts_in items)
 
 -- the value is of the kind that the field has
 abbrev pub has_shape : Shape → Data → Bool
-has_shape shape.Objects d = is_list d && list_all is_object (items_of d)
+has_shape shape.Objects d = is_list d && list_all is_object (list_items d)
 has_shape shape.Id d = option_map_or is_id (as_str d) false
 has_shape shape.Text d = is_text d
 has_shape (shape.Number least most default) d = is_some (as_number d)
 has_shape shape.Properties d = is_object d
 has_shape shape.Names d = is_list_of_texts d
-has_shape shape.SomeNames d = is_list_of_texts d && nat_le 1 (length (items_of d))
-has_shape shape.Prioritizers d = is_list_of_texts d && are_prioritizers (items_of d)
+has_shape shape.SomeNames d = is_list_of_texts d && nat_le 1 (length (list_items d))
+has_shape shape.Prioritizers d = is_list_of_texts d && are_prioritizers (list_items d)
 
 -- a number in the text is a whole one, without sign, point and exponent, and within the field's range
 abbrev pub is_in_range : Shape → Data → Bool
@@ -120,12 +120,13 @@ is_of_set form.Search text = true
 is_of_set form.Text text = true
 
 -- the number that 1 to 10 digits write
-abbrev pub number_in : List ℕ → Option ℕ
-number_in text = if within 1 (length text) 10 && list_all is_ascii_digit text then Some (digits_value 10 text) else None
+abbrev pub number_of_digits : List ℕ → Option ℕ
+number_of_digits text =
+    if within 1 (length text) 10 && list_all is_ascii_digit text then Some (digits_value 10 text) else None
 
 -- 1 to 10 digits, and a number within the property's range
 abbrev pub is_number_text : Form → List ℕ → Bool
-is_number_text (form.Number least most) text = option_map_or (λ n. within least n most) (number_in text) false
+is_number_text (form.Number least most) text = option_map_or (λ n. within least n most) (number_of_digits text) false
 is_number_text form.WholePattern text = true
 is_number_text form.Expression text = true
 is_number_text form.Conflict text = true

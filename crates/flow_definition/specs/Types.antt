@@ -190,17 +190,17 @@ property_row StartOffset =
 property_row EndOffset =
     record { name = codes "End Offset"; form = form.Number 0 CONTENT_MAX; default = Some (codes "0") }
 
-abbrev pub is_source : ProcessorType → Bool
-is_source type = (row_of type).source
+abbrev pub is_source_type : ProcessorType → Bool
+is_source_type type = (row_of type).source
 
 abbrev pub properties_of : ProcessorType → List Property
 properties_of type = (row_of type).properties
 
-abbrev pub own_of : ProcessorType → Own
-own_of type = (row_of type).own
+abbrev pub own_of_type : ProcessorType → Own
+own_of_type type = (row_of type).own
 
-abbrev pub relationships_of : ProcessorType → List (List ℕ)
-relationships_of type = (row_of type).relationships
+abbrev pub relationships_of_type : ProcessorType → List (List ℕ)
+relationships_of_type type = (row_of type).relationships
 
 abbrev pub type_name : ProcessorType → List ℕ
 type_name type = (row_of type).name

@@ -12,13 +12,13 @@ use Rattle.flow_definition.specs.declared.limits.TheConstants.{TEXT_MAX}
 use Rattle.flow_definition.specs.declared.made.Made.{Made}
 use Rattle.flow_definition.specs.declared.rule.Rule.{Rule}
 use Rattle.flow_definition.specs.declared.rule.Rule.TheVariants.{NotJson, UnknownType, BadPattern, BadExpression, TooMany, PatternTooBig}
-use Rattle.flow_definition.specs.Looks.{items_at, is_object}
+use Rattle.flow_definition.specs.Looks.{list_items_at, is_object}
 use Rattle.flow_definition.specs.Made.{AreMade, first_refused, told_all}
 use Rattle.flow_definition.specs.Patterns.{HasRisen, Told}
 use Rattle.flow_definition.specs.Pointers.{pointer_of}
 use Rattle.flow_definition.specs.Reading.{IsFlowOf}
 use Rattle.flow_definition.specs.Rules.{Path}
-use Rattle.flow_definition.specs.Walk.{first_of, first_rules, last_rules}
+use Rattle.flow_definition.specs.Walk.{first_broken, first_rules, last_rules}
 
 -- the object that a text is
 abbrev pub object_only : Data → Option Data
@@ -35,7 +35,7 @@ refused rule made = option_map (λ path. (rule, path)) (first_refused rule 0 mad
 abbrev pub first_behind : Data → List Made → Option (Rule × Path)
 first_behind top made =
     option_or (refused UnknownType made) (option_or (refused BadPattern made) (option_or (refused BadExpression made)
-    (option_or (first_of last_rules top) (refused PatternTooBig made))))
+    (option_or (first_broken last_rules top) (refused PatternTooBig made))))
 
 -- the error names the rule and its place; or memory ran out
 abbrev pub IsError : Rule × Path → FlowError → Type 0
@@ -58,7 +58,7 @@ Accepts bytes top (Ok flow) = IsFlowOf bytes top flow
 -- what becomes of the processors settles the answer, unless memory runs out before
 abbrev pub IsSettled : (Risen : Type 0) → List ℕ → Data → Result Flow FlowError → Type 0
 IsSettled Risen bytes top answer =
-    (made : List Made) × AreMade Risen (items_at Processors top) made
+    (made : List Made) × AreMade Risen (list_items_at Processors top) made
     × MatchOption (first_behind top made) (Accepts bytes top answer) (λ broken. Refuses broken answer)
 
 abbrev pub IsAnswerBehind : (Risen : Type 0) → List ℕ → Data → Result Flow FlowError → Type 0
@@ -68,7 +68,7 @@ IsAnswerBehind Risen bytes top (Err error.Memory) = Unit {0}
 
 abbrev pub IsAnswerOf : (Risen : Type 0) → List ℕ → Data → Result Flow FlowError → Type 0
 IsAnswerOf Risen bytes top answer =
-    MatchOption (first_of first_rules top) (IsAnswerBehind Risen bytes top answer) (λ broken. Refuses broken answer)
+    MatchOption (first_broken first_rules top) (IsAnswerBehind Risen bytes top answer) (λ broken. Refuses broken answer)
 
 -- the answer to a text. Memory may run out before the text is read
 abbrev pub IsAnswerTo : (Risen : Type 0) → List ℕ → Option Data → Result Flow FlowError → Type 0
@@ -94,7 +94,7 @@ IsPatternTooBig (Ok flow) = ⊥
 -- the rule that a text breaks before any pattern is built, and where
 abbrev pub broken_in : Option Data → Option (Rule × Path)
 broken_in None = Some (NotJson, [])
-broken_in (Some top) = first_of first_rules top
+broken_in (Some top) = first_broken first_rules top
 
 abbrev pub broken_before : List ℕ → Option (Rule × Path)
 broken_before bytes = if nat_lt TEXT_MAX (length bytes) then Some (TooMany, []) else broken_in (object_in bytes)
@@ -103,8 +103,8 @@ broken_before bytes = if nat_lt TEXT_MAX (length bytes) then Some (TooMany, []) 
 -- texts of the patterns that are too big as refused for their size, in turn
 pub record IsFirstBehind (before now : Told) (top : Data) (rule : Rule) (place : List ℕ) : Type 0 where
   pub made : List Made
-  pub each : AreMade (HasRisen before.count now.count) (items_at Processors top) made
-  pub told : now ≡ told_all before (items_at Processors top) made
+  pub each : AreMade (HasRisen before.count now.count) (list_items_at Processors top) made
+  pub told : now ≡ told_all before (list_items_at Processors top) made
   pub path : Path
   pub first : first_behind top made ≡ Some (rule, path)
   pub stands : place ≡ pointer_of path
@@ -113,7 +113,7 @@ pub record IsFirstBehind (before now : Told) (top : Data) (rule : Rule) (place :
 abbrev pub IsToldIn : (before now : Told) → Data → Result Flow FlowError → Type 0
 IsToldIn before now top (Ok flow) = now ≡ before
 IsToldIn before now top (Err (error.Rule rule place)) =
-    first_of first_rules top ≡ None → IsFirstBehind before now top rule place
+    first_broken first_rules top ≡ None → IsFirstBehind before now top rule place
 IsToldIn before now top (Err error.Memory) = Unit {0}
 
 abbrev pub IsTold : (before now : Told) → List ℕ → Result Flow FlowError → Type 0

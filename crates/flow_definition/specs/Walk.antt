@@ -9,8 +9,8 @@ use Rattle.flow_definition.specs.declared.field.Level.{Level}
 use Rattle.flow_definition.specs.declared.field.Level.TheVariants as level
 use Rattle.flow_definition.specs.declared.rule.Rule.{Rule}
 use Rattle.flow_definition.specs.declared.rule.Rule.TheVariants.{MissingField, UnknownType, DoubleId, UnknownEnd, RelationshipUnconnected, BadProperty, TooMany, UnknownField, BadNumber}
-use Rattle.flow_definition.specs.Fields.{name_of}
-use Rattle.flow_definition.specs.Looks.{items_at, is_object}
+use Rattle.flow_definition.specs.Fields.{field_name}
+use Rattle.flow_definition.specs.Looks.{list_items_at, is_object}
 use Rattle.flow_definition.specs.Rules.{Path, member, item, missing_field, missing_property, unknown_type, doubled_id, unknown_end, unconnected, not_of_source, misshapen_field, bad_property, too_many, too_many_own, unknown_field, bad_number, bad_number_property}
 
 abbrev pub in_top : Rule → Data → Option Path
@@ -52,28 +52,29 @@ in_level level.Processor rule top earlier d = in_processor rule top earlier d
 in_level level.Connection rule top earlier d = in_connection rule top earlier d
 
 abbrev pub in_list_item : Field → ℕ → Path → Path
-in_list_item f place path = member (name_of f) ∷ item place ∷ path
+in_list_item f place path = member (field_name f) ∷ item place ∷ path
 
 -- what isn't an object isn't looked at
 abbrev pub in_object : (List Data → Data → Option Path) → List Data → Data → Option Path
 in_object rule earlier d = if is_object d then rule earlier d else None
 
-abbrev pub first_in : (List Data → Data → Option Path) → Field → (earlier objects : List Data) → Option Path
-first_in rule f earlier [] = None
-first_in rule f earlier (d ∷ ds) =
+abbrev pub first_broken_in : (List Data → Data → Option Path) → Field → (earlier objects : List Data) → Option Path
+first_broken_in rule f earlier [] = None
+first_broken_in rule f earlier (d ∷ ds) =
     option_or (option_map (in_list_item f (length earlier)) (in_object rule earlier d))
-    (first_in rule f (earlier ++ d ∷ []) ds)
+    (first_broken_in rule f (earlier ++ d ∷ []) ds)
 
-abbrev pub first_place : Rule → Data → Option Path
-first_place rule top =
+abbrev pub first_broken_place : Rule → Data → Option Path
+first_broken_place rule top =
     option_or (in_top rule top)
-    (option_or (first_in (in_level level.Processor rule top) Processors [] (items_at Processors top))
-    (first_in (in_level level.Connection rule top) Connections [] (items_at Connections top)))
+    (option_or (first_broken_in (in_level level.Processor rule top) Processors [] (list_items_at Processors top))
+    (first_broken_in (in_level level.Connection rule top) Connections [] (list_items_at Connections top)))
 
 -- the first of some rules that is broken, and where
-abbrev pub first_of : List Rule → Data → Option (Rule × Path)
-first_of [] top = None
-first_of (rule ∷ rules) top = option_or (option_map (λ path. (rule, path)) (first_place rule top)) (first_of rules top)
+abbrev pub first_broken : List Rule → Data → Option (Rule × Path)
+first_broken [] top = None
+first_broken (rule ∷ rules) top =
+    option_or (option_map (λ path. (rule, path)) (first_broken_place rule top)) (first_broken rules top)
 
 -- the rules that are looked at before patterns are built and expressions are read, and behind these
 abbrev pub first_rules : List Rule

@@ -2,7 +2,7 @@
 ghost use Rattle.std.specs.Prelude.{◌≡◌, ◌≤◌, IfOk};
 ghost use Rattle.machine_model.specs.Sound.{to_match_whole};
 ghost use Rattle.flow_definition.specs.Building.{IsBuilt, told_built};
-ghost use Rattle.flow_definition.specs.Patterns.{HasRisen, told};
+ghost use Rattle.flow_definition.specs.Patterns.{HasRisen, told_by_builder};
 
 use crate::patterns::{PatternError, Patterns};
 use flowfile_record::Text;
@@ -27,8 +27,8 @@ pub(crate) fn build<P: Patterns>(
 ) -> Result<Built, AllocError>
     ensures built { IfOk result (IsBuilt (HasRisen (P.faults patterns.old) (P.faults patterns.new)) text) }
     ensures count { P.faults patterns.old ≤ P.faults patterns.new }
-    ensures told { IfOk result (λ built. told P.faults P.refused patterns.new
-        ≡ told_built (told P.faults P.refused patterns.old) text built) }
+    ensures told { IfOk result (λ built. told_by_builder P.faults P.refused patterns.new
+        ≡ told_built (told_by_builder P.faults P.refused patterns.old) text built) }
 {
     match patterns.build(alloc, text.as_str()) {
         Ok(regex) => Ok(Built::Pattern(Pattern::from_regex(alloc, text, regex)?)),

@@ -1,6 +1,6 @@
 //! The fields of a flow's text, and what each may hold.
 ghost use Rattle.std.specs.Prelude.{◌≡◌};
-ghost use Rattle.flow_definition.specs.Fields.{name_of, shape_of, is_required, fields_of};
+ghost use Rattle.flow_definition.specs.Fields.{field_name, shape_of, is_required, fields_of};
 
 use machine_model::{PENALTY_MAX, QUEUE_LIMIT_MAX, SWAP_MAX, SWAP_MIN, TASKS_MAX};
 
@@ -55,7 +55,7 @@ pub enum Level {
 
 impl Field {
     pub fn name(self) -> &'static str
-        ensures { result.now ≡ name_of self }
+        ensures { result.now ≡ field_name self }
     {
         match self {
             Field::Processors => "processors",

@@ -4,7 +4,7 @@ ghost use Rattle.machine_model.specs.Kinds.{is_among};
 ghost use Rattle.std.specs.List.{list_all};
 ghost use Rattle.std.specs.Option.{option_map, option_map_or};
 ghost use Rattle.serde_json.specs.View.{view, members_view};
-ghost use Rattle.flow_definition.specs.Looks.{value_at, is_text, text_of, text_at, has_text, items_of, items_at, names_in, names_at, type_of, properties_in, fixed_relationships_in, processor_named, member_list, given_in, given_at, given_text, own_in, is_fixed, others, own_properties_in, own_relationships_in, names_of};
+ghost use Rattle.flow_definition.specs.Looks.{value_at, is_text, text_or_empty, field_text, has_text, list_items, list_items_at, texts_in, names_at, type_of, properties_in, fixed_relationships_in, processor_named, member_list, given_properties, given_value, given_text, own_in, is_fixed, others, own_properties_in, own_relationships_in, member_names};
 
 use crate::field::Field;
 use crate::processor_type::{Own, ProcessorType, Property};
@@ -19,7 +19,7 @@ pub(crate) fn value_at(object: &Value, field: Field) -> Option<&Value>
 
 /// The text in a field, where one stands there.
 pub(crate) fn text_at(object: &Value, field: Field) -> Option<&str>
-    ensures { option_map (λ text. text.now) result ≡ text_at field (view object.now) }
+    ensures { option_map (λ text. text.now) result ≡ field_text field (view object.now) }
 {
     match value_at(object, field) {
         Some(value) => value.as_str(),
@@ -30,7 +30,7 @@ pub(crate) fn text_at(object: &Value, field: Field) -> Option<&str>
 /// The items of a list, and none where it is no list.
 #[tactic(auto, using(crate::proofs::Lists::list_of_view))]
 pub(crate) fn items_of(value: &Value) -> &[Value]
-    ensures { map view result.now ≡ items_of (view value.now) }
+    ensures { map view result.now ≡ list_items (view value.now) }
 {
     match value.as_array() {
         Some(list) => list.as_slice(),
@@ -40,7 +40,7 @@ pub(crate) fn items_of(value: &Value) -> &[Value]
 
 /// The items of the list in a field, where one stands there.
 pub(crate) fn items_at(object: &Value, field: Field) -> &[Value]
-    ensures { map view result.now ≡ items_at field (view object.now) }
+    ensures { map view result.now ≡ list_items_at field (view object.now) }
 {
     match value_at(object, field) {
         Some(value) => items_of(value),
@@ -60,7 +60,7 @@ pub(crate) fn has_text(field: Field, text: &str, object: &Value) -> bool
 
 /// A text, and nothing where it is none.
 pub(crate) fn text_of(value: &Value) -> &str
-    ensures { result.now ≡ text_of (view value.now) }
+    ensures { result.now ≡ text_or_empty (view value.now) }
 {
     match value.as_str() {
         Some(text) => text,
@@ -70,7 +70,7 @@ pub(crate) fn text_of(value: &Value) -> &str
 
 /// The items of a list of texts, and none where it has something else.
 pub(crate) fn names_in(items: &[Value]) -> &[Value]
-    ensures { map text_of (map view result.now) ≡ names_in (map view items.now) }
+    ensures { map text_or_empty (map view result.now) ≡ texts_in (map view items.now) }
 {
     if are_texts(items) { items } else { &[] }
 }
@@ -84,14 +84,14 @@ pub(crate) fn are_texts(items: &[Value]) -> bool
 
 /// The texts of the list in a field, where a list of texts stands there.
 pub(crate) fn names_at(object: &Value, field: Field) -> &[Value]
-    ensures { map text_of (map view result.now) ≡ names_at field (view object.now) }
+    ensures { map text_or_empty (map view result.now) ≡ names_at field (view object.now) }
 {
     names_in(items_at(object, field))
 }
 
 /// Whether a name is among the texts of a list.
 pub(crate) fn is_among(name: &str, names: &[Value]) -> bool
-    ensures { result ≡ is_among name.now (map text_of (map view names.now)) }
+    ensures { result ≡ is_among name.now (map text_or_empty (map view names.now)) }
 {
     names.iter().any(|other| name == text_of(other))
 }
@@ -108,7 +108,7 @@ pub(crate) fn processor_named<'a>(top: &'a Value, id: &str) -> Option<&'a Value>
 /// The properties that a processor gives, where they are an object.
 pub(crate) fn given(processor: &Value) -> Option<&Map<String, Value>>
     ensures { option_map_or (λ members. member_list (members_view members.now.entries)) result []
-        ≡ given_in (view processor.now) }
+        ≡ given_properties (view processor.now) }
 {
     match value_at(processor, Field::Properties) {
         Some(properties) => properties.as_object(),
@@ -118,7 +118,7 @@ pub(crate) fn given(processor: &Value) -> Option<&Map<String, Value>>
 
 /// The value that a processor gives a property of this name.
 pub(crate) fn given_at<'a>(name: &str, processor: &'a Value) -> Option<&'a Value>
-    ensures { option_map (λ value. view value.now) result ≡ given_at name.now (view processor.now) }
+    ensures { option_map (λ value. view value.now) result ≡ given_value name.now (view processor.now) }
 {
     match value_at(processor, Field::Properties) {
         Some(properties) => properties.get(name),
@@ -191,7 +191,7 @@ pub(crate) fn own_properties(processor: &Value) -> Option<&Map<String, Value>>
 
 /// What a processor gives, where those beside the properties of its type make relationships.
 pub(crate) fn own_relationships(processor: &Value) -> Option<&Map<String, Value>>
-    ensures { option_map_or (λ members. names_of (others (properties_in (view processor.now))
+    ensures { option_map_or (λ members. member_names (others (properties_in (view processor.now))
         (member_list (members_view members.now.entries)))) result [] ≡ own_relationships_in (view processor.now) }
 {
     match own_in(processor) {

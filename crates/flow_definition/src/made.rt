@@ -2,10 +2,10 @@
 ghost use Rattle.std.specs.Prelude.{◌≡◌, ◌==◌, ◌≤◌, map, option_map, Some, IfOk};
 ghost use Rattle.serde_json.specs.View.{view};
 ghost use Rattle.flow_definition.specs.Looks.{type_of};
-ghost use Rattle.flow_definition.specs.Made.{IsMade, AreMade, IsMadeKind, told_all, told_kind, told_made, rule_of, part_of, refused_by, first_refused, processor_in};
+ghost use Rattle.flow_definition.specs.Made.{IsMade, AreMade, IsMadeKind, told_all, told_kind, told_made, rule_of, refused_part, refused_by, first_refused, processor_in};
 ghost use Rattle.std.specs.List.{filter_map};
 ghost use Rattle.flow_definition.specs.Reading.{IsKindOf, IsProcessorOf, replace_strategy_in};
-ghost use Rattle.flow_definition.specs.Patterns.{HasRisen, told};
+ghost use Rattle.flow_definition.specs.Patterns.{HasRisen, told_by_builder};
 ghost use Rattle.flow_definition.specs.Places.{part_path, place_path};
 
 use crate::building::{Built, build, whole};
@@ -70,7 +70,7 @@ impl Refusal {
     }
 
     fn part(&self) -> Part<'_>
-        ensures { part_path result ≡ part_of self.now }
+        ensures { part_path result ≡ refused_part self.now }
     {
         match self {
             Refusal::NoType => Part::Field(Field::TypeName),
@@ -99,8 +99,8 @@ pub(crate) fn make_all<P: Patterns>(
     ensures made { IfOk result (λ list.
         AreMade (HasRisen (P.faults patterns.old) (P.faults patterns.new)) (map view items.now) list.items) }
     ensures count { P.faults patterns.old ≤ P.faults patterns.new }
-    ensures told { IfOk result (λ list. told P.faults P.refused patterns.new
-        ≡ told_all (told P.faults P.refused patterns.old) (map view items.now) list.items) }
+    ensures told { IfOk result (λ list. told_by_builder P.faults P.refused patterns.new
+        ≡ told_all (told_by_builder P.faults P.refused patterns.old) (map view items.now) list.items) }
 {
     let mut list = Vec::new(alloc);
     'items: for item in items {
@@ -113,8 +113,8 @@ fn make<P: Patterns>(alloc: Global, processor: &Value, patterns: &mut P) -> Resu
     ensures made { IfOk result
         (IsMade (HasRisen (P.faults patterns.old) (P.faults patterns.new)) (view processor.now)) }
     ensures count { P.faults patterns.old ≤ P.faults patterns.new }
-    ensures told { IfOk result (λ made. told P.faults P.refused patterns.new
-        ≡ told_made (told P.faults P.refused patterns.old) (view processor.now) made) }
+    ensures told { IfOk result (λ made. told_by_builder P.faults P.refused patterns.new
+        ≡ told_made (told_by_builder P.faults P.refused patterns.old) (view processor.now) made) }
 {
     match make_kind(alloc, processor, patterns)? {
         MadeKind::Kind(kind) => Ok(Made::Processor(with_kind(alloc, processor, kind)?)),
@@ -145,8 +145,8 @@ fn make_kind<P: Patterns>(
     ensures made { IfOk result
         (IsMadeKind (HasRisen (P.faults patterns.old) (P.faults patterns.new)) (view processor.now)) }
     ensures count { P.faults patterns.old ≤ P.faults patterns.new }
-    ensures told { IfOk result (λ made. told P.faults P.refused patterns.new
-        ≡ told_kind (told P.faults P.refused patterns.old) (view processor.now) made) }
+    ensures told { IfOk result (λ made. told_by_builder P.faults P.refused patterns.new
+        ≡ told_kind (told_by_builder P.faults P.refused patterns.old) (view processor.now) made) }
 {
     match type_of(processor) {
         Some(ProcessorType::GetFile) => make_get_file(alloc, processor, patterns),
@@ -241,8 +241,8 @@ fn make_get_file<P: Patterns>(
     ensures made { IfOk result
         (IsMadeKind (HasRisen (P.faults patterns.old) (P.faults patterns.new)) (view processor.now)) }
     ensures count { P.faults patterns.old ≤ P.faults patterns.new }
-    ensures told { IfOk result (λ made. told P.faults P.refused patterns.new
-        ≡ told_kind (told P.faults P.refused patterns.old) (view processor.now) made) }
+    ensures told { IfOk result (λ made. told_by_builder P.faults P.refused patterns.new
+        ≡ told_kind (told_by_builder P.faults P.refused patterns.old) (view processor.now) made) }
 {
     let text = whole(alloc, property_text(Property::FileFilter, processor))?;
     match build(alloc, text, patterns)? {
@@ -263,8 +263,8 @@ fn make_replacer<P: Patterns>(
     ensures made { IfOk result
         (IsMadeKind (HasRisen (P.faults patterns.old) (P.faults patterns.new)) (view processor.now)) }
     ensures count { P.faults patterns.old ≤ P.faults patterns.new }
-    ensures told { IfOk result (λ made. told P.faults P.refused patterns.new
-        ≡ told_kind (told P.faults P.refused patterns.old) (view processor.now) made) }
+    ensures told { IfOk result (λ made. told_by_builder P.faults P.refused patterns.new
+        ≡ told_kind (told_by_builder P.faults P.refused patterns.old) (view processor.now) made) }
 {
     match replace_strategy_in(processor) {
         ReplaceStrategy::Regex => make_regex_replacer(alloc, processor, patterns),
@@ -282,8 +282,8 @@ fn make_regex_replacer<P: Patterns>(
     ensures made { IfOk result
         (IsMadeKind (HasRisen (P.faults patterns.old) (P.faults patterns.new)) (view processor.now)) }
     ensures count { P.faults patterns.old ≤ P.faults patterns.new }
-    ensures told { IfOk result (λ made. told P.faults P.refused patterns.new
-        ≡ told_kind (told P.faults P.refused patterns.old) (view processor.now) made) }
+    ensures told { IfOk result (λ made. told_by_builder P.faults P.refused patterns.new
+        ≡ told_kind (told_by_builder P.faults P.refused patterns.old) (view processor.now) made) }
 {
     let text = Text::from_str(alloc, property_text(Property::SearchValue, processor))?;
     match build(alloc, text, patterns)? {
@@ -320,8 +320,8 @@ fn make_extractor<P: Patterns>(
     ensures made { IfOk result
         (IsMadeKind (HasRisen (P.faults patterns.old) (P.faults patterns.new)) (view processor.now)) }
     ensures count { P.faults patterns.old ≤ P.faults patterns.new }
-    ensures told { IfOk result (λ made. told P.faults P.refused patterns.new
-        ≡ told_kind (told P.faults P.refused patterns.old) (view processor.now) made) }
+    ensures told { IfOk result (λ made. told_by_builder P.faults P.refused patterns.new
+        ≡ told_kind (told_by_builder P.faults P.refused patterns.old) (view processor.now) made) }
 {
     match make_own_patterns(alloc, processor, patterns)? {
         MadePatterns::Read(own) => Ok(MadeKind::Kind(Kind::ExtractText { own })),
@@ -338,8 +338,8 @@ fn make_content_router<P: Patterns>(
     ensures made { IfOk result
         (IsMadeKind (HasRisen (P.faults patterns.old) (P.faults patterns.new)) (view processor.now)) }
     ensures count { P.faults patterns.old ≤ P.faults patterns.new }
-    ensures told { IfOk result (λ made. told P.faults P.refused patterns.new
-        ≡ told_kind (told P.faults P.refused patterns.old) (view processor.now) made) }
+    ensures told { IfOk result (λ made. told_by_builder P.faults P.refused patterns.new
+        ≡ told_kind (told_by_builder P.faults P.refused patterns.old) (view processor.now) made) }
 {
     match make_own_patterns(alloc, processor, patterns)? {
         MadePatterns::Read(own) => Ok(MadeKind::Kind(Kind::RouteOnContent {

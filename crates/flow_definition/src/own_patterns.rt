@@ -4,7 +4,7 @@ ghost use Rattle.std.specs.List.{filter_map, list_all};
 ghost use Rattle.serde_json.specs.View.{view, members_view};
 ghost use Rattle.flow_definition.specs.Looks.{member_list, others, own_texts_in, texts_of};
 ghost use Rattle.flow_definition.specs.OwnPatterns.{AreAttempts, AreOwnBuilt, IsAttempt, is_read, name_refused, read_in, rule_by, told_attempt, told_attempts, told_patterns, too_big_in, unread_in};
-ghost use Rattle.flow_definition.specs.Patterns.{HasRisen, told};
+ghost use Rattle.flow_definition.specs.Patterns.{HasRisen, told_by_builder};
 ghost use Rattle.flow_definition.specs.Reading.{is_whole_in, pattern_of};
 
 use crate::building::{Built, build, whole};
@@ -48,8 +48,8 @@ pub(crate) fn make_own_patterns<P: Patterns>(
     ensures made { IfOk result (AreOwnBuilt (HasRisen (P.faults patterns.old) (P.faults patterns.new))
         (is_whole_in (view processor.now)) (own_texts_in (view processor.now))) }
     ensures count { P.faults patterns.old ≤ P.faults patterns.new }
-    ensures told { IfOk result (λ made. told P.faults P.refused patterns.new
-        ≡ told_patterns (is_whole_in (view processor.now)) (told P.faults P.refused patterns.old)
+    ensures told { IfOk result (λ made. told_by_builder P.faults P.refused patterns.new
+        ≡ told_patterns (is_whole_in (view processor.now)) (told_by_builder P.faults P.refused patterns.old)
         (own_texts_in (view processor.now)) made) }
 {
     let attempts = attempt_own(alloc, processor, patterns)?;
@@ -69,8 +69,8 @@ fn attempt_own<P: Patterns>(
     ensures made { IfOk result (λ list. AreAttempts (HasRisen (P.faults patterns.old) (P.faults patterns.new))
         (is_whole_in (view processor.now)) (own_texts_in (view processor.now)) list.items) }
     ensures count { P.faults patterns.old ≤ P.faults patterns.new }
-    ensures told { IfOk result (λ list. told P.faults P.refused patterns.new
-        ≡ told_attempts (is_whole_in (view processor.now)) (told P.faults P.refused patterns.old)
+    ensures told { IfOk result (λ list. told_by_builder P.faults P.refused patterns.new
+        ≡ told_attempts (is_whole_in (view processor.now)) (told_by_builder P.faults P.refused patterns.old)
         (own_texts_in (view processor.now)) list.items) }
 {
     let is_whole = is_whole_in(processor);
@@ -105,8 +105,8 @@ fn attempt_all<P: Patterns>(
     ensures made { IfOk result (λ list. AreAttempts (HasRisen (P.faults patterns.old) (P.faults patterns.new)) is_whole
         (texts_of (others properties.now (member_list (members_view members.now.entries)))) list.items) }
     ensures count { P.faults patterns.old ≤ P.faults patterns.new }
-    ensures told { IfOk result (λ list. told P.faults P.refused patterns.new
-        ≡ told_attempts is_whole (told P.faults P.refused patterns.old)
+    ensures told { IfOk result (λ list. told_by_builder P.faults P.refused patterns.new
+        ≡ told_attempts is_whole (told_by_builder P.faults P.refused patterns.old)
         (texts_of (others properties.now (member_list (members_view members.now.entries)))) list.items) }
 {
     let mut list = Vec::new(alloc);
@@ -128,8 +128,8 @@ fn try_pattern<P: Patterns>(
     ensures made { IfOk result
         (IsAttempt (HasRisen (P.faults patterns.old) (P.faults patterns.new)) is_whole (name.now, text.now)) }
     ensures count { P.faults patterns.old ≤ P.faults patterns.new }
-    ensures told { IfOk result (λ made. told P.faults P.refused patterns.new
-        ≡ told_attempt is_whole (told P.faults P.refused patterns.old) (name.now, text.now) made) }
+    ensures told { IfOk result (λ made. told_by_builder P.faults P.refused patterns.new
+        ≡ told_attempt is_whole (told_by_builder P.faults P.refused patterns.old) (name.now, text.now) made) }
 {
     let name = Text::from_str(alloc, name)?;
     let text = pattern_of(alloc, is_whole, text)?;

@@ -1,7 +1,7 @@
 //! How a place is written: as a JSON pointer (RFC 6901), and the whole text as a slash.
 ghost use Rattle.std.specs.Prelude.{◌≡◌, ◌∷◌, ◌++◌, IfOk, OnOk, decimal, string_bytes};
 ghost use Rattle.flow_definition.specs.Places.{place_path, part_path, item_path};
-ghost use Rattle.flow_definition.specs.Pointers.{escaped, escaped_char, pointer_of, steps_text};
+ghost use Rattle.flow_definition.specs.Pointers.{escaped_name, escaped_char, pointer_of, steps_text};
 
 use crate::field::Field;
 use crate::place::{Part, Place};
@@ -51,14 +51,14 @@ fn push_number(alloc: Global, text: &mut String, item: usize) -> Result<(), Allo
 }
 
 fn push_name(text: &mut String, name: &str) -> Result<(), AllocError>
-    ensures { OnOk result (string_bytes text.new ≡ string_bytes text.old ++ 47 ∷ escaped name.now) }
+    ensures { OnOk result (string_bytes text.new ≡ string_bytes text.old ++ 47 ∷ escaped_name name.now) }
 {
     text.push('/')?;
     push_escaped(text, name)
 }
 
 fn push_escaped(text: &mut String, name: &str) -> Result<(), AllocError>
-    ensures { OnOk result (string_bytes text.new ≡ string_bytes text.old ++ escaped name.now) }
+    ensures { OnOk result (string_bytes text.new ≡ string_bytes text.old ++ escaped_name name.now) }
 {
     'chars: for c in name.chars() {
         push_escaped_char(text, c)?;

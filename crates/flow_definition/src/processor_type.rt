@@ -1,7 +1,7 @@
 //! The types of processors: for each its name, its properties, its own ones and its relationships.
 ghost use Rattle.std.specs.Prelude.{◌≡◌, map};
 ghost use Rattle.std.specs.Option.{option_map};
-ghost use Rattle.flow_definition.specs.Types.{type_named, type_name, is_source, properties_of, own_of, relationships_of, property_name, form_of, default_of};
+ghost use Rattle.flow_definition.specs.Types.{type_named, type_name, is_source_type, properties_of, own_of_type, relationships_of_type, property_name, form_of, default_of};
 
 use flowfile_record::{CONTENT_MAX, TAKEN_MAX};
 use machine_model::{COPIES_MAX, GENERATED_MAX, LINES_MAX};
@@ -151,7 +151,7 @@ impl ProcessorType {
 
     /// Whether it makes files and takes none.
     pub fn is_source(self) -> bool
-        ensures { result ≡ is_source self }
+        ensures { result ≡ is_source_type self }
     {
         match self {
             ProcessorType::GetFile | ProcessorType::GenerateFlowFile => true,
@@ -194,7 +194,7 @@ impl ProcessorType {
 
     /// What properties of its processors' own are.
     pub fn own(self) -> Own
-        ensures { result ≡ own_of self }
+        ensures { result ≡ own_of_type self }
     {
         match self {
             ProcessorType::UpdateAttribute => Own::Attributes,
@@ -207,7 +207,7 @@ impl ProcessorType {
 
     /// The names of its relationships, in their order. Own ones come before these.
     pub fn relationships(self) -> &'static [&'static str]
-        ensures { map (λ name. name.now) result.now ≡ relationships_of self }
+        ensures { map (λ name. name.now) result.now ≡ relationships_of_type self }
     {
         match self {
             ProcessorType::GetFile | ProcessorType::GenerateFlowFile => &["success"],

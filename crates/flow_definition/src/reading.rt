@@ -2,8 +2,8 @@
 ghost use Rattle.std.specs.Prelude.{◌≡◌, ◌≤◌, ◌<◌, position, map, IfOk, string_bytes};
 ghost use Rattle.std.specs.List.{filter_map};
 ghost use Rattle.serde_json.specs.View.{view};
-ghost use Rattle.flow_definition.specs.Looks.{text_of, has_text, names_at, property_text, items_at};
-ghost use Rattle.flow_definition.specs.Reading.{number_or, number_of, number_at, id_at, count_in, conflict_in, copies_in, destination_in, number_held, number_by, replace_strategy_in, requirement_in, merge_strategy_in, place_below, place_at, connection_of};
+ghost use Rattle.flow_definition.specs.Looks.{text_or_empty, has_text, names_at, property_text, list_items_at};
+ghost use Rattle.flow_definition.specs.Reading.{number_in_range, shape_number, field_number, id_at, generated_count, conflict_in, copies_in, destination_in, number_held, property_number, replace_strategy_in, requirement_in, merge_strategy_in, place_below, place_at, connection_of};
 ghost use Rattle.flow_definition.specs.Shapes.{prioritizer_named};
 
 use crate::field::{Field, Shape};
@@ -24,7 +24,7 @@ use std::alloc::{AllocError, Global};
 
 fn number_or(default: u64, least: u64, most: u64, given: Option<u64>) -> u64
     requires { default ≤ most }
-    ensures value { result ≡ number_or default least most given }
+    ensures value { result ≡ number_in_range default least most given }
     ensures most { result ≤ most }
 {
     match given {
@@ -35,7 +35,7 @@ fn number_or(default: u64, least: u64, most: u64, given: Option<u64>) -> u64
 
 /// The number in a field, or what a missing one stands for.
 fn number_at(object: &Value, field: Field) -> u64
-    ensures { result ≡ number_at field (view object.now) }
+    ensures { result ≡ field_number field (view object.now) }
 {
     let given = match value_at(object, field) {
         Some(value) => value.as_u64(),
@@ -45,7 +45,7 @@ fn number_at(object: &Value, field: Field) -> u64
 }
 
 fn number_of(shape: Shape, given: Option<u64>) -> u64
-    ensures { result ≡ number_of shape given }
+    ensures { result ≡ shape_number shape given }
 {
     match shape {
         Shape::Number {
@@ -61,13 +61,13 @@ fn number_of(shape: Shape, given: Option<u64>) -> u64
 }
 
 pub(crate) fn tasks_at(processor: &Value) -> u8
-    ensures { result ≡ number_at Field.Tasks (view processor.now) }
+    ensures { result ≡ field_number Field.Tasks (view processor.now) }
 {
     number_at(processor, Field::Tasks) as u8
 }
 
 pub(crate) fn penalty_at(processor: &Value) -> u64
-    ensures { result ≡ number_at Field.Penalty (view processor.now) }
+    ensures { result ≡ field_number Field.Penalty (view processor.now) }
 {
     number_at(processor, Field::Penalty)
 }
@@ -91,7 +91,7 @@ pub(crate) fn texts_at(alloc: Global, object: &Value, field: Field) -> Result<Te
 }
 
 fn copied(alloc: Global, names: &[Value]) -> Result<Vec<Text>, AllocError>
-    ensures { IfOk result (λ texts. texts.items ≡ map text_of (map view names.now)) }
+    ensures { IfOk result (λ texts. texts.items ≡ map text_or_empty (map view names.now)) }
 {
     let mut texts = Vec::new(alloc);
     'names: for name in names {
@@ -111,7 +111,7 @@ pub(crate) fn property_text(property: Property, processor: &Value) -> &str
 }
 
 pub(crate) fn count_in(processor: &Value) -> u32
-    ensures { result ≡ count_in (view processor.now) }
+    ensures { result ≡ generated_count (view processor.now) }
 {
     number_or(
         0,
@@ -140,7 +140,7 @@ pub(crate) fn copies_in(processor: &Value) -> u16
 
 /// The number that a property holds.
 pub(crate) fn number_by(property: Property, processor: &Value) -> u64
-    ensures { result ≡ number_by property (view processor.now) }
+    ensures { result ≡ property_number property (view processor.now) }
 {
     number_held(
         property.form(),
@@ -162,7 +162,7 @@ fn number_held(form: Form, given: Option<u64>) -> u64
 
 /// How many lines a part of a text has.
 pub(crate) fn lines_in(processor: &Value) -> u32
-    ensures { result ≡ number_by Property.LineSplitCount (view processor.now) }
+    ensures { result ≡ property_number Property.LineSplitCount (view processor.now) }
 {
     number_by(Property::LineSplitCount, processor) as u32
 }
@@ -201,14 +201,14 @@ pub(crate) fn merge_strategy_in(processor: &Value) -> MergeStrategy
 
 /// How many files are joined at least.
 pub(crate) fn minimum_in(processor: &Value) -> u32
-    ensures { result ≡ number_by Property.MinimumEntries (view processor.now) }
+    ensures { result ≡ property_number Property.MinimumEntries (view processor.now) }
 {
     number_by(Property::MinimumEntries, processor) as u32
 }
 
 /// How many files are joined at most.
 pub(crate) fn maximum_in(processor: &Value) -> u32
-    ensures { result ≡ number_by Property.MaximumEntries (view processor.now) }
+    ensures { result ≡ property_number Property.MaximumEntries (view processor.now) }
 {
     number_by(Property::MaximumEntries, processor) as u32
 }
@@ -225,7 +225,7 @@ fn place_at(top: &Value, object: &Value, field: Field) -> u16
 
 fn place_named(top: &Value, id: &str) -> u16
     ensures { result
-        ≡ place_below (position (has_text Field.Id id.now) (items_at Field.Processors (view top.now))) }
+        ≡ place_below (position (has_text Field.Id id.now) (list_items_at Field.Processors (view top.now))) }
 {
     place_below(place_of(id, items_at(top, Field::Processors)))
 }
@@ -260,7 +260,7 @@ fn order_at(alloc: Global, connection: &Value) -> Result<Order, AllocError>
 }
 
 fn prioritizers(alloc: Global, names: &[Value]) -> Result<Vec<Prioritizer>, AllocError>
-    ensures { IfOk result (λ list. list.items ≡ filter_map prioritizer_named (map text_of (map view names.now))) }
+    ensures { IfOk result (λ list. list.items ≡ filter_map prioritizer_named (map text_or_empty (map view names.now))) }
 {
     let mut list = Vec::new(alloc);
     'names: for name in names {
@@ -273,10 +273,10 @@ fn prioritizers(alloc: Global, names: &[Value]) -> Result<Vec<Prioritizer>, Allo
 
 fn limits_at(connection: &Value) -> QueueLimits
     ensures { result ≡ record {
-      expiration = number_at Field.Expiration (view connection.now);
-      objects = number_at Field.Objects (view connection.now);
-      bytes = number_at Field.Bytes (view connection.now);
-      swap = number_at Field.Swap (view connection.now);
+      expiration = field_number Field.Expiration (view connection.now);
+      objects = field_number Field.Objects (view connection.now);
+      bytes = field_number Field.Bytes (view connection.now);
+      swap = field_number Field.Swap (view connection.now);
     } }
 {
     QueueLimits {
@@ -288,7 +288,7 @@ fn limits_at(connection: &Value) -> QueueLimits
 }
 
 fn swap_at(connection: &Value) -> u32
-    ensures { result ≡ number_at Field.Swap (view connection.now) }
+    ensures { result ≡ field_number Field.Swap (view connection.now) }
 {
     number_at(connection, Field::Swap) as u32
 }
@@ -296,7 +296,7 @@ fn swap_at(connection: &Value) -> u32
 /// The connections of a flow.
 pub(crate) fn connections_of(alloc: Global, top: &Value) -> Result<Vec<Connection>, AllocError>
     ensures { IfOk result (λ list. list.items
-        ≡ map (connection_of (view top.now)) (items_at Field.Connections (view top.now))) }
+        ≡ map (connection_of (view top.now)) (list_items_at Field.Connections (view top.now))) }
 {
     connections_in(alloc, top, items_at(top, Field::Connections))
 }

@@ -34,11 +34,11 @@ pub enum Rule {
 }
 
 impl Rule {
-    ghost use Rattle.flow_definition.specs.Numbers.{number_of};
+    ghost use Rattle.flow_definition.specs.Numbers.{rule_number};
 
     /// Its number, which the refusal of a flow prints.
     pub fn number(self) -> u8
-        ensures { result ≡ number_of self }
+        ensures { result ≡ rule_number self }
     {
         match self {
             Rule::NotJson => 1,

@@ -5,8 +5,8 @@ ghost use Rattle.std.specs.List.{list_all};
 ghost use Rattle.std.specs.Str.Parse.{digits_value};
 ghost use Rattle.serde_json.specs.View.{view};
 ghost use Rattle.machine_model.specs.Sound.{is_id, are_distinct_texts, is_id_byte, within};
-ghost use Rattle.flow_definition.specs.Looks.{is_object, items_of, text_of};
-ghost use Rattle.flow_definition.specs.Shapes.{has_shape, is_in_range, is_list_of_texts, are_prioritizers, is_prioritizer, is_of_set, number_in, is_number_text, conflict_named, conflict_name, destination_named, destination_name, replace_strategy_named, replace_strategy_name, requirement_named, requirement_name, merge_strategy_named, merge_strategy_name, prioritizer_named};
+ghost use Rattle.flow_definition.specs.Looks.{is_object, list_items, text_or_empty};
+ghost use Rattle.flow_definition.specs.Shapes.{has_shape, is_in_range, is_list_of_texts, are_prioritizers, is_prioritizer, is_of_set, number_of_digits, is_number_text, conflict_named, conflict_name, destination_named, destination_name, replace_strategy_named, replace_strategy_name, requirement_named, requirement_name, merge_strategy_named, merge_strategy_name, prioritizer_named};
 
 use crate::field::Shape;
 use crate::look::{are_texts, is_among, items_of, names_in, text_of};
@@ -89,7 +89,7 @@ fn are_objects(items: &[Value]) -> bool
 }
 
 fn has_items(value: &Value) -> bool
-    ensures { result ≡ nat_le 1 (length (items_of (view value.now))) }
+    ensures { result ≡ nat_le 1 (length (list_items (view value.now))) }
 {
     items_of(value).len() >= 1
 }
@@ -103,7 +103,7 @@ fn are_prioritizers(items: &[Value]) -> bool
 }
 
 fn are_all_prioritizers(names: &[Value]) -> bool
-    ensures { result ≡ list_all is_prioritizer (map text_of (map view names.now)) }
+    ensures { result ≡ list_all is_prioritizer (map text_or_empty (map view names.now)) }
 {
     names
         .iter()
@@ -129,7 +129,7 @@ const PRIORITIZERS: [Prioritizer; 4] = [
 
 /// Whether each text of a list stands once.
 fn are_distinct(names: &[Value]) -> bool
-    ensures { result ≡ are_distinct_texts (map text_of (map view names.now)) }
+    ensures { result ≡ are_distinct_texts (map text_or_empty (map view names.now)) }
 {
     'names: for k in 0..names.len() {
         if is_among(text_of(&names[k]), &names[k + 1..]) {
@@ -274,7 +274,7 @@ pub(crate) fn is_number_text(form: Form, text: &str) -> bool
 
 /// The number that 1 to 10 digits write.
 pub(crate) fn number_in(text: &str) -> Option<u64>
-    ensures { result ≡ number_in text.now }
+    ensures { result ≡ number_of_digits text.now }
 {
     if is_within(1, text.len() as u64, 10) && are_digits(text.as_bytes()) {
         Some(parsed(text))

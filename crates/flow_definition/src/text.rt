@@ -5,10 +5,10 @@ ghost use Rattle.disk_trait.specs.Faults.{CountsFaults};
 ghost use Rattle.machine_model.specs.Sound.{IsSound};
 ghost use Rattle.serde_json.specs.View.{view};
 ghost use Rattle.sha2.specs.Sha256.{sha256};
-ghost use Rattle.flow_definition.specs.Patterns.{HasRisen, told};
+ghost use Rattle.flow_definition.specs.Patterns.{HasRisen, told_by_builder};
 ghost use Rattle.flow_definition.specs.Places.{broken_path};
 ghost use Rattle.flow_definition.specs.Verdict.{IsAnswer, IsAnswerOf, IsAnswerBehind, IsPatternTooBig, IsTold, IsToldIn, IsError, broken_before, object_in, refused, first_behind};
-ghost use Rattle.flow_definition.specs.Walk.{first_of, first_rules, last_rules};
+ghost use Rattle.flow_definition.specs.Walk.{first_broken, first_rules, last_rules};
 
 use crate::error::FlowError;
 use crate::field::Field;
@@ -38,8 +38,8 @@ pub fn read_flow<P: Patterns>(
     ensures answer { IsAnswer (HasRisen (P.faults patterns.old) (P.faults patterns.new)) bytes.now result }
     ensures sound { IfOk result IsSound }
     ensures count { CountsFaults (P.faults patterns.old) (P.faults patterns.new) (IsPatternTooBig result) }
-    ensures told { IsTold (told P.faults P.refused patterns.old)
-        (told P.faults P.refused patterns.new) bytes.now result }
+    ensures told { IsTold (told_by_builder P.faults P.refused patterns.old)
+        (told_by_builder P.faults P.refused patterns.new) bytes.now result }
     ensures uncalled { IsSome (broken_before bytes.now) → patterns.new ≡ patterns.old }
 {
     if bytes.len() as u64 > TEXT_MAX {
@@ -107,9 +107,9 @@ fn read_top<P: Patterns>(
     ensures answer { IsAnswerOf (HasRisen (P.faults patterns.old) (P.faults patterns.new)) bytes.now
         (view top.now) result }
     ensures count { CountsFaults (P.faults patterns.old) (P.faults patterns.new) (IsPatternTooBig result) }
-    ensures told { IsToldIn (told P.faults P.refused patterns.old)
-        (told P.faults P.refused patterns.new) (view top.now) result }
-    ensures uncalled { IsSome (first_of first_rules (view top.now)) → patterns.new ≡ patterns.old }
+    ensures told { IsToldIn (told_by_builder P.faults P.refused patterns.old)
+        (told_by_builder P.faults P.refused patterns.new) (view top.now) result }
+    ensures uncalled { IsSome (first_broken first_rules (view top.now)) → patterns.new ≡ patterns.old }
 {
     match first_of(first_rules(), top) {
         Some(broken) => Err(error_of(alloc, broken)),
@@ -127,8 +127,8 @@ fn read_behind<P: Patterns>(
     ensures answer { IsAnswerBehind (HasRisen (P.faults patterns.old) (P.faults patterns.new)) bytes.now
         (view top.now) result }
     ensures count { CountsFaults (P.faults patterns.old) (P.faults patterns.new) (IsPatternTooBig result) }
-    ensures told { IsToldIn (told P.faults P.refused patterns.old)
-        (told P.faults P.refused patterns.new) (view top.now) result }
+    ensures told { IsToldIn (told_by_builder P.faults P.refused patterns.old)
+        (told_by_builder P.faults P.refused patterns.new) (view top.now) result }
 {
     let made = make_all(alloc, items_at(top, Field::Processors), patterns)?;
     match first_behind(top, made.as_slice()) {

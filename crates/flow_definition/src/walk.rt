@@ -2,9 +2,9 @@
 ghost use Rattle.std.specs.Prelude.{◌≡◌, [], map};
 ghost use Rattle.std.specs.Option.{option_map, option_or};
 ghost use Rattle.serde_json.specs.View.{view};
-ghost use Rattle.flow_definition.specs.Looks.{items_at};
+ghost use Rattle.flow_definition.specs.Looks.{list_items_at};
 ghost use Rattle.flow_definition.specs.Places.{part_path, place_path, broken_path};
-ghost use Rattle.flow_definition.specs.Walk.{in_top, in_processor, in_connection, in_level, in_object, in_list_item, first_in, first_place, first_of};
+ghost use Rattle.flow_definition.specs.Walk.{in_top, in_processor, in_connection, in_level, in_object, in_list_item, first_broken_in, first_broken_place, first_broken};
 
 use crate::field::{Field, Level};
 use crate::look::items_at;
@@ -19,7 +19,7 @@ use serde_json::Value;
 
 /// The first of some rules that is broken, and where.
 pub(crate) fn first_of<'a>(rules: &[Rule], top: &'a Value) -> Option<Broken<'a>>
-    ensures { option_map broken_path result ≡ first_of rules.now (view top.now) }
+    ensures { option_map broken_path result ≡ first_broken rules.now (view top.now) }
 {
     'rules: for rule in rules {
         if let Some(place) = first_place(*rule, top) {
@@ -31,7 +31,7 @@ pub(crate) fn first_of<'a>(rules: &[Rule], top: &'a Value) -> Option<Broken<'a>>
 
 /// The first place at which a rule is broken.
 fn first_place(rule: Rule, top: &Value) -> Option<Place<'_>>
-    ensures { option_map place_path result ≡ first_place rule (view top.now) }
+    ensures { option_map place_path result ≡ first_broken_place rule (view top.now) }
 {
     if let Some(part) = in_top(rule, top) {
         return Some(Place { item: None, part });
@@ -70,7 +70,7 @@ fn first_in<'a>(
     items: &'a [Value],
 ) -> Option<Place<'a>>
     ensures { option_map place_path result
-        ≡ first_in (in_level level rule (view top.now)) list [] (map view items.now) }
+        ≡ first_broken_in (in_level level rule (view top.now)) list [] (map view items.now) }
 {
     'items: for (place, item) in items.iter().enumerate() {
         if let Some(part) = in_object(level, rule, top, &items[..place], item) {

@@ -45,7 +45,7 @@ use Rattle.machine_model.proofs.Took.{Took, taken-took}
 use Rattle.flow_queue.specs.Queue.{QueueState}
 use Rattle.store_core.specs.Flow as store
 use Rattle.store_core.specs.Flow.{flow_in}
-use Rattle.store_core.specs.Store.{Holds, StoreState, kept_by}
+use Rattle.store_core.specs.Store.{FilesHold, StoreState, kept_by}
 use Rattle.engine_core.specs.Committing.{identity_of}
 use Rattle.engine_queues.specs.Laws.{HeldContentsHaveSizes, QueuesAreSeen, SeesTheSame}
 use Rattle.engine_queues.specs.Queues.{AreQueuesOf, queue_seen}
@@ -56,14 +56,14 @@ use Rattle.engine_choice.specs.declared.choice.Taking.{Taking}
 use Rattle.engine_choice.specs.declared.choice.Taking.TheVariants as taking
 use Rattle.engine_session.specs.Steps.{SessionsAreSteps}
 use Rattle.flow_run.specs.Run.{IsStateOf}
-use Rattle.flow_run.specs.Turns.{ComesNext, moment_of}
+use Rattle.flow_run.specs.Turns.{ComesNext, step_moment}
 use Rattle.flow_engine.specs.Checkout.{choice_in}
 use Rattle.flow_engine.specs.Driving.{ShowsState}
 use Rattle.flow_engine.specs.Engine.{EngineState}
 
 -- ---- the queues are the machine's
 
-pub sees : QueuesAreSeen → HeldContentsHaveSizes → (flow : Flow) (s : StoreState) (files : Files) (queues : List QueueState) (m : Machine) → Holds s files → IsConsistent (kept_by s) → flow_in (kept_by s) ≡ identity_of flow
+pub sees : QueuesAreSeen → HeldContentsHaveSizes → (flow : Flow) (s : StoreState) (files : Files) (queues : List QueueState) (m : Machine) → FilesHold s files → IsConsistent (kept_by s) → flow_in (kept_by s) ≡ identity_of flow
     → AreQueuesOf flow (kept_by s) queues → IsStateOf m (content_in files) (kept_by s) → SeesTheSame flow (queue_seen queues) (queues_of m.state)
 sees law sizes flow s files queues m holds consistent flow_is are tied =
     let count : length (kept_by s).connections ≡ length flow.connections = ap (λ (f : store.Flow). length f.connections) flow_is ∙ length-map flow.connections (λ c. c.id) in
@@ -75,7 +75,7 @@ sees law sizes flow s files queues m holds consistent flow_is are tied =
 -- a session of this moment comes next behind this last worker, and the machine goes on by it
 pub record HasStep (flow : Flow) (last : Option ℕ) (moment : ℕ) (m : Machine) : Type 0 where
   pub next : Step
-  pub at : moment_of next ≡ moment
+  pub at : step_moment next ≡ moment
   pub comes : ComesNext flow last m next
   pub after : Machine
   pub goes : step flow m next ≡ Some after
@@ -192,10 +192,10 @@ goes_on choices seen_so steps e m moment choice valid seen counts coming nothing
 -- ---- an engine shows the machine's state
 
 pub shown : QueuesAreSeen → HeldContentsHaveSizes → (e : EngineState) (s : StoreState) (files : Files) (m : Machine) → s ≡ e.store → flow_in (kept_by e.store) ≡ identity_of e.flow → AreQueuesOf e.flow (kept_by e.store) e.queues
-    → Holds s files → IsConsistent (kept_by s) → IsStateOf m (content_in files) (kept_by s) → ShowsState e m
+    → FilesHold s files → IsConsistent (kept_by s) → IsStateOf m (content_in files) (kept_by s) → ShowsState e m
 shown law sizes e s files m is flow queues holds consistent tied =
     let same = subst (λ (t : StoreState). IsStateOf m (content_in files) (kept_by t)) is tied in
     record {
-      seen = sees law sizes e.flow e.store files e.queues m (subst (λ (t : StoreState). Holds t files) is holds) (subst (λ (t : StoreState). IsConsistent (kept_by t)) is consistent) flow queues same;
+      seen = sees law sizes e.flow e.store files e.queues m (subst (λ (t : StoreState). FilesHold t files) is holds) (subst (λ (t : StoreState). IsConsistent (kept_by t)) is consistent) flow queues same;
       counts = ap (λ (t : State). t.counts) same.is;
     }

@@ -42,7 +42,7 @@ use Rattle.engine_choice.specs.declared.choice.Taking.TheVariants.{Files, Genera
 use Rattle.engine_choice.proofs.Sessions.{chosen}
 use Rattle.engine_session.specs.Working.{is_built}
 use Rattle.flow_engine.specs.Engine.{AreBuilt, AreTakeable}
-use Rattle.flow_engine.specs.Handing.{HasBytes, IsHanded, MayBeReceived, MayBeTaken, received_in}
+use Rattle.flow_engine.specs.Handing.{HasBytes, JobIsHanded, MayBeReceived, MayBeTaken, received_in}
 use Rattle.flow_engine.specs.Job.{MayHand}
 use Rattle.flow_engine.specs.declared.job.Job.{Job}
 use Rattle.flow_engine.proofs.Files.{some_and}
@@ -169,7 +169,7 @@ next_is_left k left names moment kind (Files connection numbers) all takes = tt
 next_is_left k left names moment kind (Generate index) all takes = tt
 
 -- what it is handed its processor may be handed
-pub may_hand : (flow : Flow) (k : Kept) (names : List (List ℕ)) (moment : ℕ) (choice : Choice) (job : Job) → IsNext flow k names moment choice → IsHanded k moment choice job → MayHand flow k job
+pub may_hand : (flow : Flow) (k : Kept) (names : List (List ℕ)) (moment : ℕ) (choice : Choice) (job : Job) → IsNext flow k names moment choice → JobIsHanded k moment choice job → MayHand flow k job
 may_hand flow k names moment choice job next handed = record {
   processor = next.processor;
   found = ap (slice_get flow.processors) handed.processor ∙ next.found;
@@ -215,7 +215,7 @@ job_receives moment (Files connection numbers) job is = ap (λ (g : Given). g.fi
 job_receives moment (Generate index) job is = ap (λ (g : Given). g.file) is
 
 -- the step takes the file that is received
-pub next_takes_it : (flow : Flow) (k : Kept) (names : List (List ℕ)) (moment : ℕ) (choice : Choice) (job : Job) (name : List ℕ) → IsNext flow k names moment choice → IsHanded k moment choice job → received_in choice.taking ≡ Some name
+pub next_takes_it : (flow : Flow) (k : Kept) (names : List (List ℕ)) (moment : ℕ) (choice : Choice) (job : Job) (name : List ℕ) → IsNext flow k names moment choice → JobIsHanded k moment choice job → received_in choice.taking ≡ Some name
     → (p : Processor) × (slice_get flow.processors job.processor ≡ Some p) × (first_passed p.kind names ≡ Some name) × (job.given.file ≡ Some name)
 next_takes_it flow k names moment choice job name next handed is =
     let named = subst (λ (o : Option (List ℕ)). IfSome o (λ name. Among name names × (first_passed next.processor.kind names ≡ Some name))) is next.takes.named in

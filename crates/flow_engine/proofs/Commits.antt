@@ -17,7 +17,7 @@ use Rattle.content_repo.specs.Claims.{content_in, HasSizes}
 use Rattle.flowfile_wal.specs.Calls.{InEach}
 use Rattle.kept_state.specs.Applied.{applied}
 use Rattle.flowfile_record.specs.Counts.{with_count}
-use Rattle.kept_state.specs.Changes.{entry_of, no_files}
+use Rattle.kept_state.specs.Changes.{entry_of_change, no_files}
 use Rattle.kept_state.specs.Fits.{are_active_in}
 use Rattle.kept_state.specs.declared.limit.Limit.{Limit}
 use Rattle.machine_model.specs.declared.flow.Flow.{Flow}
@@ -37,7 +37,7 @@ use Rattle.flow_run.specs.Going.{IsBetween, IsStepped}
 use Rattle.flow_run.specs.Run.{StandsFor}
 use Rattle.flow_run.specs.Work.{IsAtWork, IsRefused}
 use Rattle.flow_engine.specs.Committing.{with_room}
-use Rattle.flow_engine.specs.Errors.{error_of}
+use Rattle.flow_engine.specs.Errors.{engine_error}
 use Rattle.flow_engine.specs.declared.error.EngineError.{EngineError}
 
 -- ---- a store with other room
@@ -146,7 +146,7 @@ pub flow_after : (p : PreparedChange) (t u : StoreState) (f : store.Flow) → Ha
 flow_after p t u f change is = ap flow_in change.kept ∙ flow_stays (kept_by t) change.entry ∙ is
 
 -- what is kept is that before, with the session
-pub kept_after : (p : PreparedChange) (s t u : StoreState) (room : ℕ) (settled : Settled) (connection : ℕ) → t ≡ with_room room s → HasChange p t u → p.entry ≡ entry_of (kept_by s) (change.Session settled)
+pub kept_after : (p : PreparedChange) (s t u : StoreState) (room : ℕ) (settled : Settled) (connection : ℕ) → t ≡ with_room room s → HasChange p t u → p.entry ≡ entry_of_change (kept_by s) (change.Session settled)
     → are_active_in (kept_by s).files connection settled.gone ≡ true → IsKeptAfter (kept_by s) connection settled (kept_by u)
 kept_after p s t u room settled connection same changed entry active = record {
   active = active;
@@ -169,7 +169,7 @@ still_works {A = A} result s t answer is works fails = by t.failed refl
 -- ---- errors
 
 -- which error of the store a limit is
-pub limit_of : (e : StoreError) (limit : Limit) → error_of e ≡ EngineError.Limit limit → e ≡ StoreError.Limit limit
+pub limit_of : (e : StoreError) (limit : Limit) → engine_error e ≡ EngineError.Limit limit → e ≡ StoreError.Limit limit
 limit_of StoreError.Disk limit is = absurd cc
 limit_of StoreError.Memory limit is = absurd cc
 limit_of StoreError.MustReopen limit is = absurd cc

@@ -9,12 +9,12 @@ use Rattle.disk_trait.specs.Files.{Files}
 use Rattle.content_repo.specs.Claims.{IsRead, content_in}
 use Rattle.flowfile_record.specs.declared.content.ContentRef.{ContentRef}
 use Rattle.flowfile_record.specs.declared.flow_file.FlowFile.{FlowFile}
-use Rattle.engine_session.specs.Handing.{AreReadOf, IsReadOf}
+use Rattle.engine_session.specs.Handing.{AreReadOf, IsReadContent}
 use Rattle.flow_engine.specs.Handing.{HaveRead}
 
 -- ---- behind what was read
 
-pub one_more : (bytes : ContentRef → List ℕ) (fits : Bool) (files : List FlowFile) (contents : List (Option (List ℕ))) (file : FlowFile) (read : Option (List ℕ)) → AreReadOf bytes fits files contents → IsReadOf bytes fits file read
+pub one_more : (bytes : ContentRef → List ℕ) (fits : Bool) (files : List FlowFile) (contents : List (Option (List ℕ))) (file : FlowFile) (read : Option (List ℕ)) → AreReadOf bytes fits files contents → IsReadContent bytes fits file read
     → AreReadOf bytes fits (files ++ file ∷ []) (contents ++ read ∷ [])
 one_more bytes fits [] [] file read are is = (is, tt)
 one_more bytes fits [] (one ∷ contents) file read are is = absurd are
@@ -23,7 +23,7 @@ one_more bytes fits (first ∷ files) (one ∷ contents) file read are is = (are
 
 -- ---- a content that was read before
 
-of_same : (bytes : ContentRef → List ℕ) (fits : Bool) (one other : FlowFile) (read : Option (List ℕ)) → one.content ≡ other.content → IsReadOf bytes fits one read → IsReadOf bytes fits other read
+of_same : (bytes : ContentRef → List ℕ) (fits : Bool) (one other : FlowFile) (read : Option (List ℕ)) → one.content ≡ other.content → IsReadContent bytes fits one read → IsReadContent bytes fits other read
 of_same bytes fits one other read same is = record {
   size = subst (λ (at : ContentRef). at.size ≡ length (bytes at)) same is.size;
   digest = subst (λ (at : ContentRef). at.digest ≡ sha256 (bytes at)) same is.digest;
@@ -32,7 +32,7 @@ of_same bytes fits one other read same is = record {
 }
 
 read_at : (bytes : ContentRef → List ℕ) (fits : Bool) (files : List FlowFile) (contents : List (Option (List ℕ))) (place : ℕ) (or : FlowFile) (absent : Option (List ℕ)) → AreReadOf bytes fits files contents → place < length files
-    → IsReadOf bytes fits (get_or files place or) (get_or contents place absent)
+    → IsReadContent bytes fits (get_or files place or) (get_or contents place absent)
 read_at bytes fits [] contents place or absent are within = absurd (omega (arith, within))
 read_at bytes fits (file ∷ files) [] place or absent are within = absurd are
 read_at bytes fits (file ∷ files) (read ∷ contents) zero or absent are within = are.0
@@ -44,7 +44,7 @@ pub shared_read : (bytes : ContentRef → List ℕ) (fits : Bool) (files : List 
 shared_read bytes fits files contents file place read absent within same is are =
     one_more bytes fits files contents file read are
     (of_same bytes fits (get_or files place file) file read (same file)
-    (subst (IsReadOf bytes fits (get_or files place file)) (sym is) (read_at bytes fits files contents place file absent are within)))
+    (subst (IsReadContent bytes fits (get_or files place file)) (sym is) (read_at bytes fits files contents place file absent are within)))
 
 -- ---- a content that is read anew
 
@@ -52,7 +52,7 @@ abbrev handed : Bool → List ℕ → Option (List ℕ)
 handed fits read = cond fits (Some read) None
 
 is_read : (bytes : ContentRef → List ℕ) (fits : Bool) (file : FlowFile) (read : List ℕ) → length read ≡ file.content.size → sha256 read ≡ file.content.digest → read ≡ bytes file.content
-    → IsReadOf bytes fits file (handed fits read)
+    → IsReadContent bytes fits file (handed fits read)
 is_read bytes fits file read size digest same = record {
   size = sym size ∙ ap length same;
   digest = sym digest ∙ ap sha256 same;

@@ -21,26 +21,26 @@ use Rattle.machine_model.specs.Laws.{LosesNames, StepsLoseNames, received_name, 
 use Rattle.machine_model.specs.State.{QueuedFile, Machine, State, World}
 use Rattle.machine_model.specs.Stepping.{step, replay, session_step, session_of, after_session, taken_files, given_at, given_in, is_there, may_generate, may_get, same_bool}
 use Rattle.machine_model.proofs.Options.{if_and_then, if_at, if_weaker, if_when}
-use Rattle.engine_choice.specs.Choice.{coming_of, fits}
+use Rattle.engine_choice.specs.Choice.{coming_of, fits_content}
 use Rattle.flow_run.specs.Run.{machine_at}
 
 -- ---- what a step takes isn't too large
 
 -- the names that are left of files that are too large
 abbrev pub large_in : World → List (List ℕ)
-large_in world = filter (λ name. not (fits world name)) world.left
+large_in world = filter (λ name. not (fits_content world name)) world.left
 
 abbrev AllFit : World → List (List ℕ) → Type 0
-AllFit world names = (name : List ℕ) → is_among name names ≡ true → fits world name ≡ true
+AllFit world names = (name : List ℕ) → is_among name names ≡ true → fits_content world name ≡ true
 
 none_fit : (world : World) → AllFit world []
 none_fit world name is = cc
 
-one_fits : (world : World) (name : List ℕ) → fits world name ≡ true → AllFit world (name ∷ [])
+one_fits : (world : World) (name : List ℕ) → fits_content world name ≡ true → AllFit world (name ∷ [])
 one_fits world name fit other is = by_test (bytes_eq other name) refl is
   where
-    by_test : (b : Bool) → bytes_eq other name ≡ b → (b || false) ≡ true → fits world other ≡ true
-    by_test true same is = ap (fits world) ((bytes_eq-Decides other name).0 same) ∙ fit
+    by_test : (b : Bool) → bytes_eq other name ≡ b → (b || false) ≡ true → fits_content world other ≡ true
+    by_test true same is = ap (fits_content world) ((bytes_eq-Decides other name).0 same) ∙ fit
     by_test false apart is = cc
 
 always : {A P : Type 0} (o : Option A) → P → IfSome o (λ _. P)
@@ -52,7 +52,7 @@ given_fits : (kind : Kind) (place : ℕ) (state : State) (world : World) (taken 
 given_fits (GetFile filter) place state world taken given = by_name given.file
   where
     by_test : (name : List ℕ) (found : Given) (b : Bool) → may_get filter world name ≡ b → IfSome (cond b (Some found) None) (λ _. AllFit world (name ∷ []))
-    by_test name found true may = one_fits world name (and_parts (is_some (find (bytes_eq name) world.left) && passes filter name) (fits world name) may).1
+    by_test name found true may = one_fits world name (and_parts (is_some (find (bytes_eq name) world.left) && passes filter name) (fits_content world name) may).1
     by_test name found false may = tt
 
     by_name : (file : Option (List ℕ)) → IfSome (option_and_then (λ name. cond (may_get filter world name) (Some (record given { bytes = bytes_of world.inbox name })) None) file) (λ _. AllFit world (received_name (GetFile filter) file))
@@ -114,7 +114,7 @@ step_keeps law flow machine one = both (step flow machine one) (law flow machine
     both None lost fit = tt
     both (Some after) lost fit =
         (λ i. filter (λ name. not (option_map_or (λ bytes. nat_le (length bytes) CONTENT_MAX) (bytes_of (lost.inbox i) name) false)) (lost.left i))
-        ∙ large_stay (fits machine.world) (names_of_step flow one) machine.world.left fit
+        ∙ large_stay (fits_content machine.world) (names_of_step flow one) machine.world.left fit
 
 replay_keeps : StepsLoseNames → (flow : Flow) (machine : Machine) (steps : List Step) → IfSome (replay flow machine steps) (λ after. large_in after.world ≡ large_in machine.world)
 replay_keeps law flow machine [] = refl
@@ -143,7 +143,7 @@ pub all_counted : StepsLoseNames → (flow : Flow) (state : State) (left : List 
 all_counted law flow state left standing steps reached listed coming large goes listed_is counted coming_is =
     let opened : Machine = machine_at state left standing in
     let same : large_in reached.world ≡ large_in opened.world = if_at (replay flow opened steps) reached (λ after. large_in after.world ≡ large_in opened.world) goes (replay_keeps law flow opened steps) in
-    let before = both_counted (fits opened.world) opened.world.left in
-    let after = both_counted (fits reached.world) reached.world.left in
+    let before = both_counted (fits_content opened.world) opened.world.left in
+    let after = both_counted (fits_content reached.world) reached.world.left in
     let names : length opened.world.left ≡ length left = length-map left (λ file. file.name) in
     omega (arith, before, after, names, counted, ap length same, ap length listed_is, ap length coming_is)

@@ -18,18 +18,18 @@ use Rattle.engine_queues.specs.Laws.{SeesTheSame}
 use Rattle.engine_queues.specs.Queues.{queue_seen}
 use Rattle.store_core.specs.Store.{kept_by}
 use Rattle.flow_run.specs.Ending.{journal_full}
-use Rattle.flow_engine.specs.Checkout.{checkout_in, choice_in, ended_as, ending_in, next_behind, next_of}
+use Rattle.flow_engine.specs.Checkout.{checkout_in, choice_in, checkout_of_ending, ending_in, due_or_next, next_of}
 use Rattle.flow_engine.specs.Driving.{IsEnded, IsTurned}
 use Rattle.flow_engine.specs.Engine.{EngineState}
 use Rattle.flow_engine.specs.Running.{IsRunning}
-use Rattle.flow_engine.specs.Ready.{Due, due_in, first_of, is_log_due}
+use Rattle.flow_engine.specs.Ready.{Due, due_in, due_first, is_log_due}
 use Rattle.flow_engine.specs.declared.checkout.Checkout.{Checkout}
 use Rattle.flow_run.specs.Puts.{Outgoing, Start}
 use Rattle.flow_engine.specs.declared.checkout.Checkout.TheVariants as next
 
 -- ---- what comes next
 
-none_by : {A : Type 0} (o : Option A) (log claims : Bool) → first_of (is_some o) log claims ≡ None → o ≡ None
+none_by : {A : Type 0} (o : Option A) (log claims : Bool) → due_first (is_some o) log claims ≡ None → o ≡ None
 none_by None log claims is = refl
 none_by (Some a) log claims is = absurd cc
 
@@ -39,9 +39,9 @@ none_expired e moment is = none_by (due_expiry e.flow (queue_seen e.queues) mome
 
 -- .. and this comes next
 pub comes_next : (e : EngineState) (moment : ℕ) (next : Checkout) → due_in e moment ≡ None → next ≡ checkout_in e moment → next_of (length e.journal) e.most (choice_in e moment) (ending_in e moment) ≡ next
-comes_next e moment next none is = sym (is ∙ ap (λ (due : Option Due). next_behind due (next_of (length e.journal) e.most (choice_in e moment) (ending_in e moment))) none)
+comes_next e moment next none is = sym (is ∙ ap (λ (due : Option Due). due_or_next due (next_of (length e.journal) e.most (choice_in e moment) (ending_in e moment))) none)
 
-same_end : (one other : Ending) → ended_as one ≡ ended_as other → one ≡ other
+same_end : (one other : Ending) → checkout_of_ending one ≡ checkout_of_ending other → one ≡ other
 same_end (Rest until) (Rest later) is = let same : until ≡ later = cc in ap (λ (n : ℕ). Rest n) same
 same_end (Rest until) (Blocked connection) is = absurd cc
 same_end (Rest until) Quiet is = absurd cc
@@ -52,7 +52,7 @@ same_end Quiet (Rest until) is = absurd cc
 same_end Quiet (Blocked connection) is = absurd cc
 same_end Quiet Quiet is = refl
 
-no_end : (room : Bool) (choice : Choice) (limit : TheLimit) (answer : Ending) → cond room (next.Session choice) (next.Limit limit) ≡ ended_as answer → ⊥
+no_end : (room : Bool) (choice : Choice) (limit : TheLimit) (answer : Ending) → cond room (next.Session choice) (next.Limit limit) ≡ checkout_of_ending answer → ⊥
 no_end true choice limit (Rest until) is = cc
 no_end true choice limit (Blocked connection) is = cc
 no_end true choice limit Quiet is = cc
@@ -61,11 +61,11 @@ no_end false choice limit (Blocked connection) is = cc
 no_end false choice limit Quiet is = cc
 
 -- it ends so, where no session comes
-pub ends_as : (entries most : ℕ) (choice : Option Choice) (end answer : Ending) → next_of entries most choice end ≡ ended_as answer → (choice ≡ None) × (answer ≡ end)
+pub ends_as : (entries most : ℕ) (choice : Option Choice) (end answer : Ending) → next_of entries most choice end ≡ checkout_of_ending answer → (choice ≡ None) × (answer ≡ end)
 ends_as entries most None end answer is = (refl, sym (same_end end answer is))
 ends_as entries most (Some choice) end answer is = absurd (no_end (nat_lt entries most) choice (journal_full most) answer is)
 
-not_limit : (end : Ending) (limit : TheLimit) → ended_as end ≡ next.Limit limit → ⊥
+not_limit : (end : Ending) (limit : TheLimit) → checkout_of_ending end ≡ next.Limit limit → ⊥
 not_limit (Rest until) limit is = cc
 not_limit (Blocked connection) limit is = cc
 not_limit Quiet limit is = cc

@@ -12,7 +12,7 @@ use Rattle.machine_model.specs.declared.flow.Processor.{Processor}
 use Rattle.machine_model.specs.declared.given.Given.{Given}
 use Rattle.machine_model.specs.declared.journal.Step.TheVariants.{Session}
 use Rattle.machine_model.specs.State.{Machine}
-use Rattle.store_core.specs.Store.{Holds, kept_by}
+use Rattle.store_core.specs.Store.{FilesHold, kept_by}
 use Rattle.engine_queues.specs.Laws.{HeldContentsHaveSizes, QueuesAreSeen, QueuesShowKept}
 use Rattle.engine_queues.specs.Queues.{queue_seen}
 use Rattle.engine_choice.specs.Choice.{next_choice}
@@ -21,15 +21,15 @@ use Rattle.engine_choice.specs.Listing.{first_passed}
 use Rattle.engine_choice.specs.declared.choice.Choice.{Choice}
 use Rattle.engine_session.specs.Handing.{AreTaken}
 use Rattle.engine_session.specs.Laws.{MachinesFilesAreLive}
-use Rattle.flow_run.specs.Journal.{Takes}
+use Rattle.flow_run.specs.Journal.{TakesFromInbox}
 use Rattle.flow_run.specs.Run.{IsStateOf, StandsFor}
 use Rattle.flow_run.specs.Work.{IsAtWork}
 use Rattle.flow_engine.specs.Change.{IsStepOf, MakesStep, step_of}
 use Rattle.flow_engine.specs.Commit.{StandsSo}
 use Rattle.flow_engine.specs.Done.{IsWorkOn, step_done}
 use Rattle.flow_engine.specs.Engine.{AreTakeable, EngineState}
-use Rattle.flow_engine.specs.Ready.{IsReady}
-use Rattle.flow_engine.specs.Handing.{IsHanded, IsHandedAs, received_in}
+use Rattle.flow_engine.specs.Ready.{EngineIsReady}
+use Rattle.flow_engine.specs.Handing.{JobIsHanded, IsHandedAs, received_in}
 use Rattle.flow_engine.specs.Job.{MayHand}
 use Rattle.flow_engine.specs.Running.{IsRunning}
 use Rattle.flow_engine.specs.declared.change.Changed.{Changed}
@@ -43,7 +43,7 @@ use Rattle.flow_run.specs.Puts.{Outgoing, Start}
 use Rattle.flow_engine.proofs.Stands.{all_told}
 use Rattle.flow_engine.proofs.Steps.{next_there, step_so}
 
-module _ (tells : Bool) {D : Type 0} (held : D → Files) (moment : D → ℕ) (images : D → ℕ → Files → Type 0) (v e : EngineState) (is : v ≡ e) (disk : D) (ready : IsReady tells held moment images e disk)
+module _ (tells : Bool) {D : Type 0} (held : D → Files) (moment : D → ℕ) (images : D → ℕ → Files → Type 0) (v e : EngineState) (is : v ≡ e) (disk : D) (ready : EngineIsReady tells held moment images e disk)
     (consistent : IsConsistent (kept_by v.store)) (in_tells out_tells : Bool) (left : List NamedFile) (out : Outgoing) (done : Done)
     (stands : StandsSo tells in_tells out_tells e (content_in (held disk)) left out.standing done) where
   abbrev pub job_in : Job
@@ -61,8 +61,8 @@ module _ (tells : Bool) {D : Type 0} (held : D → Files) (moment : D → ℕ) (
   pub work_in : IsWorkOn v.flow (kept_by v.store).store job_in done
   work_in = subst (λ (x : EngineState). IsWorkOn x.flow (kept_by x.store).store job_in done) (sym is) stands.2
 
-  pub handed_in : IsHanded (kept_by v.store) done.given.moment choice_at job_in
-  handed_in = subst (λ (x : EngineState). IsHanded (kept_by x.store) done.given.moment choice_at job_in) (sym is) stands.1.handed
+  pub handed_in : JobIsHanded (kept_by v.store) done.given.moment choice_at job_in
+  handed_in = subst (λ (x : EngineState). JobIsHanded (kept_by x.store) done.given.moment choice_at job_in) (sym is) stands.1.handed
 
   told_in : IsHandedAs tells in_tells out_tells (kept_by v.store) (content_in (held disk)) left out.standing choice_at job_in
   told_in = subst (λ (x : EngineState). IsHandedAs tells in_tells out_tells (kept_by x.store) (content_in (held disk)) left out.standing choice_at job_in) (sym is) stands.1.told
@@ -91,7 +91,7 @@ module _ (tells : Bool) {D : Type 0} (held : D → Files) (moment : D → ℕ) (
       λ i. Session (sym stands.2.processor i) (sym stands.2.numbers i) (time i) (given i)
 
   -- what it makes is the step that comes next
-  pub steps_in : QueuesShowKept → QueuesAreSeen → HeldContentsHaveSizes → ChoicesAreSessions → ChoicesAreSeen → MachinesFilesAreLive → (kept_by v.store).batches ≡ [] → Holds v.store (held disk)
+  pub steps_in : QueuesShowKept → QueuesAreSeen → HeldContentsHaveSizes → ChoicesAreSessions → ChoicesAreSeen → MachinesFilesAreLive → (kept_by v.store).batches ≡ [] → FilesHold v.store (held disk)
       → ((flow : Flow) → IsAtWork flow tells held moment images v.store disk → (m : Machine) → InEach (images disk (moment disk)) (StandsFor flow v.store.lot m) → IsStateOf m (content_in (held disk)) (kept_by v.store))
       → IsTrue tells → IsTrue in_tells → IsTrue out_tells → (opened : Machine) (first : D) (start : Start) (time : ℕ) (run : IsRunning moment images e opened first start time disk left out) → (changed : Changed)
       → ((job : Job) → MayHand v.flow (kept_by v.store) job → IsWorkOn v.flow (kept_by v.store).store job done → MakesStep v.flow (kept_by v.store) job changed)
@@ -123,7 +123,7 @@ module _ (tells : Bool) {D : Type 0} (held : D → Files) (moment : D → ℕ) (
       (λ told. next_is_left (kept_by v.store) left v.listing.names done.given.moment (next_in shown).processor.kind choice_at.taking
       (subst (λ (x : EngineState). AreTakeable left x.listing.names) (sym is) (takeable told)) (next_in shown).takes)
 
-  pub takes_in : QueuesShowKept → (name : List ℕ) → done.given.file ≡ Some name → Takes e.flow (step_of job_in) name
+  pub takes_in : QueuesShowKept → (name : List ℕ) → done.given.file ≡ Some name → TakesFromInbox e.flow (step_of job_in) name
   takes_in shown name file =
       let it = next_takes_it v.flow (kept_by v.store) v.listing.names done.given.moment choice_at job_in name (next_in shown) handed_in (sym received_is ∙ file) in
-      subst (λ (x : EngineState). Takes x.flow (step_of job_in) name) is (takes_received v.flow job_in it.0 v.listing.names name it.1 it.2 it.3)
+      subst (λ (x : EngineState). TakesFromInbox x.flow (step_of job_in) name) is (takes_received v.flow job_in it.0 v.listing.names name it.1 it.2 it.3)

@@ -9,7 +9,7 @@ use Rattle.flowfile_record.specs.declared.content.ContentRef.{ContentRef}
 use Rattle.flowfile_record.specs.declared.flow_file.FlowFile.{FlowFile}
 use Rattle.flowfile_record.specs.declared.stored.ActiveFile.{ActiveFile}
 use Rattle.record_codec.specs.ActiveFile.{active}
-use Rattle.kept_state.specs.Fits.{are_active_in, are_distinct}
+use Rattle.kept_state.specs.Fits.{are_active_in, are_distinct_numbers}
 use Rattle.machine_model.specs.declared.given.Given.{Given}
 use Rattle.machine_model.specs.Acting.{name_in}
 use Rattle.machine_model.specs.Changing.{queued_file}
@@ -20,9 +20,9 @@ use Rattle.store_core.specs.State.{live_contents}
 use Rattle.engine_choice.specs.declared.choice.Choice.{Choice}
 use Rattle.engine_choice.specs.declared.choice.Taking.{Taking}
 use Rattle.engine_choice.specs.declared.choice.Taking.TheVariants.{Generate, Receive}
-use Rattle.engine_session.specs.Handing.{AreReadOf, AreTaken, fit_a_content, live_files}
+use Rattle.engine_session.specs.Handing.{AreReadOf, AreTaken, files_fit_a_content, live_files}
 use Rattle.engine_session.proofs.Lookups.{live_there}
-use Rattle.flow_engine.specs.Handing.{IsHanded}
+use Rattle.flow_engine.specs.Handing.{JobIsHanded}
 use Rattle.flow_engine.specs.declared.job.Job.{Job}
 
 pub some_and : {A : Type 0} (P : A → Type 0) (o : Option A) → IsSomeAnd o P → IsSome o × IfSome o P
@@ -39,11 +39,11 @@ all_live k connection (file ∷ files) all =
     (contains_among file.content (live_contents k) (makes (λ (a : ActiveFile). a.file.content) k.files (active connection file) (among_contained (active connection file) k.files here)))
     (all_live k connection files (All-tail (λ (f : FlowFile). Contains k.files (active connection f)) file files all))
 
-module _ (k : Kept) (connection : ℕ) (numbers : List ℕ) (may : (are_active_in k.files connection numbers ≡ true) × (are_distinct numbers ≡ true)) where
+module _ (k : Kept) (connection : ℕ) (numbers : List ℕ) (may : (are_active_in k.files connection numbers ≡ true) × (are_distinct_numbers numbers ≡ true)) where
   pub all_are_live : All (λ (file : FlowFile). Contains (live_contents k) file.content) (live_files k numbers)
   all_are_live = all_live k connection (live_files k numbers) (live_there k connection numbers may.0)
 
-  pub taken_so : (bytes : ContentRef → List ℕ) (files : List FlowFile) (contents : List (Option (List ℕ))) → files ≡ live_files k numbers → AreReadOf bytes (fit_a_content files) files contents
+  pub taken_so : (bytes : ContentRef → List ℕ) (files : List FlowFile) (contents : List (Option (List ℕ))) → files ≡ live_files k numbers → AreReadOf bytes (files_fit_a_content files) files contents
       → AreTaken k connection numbers bytes files contents
   taken_so bytes files contents are read = record { active = may.0; distinct = may.1; are = are; read = read }
 
@@ -64,17 +64,17 @@ abbrev without_files : (processor : ℕ) → Given → Job
 without_files processor given = record { processor = processor; connection = 0; numbers = []; files = []; contents = []; given = given }
 
 pub handed_index : (k : Kept) (moment index : ℕ) (choice : Choice) (job : Job) → choice.taking ≡ Generate index
-    → job ≡ without_files choice.processor (record { moment = moment; index = index; there = false; file = None; bytes = None }) → IsHanded k moment choice job
+    → job ≡ without_files choice.processor (record { moment = moment; index = index; there = false; file = None; bytes = None }) → JobIsHanded k moment choice job
 handed_index k moment index choice job takes is =
-    subst (λ (j : Job). IsHanded k moment choice j) (sym is)
-    (subst (λ (t : Taking). IsHanded k moment (record { processor = choice.processor; taking = t }) (without_files choice.processor (record { moment = moment; index = index; there = false; file = None; bytes = None }))) (sym takes)
+    subst (λ (j : Job). JobIsHanded k moment choice j) (sym is)
+    (subst (λ (t : Taking). JobIsHanded k moment (record { processor = choice.processor; taking = t }) (without_files choice.processor (record { moment = moment; index = index; there = false; file = None; bytes = None }))) (sym takes)
     (record { processor = refl; connection = refl; numbers = refl; given = refl; has = refl; bytes = λ at. []; taken = none_taken k }))
 
 pub handed_name : (k : Kept) (moment : ℕ) (name bytes : List ℕ) (choice : Choice) (job : Job) → choice.taking ≡ Receive name → length bytes ≤ CONTENT_MAX
-    → job ≡ without_files choice.processor (record { moment = moment; index = 0; there = false; file = Some name; bytes = Some bytes }) → IsHanded k moment choice job
+    → job ≡ without_files choice.processor (record { moment = moment; index = 0; there = false; file = Some name; bytes = Some bytes }) → JobIsHanded k moment choice job
 handed_name k moment name bytes choice job takes most is =
-    subst (λ (j : Job). IsHanded k moment choice j) (sym is)
-    (subst (λ (t : Taking). IsHanded k moment (record { processor = choice.processor; taking = t }) (without_files choice.processor (record { moment = moment; index = 0; there = false; file = Some name; bytes = Some bytes }))) (sym takes)
+    subst (λ (j : Job). JobIsHanded k moment choice j) (sym is)
+    (subst (λ (t : Taking). JobIsHanded k moment (record { processor = choice.processor; taking = t }) (without_files choice.processor (record { moment = moment; index = 0; there = false; file = Some name; bytes = Some bytes }))) (sym takes)
     (record { processor = refl; connection = refl; numbers = refl; given = refl; has = most; bytes = λ at. []; taken = none_taken k }))
 
 pub if_ok : {A E : Type 0} (r : Result A E) (P Q : A → Type 0) → ((a : A) → P a → Q a) → IfOk r P → IfOk r Q

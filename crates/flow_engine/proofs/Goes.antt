@@ -27,10 +27,10 @@ use Rattle.engine_choice.specs.Listing.{first_passed}
 use Rattle.store_core.specs.Change.{IsLimitOf}
 use Rattle.store_core.specs.Store.{StoreState, kept_by}
 use Rattle.flow_run.specs.Going.{IsBetween, IsRunningAt, IsSpared, IsStepped}
-use Rattle.flow_run.specs.Journal.{Takes}
+use Rattle.flow_run.specs.Journal.{TakesFromInbox}
 use Rattle.flow_run.specs.Laws.{DiskFaultsEnd, FaultsEnd, InboxFaultsEnd, NextStepsAreInTurn, OutboxFaultsEnd, SparedRunsGoOn, SteppedRunsGoOn}
-use Rattle.flow_run.specs.Run.{HasRun, IsAtJournalLimit, IsAtLimit, IsAtStoreLimit, IsPut, IsStateOf, StandsFor}
-use Rattle.flow_run.specs.Turns.{ComesNext, last_worker, moment_of, worker_behind}
+use Rattle.flow_run.specs.Run.{HasRun, IsAtJournalLimit, IsAtLimit, IsAtStoreLimit, IsPutStep, IsStateOf, StandsFor}
+use Rattle.flow_run.specs.Turns.{ComesNext, last_worker, step_moment, worker_behind}
 use Rattle.flow_run.specs.Work.{IsAtWork}
 use Rattle.flow_run.specs.declared.ended.Ended.{Ended}
 use Rattle.flow_run.specs.declared.ended.Ended.TheVariants as ending
@@ -61,7 +61,7 @@ received_so (GetFile filter) names name first = refl
 received_so kind names name first = absurd cc
 
 pub takes_received : (flow : Flow) (job : Job) (processor : Processor) (names : List (List ℕ)) (name : List ℕ) → slice_get flow.processors job.processor ≡ Some processor → first_passed processor.kind names ≡ Some name
-    → job.given.file ≡ Some name → Takes flow (step_of job) name
+    → job.given.file ≡ Some name → TakesFromInbox flow (step_of job) name
 takes_received flow job processor names name found first file =
     let is : names_of_step flow (step_of job) ≡ name ∷ [] =
     ap (λ (f : Option (List ℕ)). option_map_or (λ p. received_name p.kind f) (slice_get flow.processors job.processor) []) file
@@ -139,7 +139,7 @@ module _ (tells : Bool) {D : Type 0} (held : D → Files) (moment : D → ℕ) (
         (subst (λ (o : Outgoing). Stops error tells held moment images f opened first start by new left o) (sym stands) (stops_between law journal_is spared error none by le))
 
     -- the step that the session is
-    module _ (contents : ContentRef → List ℕ) (job : Job) (changed : Changed) (s : IsStepOf e.flow e.last contents run.reached job changed) (one : Step) (one_is : step_of job ≡ one) (le : time ≤ moment_of one) where
+    module _ (contents : ContentRef → List ℕ) (job : Job) (changed : Changed) (s : IsStepOf e.flow e.last contents run.reached job changed) (one : Step) (one_is : step_of job ≡ one) (le : time ≤ step_moment one) where
       goes_one : step e.flow run.reached one ≡ Some s.after
       goes_one = ap (step e.flow run.reached) (sym one_is) ∙ s.goes
 
@@ -155,7 +155,7 @@ module _ (tells : Bool) {D : Type 0} (held : D → Files) (moment : D → ℕ) (
       -- the disk's within the step
       pub stops_within : DiskFaultsEnd tells held moment images → f.journal ≡ e.journal ++ record { step = one; acked = None } ∷ []
           → IsBetween e.flow moment images e.store.lot run.reached s.after old new → (now_out : Outgoing) → now_out ≡ with_sending changed.sending out
-          → Stops EngineError.Disk tells held moment images f opened first start (moment_of one) new left now_out
+          → Stops EngineError.Disk tells held moment images f opened first start (step_moment one) new left now_out
       stops_within law journal_is between now_out sent later by =
           has_as f e.flow e.store.lot (e.journal ++ record { step = one; acked = None } ∷ []) flow_is lot_is journal_is opened first start new left now_out (ending.Fault fault.Disk) later
           (law e.flow start time later e.store.lot opened run.reached s.after first old new e.journal one left out now_out run.to.run le by comes_one goes_one between
@@ -164,7 +164,7 @@ module _ (tells : Bool) {D : Type 0} (held : D → Files) (moment : D → ℕ) (
       -- the outbox's at the put, which was tried or left everything as it was
       pub stops_at_put : FaultsEnd tells held moment images → OutboxFaultsEnd tells held moment images → f.journal ≡ e.journal
           → IsSpared e.flow moment images e.store.lot run.reached old new → (now_out : Outgoing) → IsLeftBySend changed.sending out now_out
-          → Stops EngineError.Outbox tells held moment images f opened first start (moment_of one) new left now_out
+          → Stops EngineError.Outbox tells held moment images f opened first start (step_moment one) new left now_out
       stops_at_put between law journal_is spared now_out is later by = at_put changed.sending s.sent (put_one (with_sending changed.sending out) refl) is
         where
           at_put : (sending : Option Sending) → IsSentBy e.flow run.reached (step_of job) sending → IsPutBy e.flow run.reached one s.after out (with_sending sending out) → IsLeftBySend sending out now_out
@@ -176,19 +176,19 @@ module _ (tells : Bool) {D : Type 0} (held : D → Files) (moment : D → ℕ) (
           at_put (Some sending) from puts (inr tried) =
               has_as f e.flow e.store.lot e.journal flow_is lot_is journal_is opened first start new left now_out (ending.Fault fault.Outbox) later
               (law e.flow start time later e.store.lot opened run.reached s.after first old new e.journal one left out now_out sending.name sending.bytes run.to.run spared le by comes_one goes_one
-              (subst (λ (x : Step). IsPut e.flow run.reached x sending.name) one_is from)
+              (subst (λ (x : Step). IsPutStep e.flow run.reached x sending.name) one_is from)
               (sym puts.standing ∙ ap (λ (o : List ℕ → Option (List ℕ)). with_file o sending.name sending.bytes) run.to.run.stands.standing) tried.others (tried.puts ∙ puts.puts))
 
       -- the inbox's behind the step
       pub stops_behind : InboxFaultsEnd tells held moment images → f.journal ≡ e.journal ++ record { step = one; acked = Some (moment new) } ∷ []
-          → IsStepped e.flow moment images e.store.lot run.reached s.after old new → (name : List ℕ) → Takes e.flow (step_of job) name
+          → IsStepped e.flow moment images e.store.lot run.reached s.after old new → (name : List ℕ) → TakesFromInbox e.flow (step_of job) name
           → (now_left : List NamedFile) → (now_left ≡ left) ⊎ (now_left ≡ without name left)
           → (now_out : Outgoing) → now_out ≡ with_sending changed.sending out
-          → Stops EngineError.Inbox tells held moment images f opened first start (moment_of one) new now_left now_out
+          → Stops EngineError.Inbox tells held moment images f opened first start (step_moment one) new now_left now_out
       stops_behind law journal_is stepped name takes now_left either now_out sent later by =
           has_as f e.flow e.store.lot (e.journal ++ record { step = one; acked = Some (moment new) } ∷ []) flow_is lot_is journal_is opened first start new now_left now_out (ending.Fault fault.Inbox) later
           (law e.flow start time later e.store.lot opened run.reached s.after first old new e.journal one name left now_left out now_out run.to.run le by comes_one goes_one stepped
-          (subst (λ (x : Step). Takes e.flow x name) one_is takes) either
+          (subst (λ (x : Step). TakesFromInbox e.flow x name) one_is takes) either
           (put_one now_out sent))
 
       -- a limit, before the put
@@ -196,19 +196,19 @@ module _ (tells : Bool) {D : Type 0} (held : D → Files) (moment : D → ℕ) (
           → IsSpared e.flow moment images e.store.lot run.reached old new → f.journal ≡ e.journal → f.listing.names ≡ e.listing.names → f.last ≡ e.last
           → images new (moment new) (held new)
           → IsAtStoreLimit tells held moment images limit run.reached s.after new ⊎ IsAtJournalLimit limit e.journal
-          → Stops (EngineError.Limit limit) tells held moment images f opened first start (moment_of one) new left out
+          → Stops (EngineError.Limit limit) tells held moment images f opened first start (step_moment one) new left out
       stops_at_limit law turns limit spared journal_is names last image met =
-          let on = law e.flow start time (moment_of one) e.store.lot opened run.reached first old new e.journal left out run.to.run le spared in
+          let on = law e.flow start time (step_moment one) e.store.lot opened run.reached first old new e.journal left out run.to.run le spared in
           record {
             reached = run.reached;
             to = record {
-              run = runs_as f e.flow e.store.lot e.journal flow_is lot_is journal_is opened first start new left out (moment_of one) run.reached on;
+              run = runs_as f e.flow e.store.lot e.journal flow_is lot_is journal_is opened first start new left out (step_moment one) run.reached on;
               coming = run.to.coming ∙ sym names;
               last = last ∙ run.to.last ∙ ap (λ (j : List Entry). last_worker None (steps j)) (sym journal_is);
             };
-            met = limit_as f e.flow e.store.lot e.journal flow_is lot_is journal_is opened first start new left out (moment_of one) run.reached limit (record {
+            met = limit_as f e.flow e.store.lot e.journal flow_is lot_is journal_is opened first start new left out (step_moment one) run.reached limit (record {
               next = one;
-              turn = turns e.flow start time (moment_of one) e.store.lot opened run.reached first old e.journal one left out run.to.run le (omega arith) comes_one;
+              turn = turns e.flow start time (step_moment one) e.store.lot opened run.reached first old e.journal one left out run.to.run le (omega arith) comes_one;
               after = s.after;
               goes = goes_one;
               stands = on.holds (held new) image;
@@ -223,13 +223,13 @@ module _ (tells : Bool) {D : Type 0} (held : D → Files) (moment : D → ℕ) (
           → (now_out : Outgoing) → now_out ≡ with_sending changed.sending out
           → f.last ≡ worker_behind None one → f.listing.names ≡ names_without job.given.file e.listing.names
           → worker_behind (last_worker None (steps e.journal)) one ≡ worker_behind None one
-          → IsRunning moment images f opened first start (moment_of one) new now_left now_out
+          → IsRunning moment images f opened first start (step_moment one) new now_left now_out
       enters law journal_is stepped now_left lies now_out stands last names worked =
           let entry : Entry = record { step = one; acked = Some (moment new) } in
           record {
             reached = s.after;
             to = record {
-              run = runs_as f e.flow e.store.lot (e.journal ++ entry ∷ []) flow_is lot_is journal_is opened first start new now_left now_out (moment_of one) s.after
+              run = runs_as f e.flow e.store.lot (e.journal ++ entry ∷ []) flow_is lot_is journal_is opened first start new now_left now_out (step_moment one) s.after
                   (law e.flow start time e.store.lot opened run.reached s.after first old new e.journal one left now_left out now_out run.to.run le comes_one goes_one stepped
                   (lies ∙ ap (without_received job.given.file) run.to.run.lies ∙ sym s.inbox)
                   (put_one now_out stands));
@@ -256,7 +256,7 @@ module _ (tells : Bool) {D : Type 0} (held : D → Files) (moment : D → ℕ) (
 
   -- a session that is written: its change is sent and committed, with this answer
   module _ (e : EngineState) (opened : Machine) (first : D) (start : Start) (time : ℕ) (mid new : D) (left : List NamedFile) (out now_out : Outgoing) (run : IsRunning moment images e opened first start time mid left out)
-      (job : Job) (changed : Changed) (s : IsStepOf e.flow e.last (content_in (held mid)) run.reached job changed) (one : Step) (one_is : step_of job ≡ one) (le : time ≤ moment_of one)
+      (job : Job) (changed : Changed) (s : IsStepOf e.flow e.last (content_in (held mid)) run.reached job changed) (one : Step) (one_is : step_of job ≡ one) (le : time ≤ step_moment one)
       (was t : StoreState) (queues now_queues : List QueueState) (same_lot : was.lot ≡ e.store.lot)
       (work : IsAtWork e.flow tells held moment images was mid) (tied : IsStateOf run.reached (content_in (held mid)) (kept_by was))
       (out_tells : Bool) (out_telling : IsTrue out_tells) (result : Result ℕ EngineError)
@@ -291,12 +291,12 @@ module _ (tells : Bool) {D : Type 0} (held : D → Files) (moment : D → ℕ) (
 
       pub enters_written : SteppedRunsGoOn moment images → (now_left : List NamedFile) → now_left ≡ without_received job.given.file left
           → f.last ≡ worker_behind None one → f.listing.names ≡ names_without job.given.file e.listing.names → worker_behind (last_worker None (steps e.journal)) one ≡ worker_behind None one
-          → IsRunning moment images f opened first start (moment_of one) new now_left now_out
+          → IsRunning moment images f opened first start (step_moment one) new now_left now_out
       enters_written law now_left lies last names worked =
           enters e f opened first start time mid new left out run flow_is (lot_is ∙ lot_now) (content_in (held mid)) job changed s one one_is le law journal_now stepped_now now_left lies now_out sent_now last names worked
 
-      pub stops_unremoved : InboxFaultsEnd tells held moment images → (name : List ℕ) → Takes e.flow (step_of job) name → (now_left : List NamedFile) → (now_left ≡ left) ⊎ (now_left ≡ without name left)
-          → Stops EngineError.Inbox tells held moment images f opened first start (moment_of one) new now_left now_out
+      pub stops_unremoved : InboxFaultsEnd tells held moment images → (name : List ℕ) → TakesFromInbox e.flow (step_of job) name → (now_left : List NamedFile) → (now_left ≡ left) ⊎ (now_left ≡ without name left)
+          → Stops EngineError.Inbox tells held moment images f opened first start (step_moment one) new now_left now_out
       stops_unremoved law name takes now_left either =
           stops_behind e f opened first start time mid new left out run flow_is (lot_is ∙ lot_now) (content_in (held mid)) job changed s one one_is le law journal_now stepped_now name takes now_left either now_out sent_now
 
@@ -321,28 +321,28 @@ module _ (tells : Bool) {D : Type 0} (held : D → Files) (moment : D → ℕ) (
 
       -- where the commit hadn't begun and nothing was put, the run goes on
       pub goes_on_unwritten : SparedRunsGoOn moment images → f.listing.names ≡ e.listing.names → f.last ≡ e.last → (error ≡ EngineError.Disk → ⊥) → (error ≡ EngineError.Outbox → ⊥)
-          → IsRunning moment images f opened first start (moment_of one) new left now_out
+          → IsRunning moment images f opened first start (step_moment one) new left now_out
       goes_on_unwritten law names last disk outbox =
-          subst (λ (d : D). IsRunning moment images f opened first start (moment_of one) d left now_out) (sym (written.unwritten error is disk).0)
-          (subst (λ (o : Outgoing). IsRunning moment images f opened first start (moment_of one) mid left o) (sym (written.unsent error is disk outbox))
+          subst (λ (d : D). IsRunning moment images f opened first start (step_moment one) d left now_out) (sym (written.unwritten error is disk).0)
+          (subst (λ (o : Outgoing). IsRunning moment images f opened first start (step_moment one) mid left o) (sym (written.unsent error is disk outbox))
           (record {
             reached = run.reached;
             to = record {
-              run = runs_as f e.flow e.store.lot e.journal flow_is lot_is (unjournaled disk) opened first start mid left out (moment_of one) run.reached
-                  (law e.flow start time (moment_of one) e.store.lot opened run.reached first mid mid e.journal left out run.to.run le still);
+              run = runs_as f e.flow e.store.lot e.journal flow_is lot_is (unjournaled disk) opened first start mid left out (step_moment one) run.reached
+                  (law e.flow start time (step_moment one) e.store.lot opened run.reached first mid mid e.journal left out run.to.run le still);
               coming = run.to.coming ∙ sym names;
               last = last ∙ run.to.last ∙ ap (λ (j : List Entry). last_worker None (steps j)) (sym (unjournaled disk));
             };
           }))
 
       stops_unwritten : FaultsEnd tells held moment images → IsNoLimit error → (error ≡ EngineError.Disk → ⊥) → (error ≡ EngineError.Outbox → ⊥)
-          → Stops error tells held moment images f opened first start (moment_of one) new left now_out
+          → Stops error tells held moment images f opened first start (step_moment one) new left now_out
       stops_unwritten law none disk outbox =
-          subst (λ (d : D). Stops error tells held moment images f opened first start (moment_of one) d left now_out) (sym (written.unwritten error is disk).0)
-          (stops_unmoved e f opened first start time mid mid left out run flow_is lot_is law (unjournaled disk) still error none (moment_of one) le left now_out refl (written.unsent error is disk outbox))
+          subst (λ (d : D). Stops error tells held moment images f opened first start (step_moment one) d left now_out) (sym (written.unwritten error is disk).0)
+          (stops_unmoved e f opened first start time mid mid left out run flow_is lot_is law (unjournaled disk) still error none (step_moment one) le left now_out refl (written.unsent error is disk outbox))
 
     stops_cut_off : DiskFaultsEnd tells held moment images → result ≡ Err EngineError.Disk → (f : EngineState) → f.flow ≡ e.flow → f.store.lot ≡ e.store.lot → f.journal ≡ journaled result one e.journal
-        → Stops EngineError.Disk tells held moment images f opened first start (moment_of one) new left now_out
+        → Stops EngineError.Disk tells held moment images f opened first start (step_moment one) new left now_out
     stops_cut_off law is f flow_is lot_is journal_is =
         stops_within e f opened first start time mid new left out run flow_is lot_is (content_in (held mid)) job changed s one one_is le law
         (journal_is ∙ ap (λ (r : Result ℕ EngineError). journaled r one e.journal) is)
@@ -350,23 +350,23 @@ module _ (tells : Bool) {D : Type 0} (held : D → Files) (moment : D → ℕ) (
         now_out (written.sent_before is out_telling)
 
     stops_put : FaultsEnd tells held moment images → OutboxFaultsEnd tells held moment images → (is : result ≡ Err EngineError.Outbox) → (f : EngineState) → f.flow ≡ e.flow → f.store ≡ t → f.journal ≡ journaled result one e.journal
-        → Stops EngineError.Outbox tells held moment images f opened first start (moment_of one) new left now_out
+        → Stops EngineError.Outbox tells held moment images f opened first start (step_moment one) new left now_out
     stops_put between law is f flow_is store_is journal_is =
         let other : EngineError.Outbox ≡ EngineError.Disk → ⊥ = λ e. cc in
-        subst (λ (d : D). Stops EngineError.Outbox tells held moment images f opened first start (moment_of one) d left now_out) (sym (written.unwritten EngineError.Outbox is other).0)
+        subst (λ (d : D). Stops EngineError.Outbox tells held moment images f opened first start (step_moment one) d left now_out) (sym (written.unwritten EngineError.Outbox is other).0)
         (stops_at_put e f opened first start time mid mid left out run flow_is (ap (λ (u : StoreState). u.lot) store_is ∙ lot_now) (content_in (held mid)) job changed s one one_is le between law
         (unjournaled EngineError.Outbox is f flow_is store_is journal_is other) still now_out (written.put is out_telling))
 
     module _ (turns : NextStepsAreInTurn moment images) (spared : SparedRunsGoOn moment images) (image : images mid (moment mid) (held mid)) (limit : Limit) (f : EngineState)
         (flow_is : f.flow ≡ e.flow) (store_is : f.store ≡ t) (names : f.listing.names ≡ e.listing.names) (last : f.last ≡ e.last) where
       stops_past : (is : result ≡ Err (EngineError.Limit limit)) → f.journal ≡ journaled result one e.journal
-          → Stops (EngineError.Limit limit) tells held moment images f opened first start (moment_of one) new left now_out
+          → Stops (EngineError.Limit limit) tells held moment images f opened first start (step_moment one) new left now_out
       stops_past is journal_is =
           let other : EngineError.Limit limit ≡ EngineError.Disk → ⊥ = λ e. cc in
           let another : EngineError.Limit limit ≡ EngineError.Outbox → ⊥ = λ e. cc in
           let same = written.unwritten (EngineError.Limit limit) is other in
-          subst (λ (d : D). Stops (EngineError.Limit limit) tells held moment images f opened first start (moment_of one) d left now_out) (sym same.0)
-          (subst (λ (o : Outgoing). Stops (EngineError.Limit limit) tells held moment images f opened first start (moment_of one) mid left o) (sym (written.unsent (EngineError.Limit limit) is other another))
+          subst (λ (d : D). Stops (EngineError.Limit limit) tells held moment images f opened first start (step_moment one) d left now_out) (sym same.0)
+          (subst (λ (o : Outgoing). Stops (EngineError.Limit limit) tells held moment images f opened first start (step_moment one) mid left o) (sym (written.unsent (EngineError.Limit limit) is other another))
           (stops_at_limit e f opened first start time mid mid left out run flow_is (ap (λ (u : StoreState). u.lot) store_is ∙ lot_now) (content_in (held mid)) job changed s one one_is le spared turns limit still
           (unjournaled (EngineError.Limit limit) is f flow_is store_is journal_is other) names last image
           (inl (store_limit e.flow run.reached s.after changed.settled limit t.memory.room was t mid same.1 work tied s.state (written.passes limit is)))))
@@ -374,7 +374,7 @@ module _ (tells : Bool) {D : Type 0} (held : D → Files) (moment : D → ℕ) (
     -- whichever error it is
     pub stops_written : FaultsEnd tells held moment images → DiskFaultsEnd tells held moment images → OutboxFaultsEnd tells held moment images → NextStepsAreInTurn moment images → SparedRunsGoOn moment images → images mid (moment mid) (held mid)
         → (error : EngineError) → result ≡ Err error → (f : EngineState) → f.flow ≡ e.flow → f.store ≡ t → f.journal ≡ journaled result one e.journal → f.listing.names ≡ e.listing.names → f.last ≡ e.last
-        → Stops error tells held moment images f opened first start (moment_of one) new left now_out
+        → Stops error tells held moment images f opened first start (step_moment one) new left now_out
     stops_written between disk outbox turns spared image (EngineError.Damaged damage) is f flow_is store_is journal_is names last =
         stops_unwritten (EngineError.Damaged damage) is f flow_is store_is journal_is between (λ limit e. cc) (λ e. cc) (λ e. cc)
     stops_written between disk outbox turns spared image EngineError.Inbox is f flow_is store_is journal_is names last = stops_unwritten EngineError.Inbox is f flow_is store_is journal_is between (λ limit e. cc) (λ e. cc) (λ e. cc)

@@ -3,7 +3,7 @@ use Rattle.std.proofs.Common.{◌≡◌, ◌⊎◌, inl, inr, ⊎_elim, ℕ, Lis
 use Rattle.std.specs.Prelude.{Option, Some, None, Result, Ok, Err}
 use Rattle.machine_model.specs.declared.journal.Entry.{Entry}
 use Rattle.machine_model.specs.declared.journal.Step.TheVariants.{Expire}
-use Rattle.flow_run.specs.Turns.{AreMadeAt, moment_of}
+use Rattle.flow_run.specs.Turns.{AreMadeAt, step_moment}
 use Rattle.flow_engine.specs.Commit.{IsJournaled}
 use Rattle.flow_engine.specs.Done.{step_done}
 use Rattle.flow_engine.specs.Driving.{GrowsAt}
@@ -60,7 +60,7 @@ module _ (done : Done) (moment now : ℕ) (at : done.given.moment ≡ moment) (o
 
 -- ---- turn after turn
 
-made_behind : (given : ℕ → Type 0) (journal : List Entry) (entry : Entry) → AreMadeAt given journal → given (moment_of entry.step) → AreMadeAt given (journal ++ entry ∷ [])
+made_behind : (given : ℕ → Type 0) (journal : List Entry) (entry : Entry) → AreMadeAt given journal → given (step_moment entry.step) → AreMadeAt given (journal ++ entry ∷ [])
 made_behind given [] entry all is = (is, tt)
 made_behind given (first ∷ journal) entry all is = (all.0, made_behind given journal entry all.1 is)
 

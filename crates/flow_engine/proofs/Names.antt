@@ -9,8 +9,8 @@ use Rattle.machine_model.specs.Laws.{received_name}
 use Rattle.machine_model.specs.Placing.{EndedSession}
 use Rattle.machine_model.specs.State.{Machine, World}
 use Rattle.machine_model.specs.Stepping.{session_after, world_after}
-use Rattle.engine_choice.specs.Choice.{coming_of, fits}
-use Rattle.flow_run.specs.Journal.{files_left}
+use Rattle.engine_choice.specs.Choice.{coming_of, fits_content}
+use Rattle.flow_run.specs.Journal.{inbox_left}
 use Rattle.flow_run.specs.Laws.{OtherSessionsLoseNone, ReceivingSessionsLoseAFile}
 use Rattle.flow_engine.specs.Change.{names_without, without_received}
 
@@ -56,21 +56,21 @@ left_is (GetFile filter) w session outcome (Some name) received = refl
 left_is _ w session outcome None received = refl
 left_is _ w session outcome (Some name) received = absurd cc
 
-to_come : (w : World) (file : Option (List ℕ)) → filter (fits w) (names_without file w.left) ≡ names_without file (coming_of w)
+to_come : (w : World) (file : Option (List ℕ)) → filter (fits_content w) (names_without file w.left) ≡ names_without file (coming_of w)
 to_come w None = refl
-to_come w (Some name) = filter_swap (fits w) (λ other. not (bytes_eq other name)) w.left
+to_come w (Some name) = filter_swap (fits_content w) (λ other. not (bytes_eq other name)) w.left
 
 -- the names to come lose the one that was received, if one
 pub coming_behind : (kind : Kind) (w : World) (session : EndedSession) (outcome : Outcome) → IsReceived kind session.given.file
     → coming_of (world_after kind w session outcome) ≡ names_without session.given.file (coming_of w)
 coming_behind kind w session outcome received =
-    ap (filter (fits w)) (left_is kind w session outcome session.given.file received) ∙ to_come w session.given.file
+    ap (filter (fits_content w)) (left_is kind w session outcome session.given.file received) ∙ to_come w session.given.file
 
 -- ---- the files that are left
 
 module _ (receiving : ReceivingSessionsLoseAFile) (other : OtherSessionsLoseNone) where
   by_name : (machine : Machine) (session : EndedSession) (outcome : Outcome) (file : Option (List ℕ)) → session.given.file ≡ file → IsReceived session.processor.kind file
-      → files_left (session_after machine session outcome).world ≡ without_received file (files_left machine.world)
+      → inbox_left (session_after machine session outcome).world ≡ without_received file (inbox_left machine.world)
   by_name machine session outcome None is received =
       other machine session outcome (ap (received_name session.processor.kind) is ∙ received)
   by_name machine session outcome (Some name) is received =
@@ -78,5 +78,5 @@ module _ (receiving : ReceivingSessionsLoseAFile) (other : OtherSessionsLoseNone
 
   -- the inbox loses the file that was received, if one
   pub inbox_behind : (machine : Machine) (session : EndedSession) (outcome : Outcome) → IsReceived session.processor.kind session.given.file
-      → files_left (session_after machine session outcome).world ≡ without_received session.given.file (files_left machine.world)
+      → inbox_left (session_after machine session outcome).world ≡ without_received session.given.file (inbox_left machine.world)
   inbox_behind machine session outcome received = by_name machine session outcome session.given.file refl received

@@ -10,8 +10,8 @@ use Rattle.engine_choice.specs.declared.choice.Choice.{Choice}
 use Rattle.engine_queues.specs.Laws.{QueuesShowKept}
 use Rattle.flow_engine.specs.Checkout.{session_in}
 use Rattle.flow_engine.specs.Engine.{EngineState}
-use Rattle.flow_engine.specs.Ready.{IsReady}
-use Rattle.flow_engine.specs.Handing.{IsHanded, IsHandedAs}
+use Rattle.flow_engine.specs.Ready.{EngineIsReady}
+use Rattle.flow_engine.specs.Handing.{JobIsHanded, IsHandedAs}
 use Rattle.flow_engine.specs.Job.{IsNextJob, MayHand}
 use Rattle.flow_engine.specs.declared.error.EngineError.{EngineError}
 use Rattle.flow_engine.specs.declared.job.Job.{Job}
@@ -19,23 +19,23 @@ use Rattle.flow_engine.proofs.Chosen.{IsNext, next_takes}
 use Rattle.flow_engine.proofs.Due.{chosen_of}
 
 -- the session that comes next, by the fields of the engine whose value this is
-module _ (tells : Bool) {D : Type 0} (held : D → Files) (moment : D → ℕ) (images : D → ℕ → Files → Type 0) (v e : EngineState) (is : v ≡ e) (disk : D) (ready : IsReady tells held moment images e disk)
+module _ (tells : Bool) {D : Type 0} (held : D → Files) (moment : D → ℕ) (images : D → ℕ → Files → Type 0) (v e : EngineState) (is : v ≡ e) (disk : D) (ready : EngineIsReady tells held moment images e disk)
     (consistent : IsConsistent (kept_by v.store)) (time : ℕ) (choice : Choice) (session : session_in e time ≡ Some choice) where
   pub next_session : QueuesShowKept → IsNext v.flow (kept_by v.store) v.listing.names time choice
   next_session shown =
-      let so : IsReady tells held moment images v disk = subst (λ (x : EngineState). IsReady tells held moment images x disk) (sym is) ready in
+      let so : EngineIsReady tells held moment images v disk = subst (λ (x : EngineState). EngineIsReady tells held moment images x disk) (sym is) ready in
       next_takes shown v.flow (kept_by v.store) v.queues v.listing.names time v.last choice consistent so.work.flow_is so.sound so.built so.queues
       (chosen_of v time choice (subst (λ (x : EngineState). session_in x time ≡ Some choice) (sym is) session))
 
 -- what it was handed is the next job
 pub next_job : (result : Result Job EngineError) (tells in_tells out_tells : Bool) (v e : EngineState) → v ≡ e → (contents : ContentRef → List ℕ) (left : List NamedFile) (standing : List ℕ → Option (List ℕ)) (moment : ℕ) (choice : Choice)
-    → session_in e moment ≡ Some choice → ((job : Job) → IsHanded (kept_by v.store) moment choice job → MayHand v.flow (kept_by v.store) job)
-    → IfOk result (IsHanded (kept_by v.store) moment choice) → IfOk result (IsHandedAs tells in_tells out_tells (kept_by v.store) contents left standing choice)
+    → session_in e moment ≡ Some choice → ((job : Job) → JobIsHanded (kept_by v.store) moment choice job → MayHand v.flow (kept_by v.store) job)
+    → IfOk result (JobIsHanded (kept_by v.store) moment choice) → IfOk result (IsHandedAs tells in_tells out_tells (kept_by v.store) contents left standing choice)
     → IfOk result (IsNextJob tells in_tells out_tells e contents left standing moment)
 next_job (Ok job) tells in_tells out_tells v e is contents left standing moment choice session may handed told = record {
   choice = choice;
   chosen = session;
-  handed = subst (λ (x : EngineState). IsHanded (kept_by x.store) moment choice job) is handed;
+  handed = subst (λ (x : EngineState). JobIsHanded (kept_by x.store) moment choice job) is handed;
   told = subst (λ (x : EngineState). IsHandedAs tells in_tells out_tells (kept_by x.store) contents left standing choice job) is told;
   may = subst (λ (x : EngineState). MayHand x.flow (kept_by x.store) job) is (may job handed);
 }

@@ -23,13 +23,13 @@ use Rattle.machine_model.specs.Acting.{act, name_in}
 use Rattle.machine_model.specs.Placing.{EndedSession}
 use Rattle.machine_model.specs.State.{Machine, QueuedFile}
 use Rattle.machine_model.specs.Stepping.{as_taken, session_after}
-use Rattle.process_session.specs.Bench.{source_of}
+use Rattle.process_session.specs.Bench.{taken_source}
 use Rattle.process_session.specs.declared.file.Source.{Source}
 use Rattle.settlement.specs.Contents.{source_bytes}
-use Rattle.engine_session.specs.Handing.{AreReadOf, fit_a_content, taken_from}
+use Rattle.engine_session.specs.Handing.{AreReadOf, files_fit_a_content, taken_with_contents}
 use Rattle.flow_run.specs.Laws.{OtherSessionsPutNone, PutsSendTheTakenBytes}
 use Rattle.flow_run.specs.Puts.{IsPutBy, Outgoing, files_sent, puts_of_step}
-use Rattle.flow_run.specs.Run.{IsPut}
+use Rattle.flow_run.specs.Run.{IsPutStep}
 use Rattle.flow_engine.specs.Change.{IsSentBy, with_sending}
 use Rattle.flow_engine.specs.Sending.{sending_of}
 use Rattle.flow_engine.proofs.Sends.{sends_or_puts}
@@ -37,7 +37,7 @@ use Rattle.flow_engine.proofs.Sends.{sends_or_puts}
 -- ---- the one file that was taken
 
 -- one file's content is read
-fits_alone : (k : Kept) (connection : ℕ) (file : FlowFile) → IsConsistent k → All (λ f. Contains k.files (active connection f)) (file ∷ []) → fit_a_content (file ∷ []) ≡ true
+fits_alone : (k : Kept) (connection : ℕ) (file : FlowFile) → IsConsistent k → All (λ f. Contains k.files (active connection f)) (file ∷ []) → files_fit_a_content (file ∷ []) ≡ true
 fits_alone k connection file consistent there =
     let size : file.content.size ≤ CONTENT_MAX =
     (All-contains (IsFileIn k) k.files (active connection file) consistent.files (All-head (λ f. Contains k.files (active connection f)) file [] there)).encoded.file.content.size in
@@ -47,14 +47,14 @@ fits_alone k connection file consistent there =
 pub record IsAlone (store connection : ℕ) (k : Kept) (bytes : ContentRef → List ℕ) (files : List FlowFile) (contents : List (Option (List ℕ))) : Type 0 where
   pub file : FlowFile
   pub is : files ≡ file ∷ []
-  pub read : source_bytes (map source_of (taken_from store files contents)) 0 ≡ bytes file.content
+  pub read : source_bytes (map taken_source (taken_with_contents store files contents)) 0 ≡ bytes file.content
 
 all_read : (content : List ℕ) (read : Option (List ℕ)) → is_some read ≡ true → IfSome read (λ r. r ≡ content) → unwrap_or read [] ≡ content
 all_read content None filled is = absurd (false≢true filled)
 all_read content (Some read) filled is = is
 
 pub alone : (store connection : ℕ) (k : Kept) (bytes : ContentRef → List ℕ) (files : List FlowFile) (contents : List (Option (List ℕ))) → IsConsistent k
-    → All (λ file. Contains k.files (active connection file)) files → AreReadOf bytes (fit_a_content files) files contents → length (taken_from store files contents) ≡ 1
+    → All (λ file. Contains k.files (active connection file)) files → AreReadOf bytes (files_fit_a_content files) files contents → length (taken_with_contents store files contents) ≡ 1
     → IsAlone store connection k bytes files contents
 alone store connection k bytes [] [] consistent there read one = absurd (omega (arith, one))
 alone store connection k bytes [] (read ∷ contents) consistent there are one = absurd are
@@ -75,7 +75,7 @@ pub record IsPutOf (flow : Flow) (machine : Machine) (one : Step) (session : End
   pub file : QueuedFile
   pub taken : session.taken ≡ file ∷ []
   pub bytes : source_bytes sources 0 ≡ file.bytes
-  pub puts : (name : List ℕ) → name_in file.attributes ≡ Some name → IsPut flow machine one name
+  pub puts : (name : List ℕ) → name_in file.attributes ≡ Some name → IsPutStep flow machine one name
 
 -- what is sent is put into the outbox, by this session of a PutFile
 pub record IsSent (flow : Flow) (machine : Machine) (one : Step) (session : EndedSession) (outcome : Outcome) (sources : List Source) : Type 0 where

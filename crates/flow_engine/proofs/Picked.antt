@@ -11,8 +11,8 @@ use Rattle.flowfile_record.specs.declared.TheConstants.{CONTENT_MAX}
 use Rattle.flowfile_record.specs.declared.stored.ActiveFile.{ActiveFile}
 use Rattle.prioritizer.specs.declared.prioritizer.Prioritizer.{Prioritizer}
 use Rattle.checkpoint_store.specs.Consistent.{IsConsistent}
-use Rattle.kept_state.specs.Applied.{number_of}
-use Rattle.kept_state.specs.Fits.{active_of, are_active_in, are_distinct, is_in}
+use Rattle.kept_state.specs.Applied.{active_number}
+use Rattle.kept_state.specs.Fits.{active_of, are_active_in, are_distinct_numbers, is_in_connection}
 use Rattle.machine_model.specs.declared.flow.Connection.{Connection}
 use Rattle.machine_model.specs.declared.flow.Flow.{Flow}
 use Rattle.machine_model.specs.declared.flow.Processor.{Processor}
@@ -63,15 +63,15 @@ eligible_among order limits moment views view there =
     (kept_by (is_eligible limits moment) views view (ordered_among order view (filter (is_eligible limits moment) views) there)).0
 
 -- ascending numbers stand once
-once_ascending : (files : List ActiveFile) → AscendsByNumber number_of files → (n : ℕ) → many number_of n files ≤ 1
+once_ascending : (files : List ActiveFile) → AscendsByNumber active_number files → (n : ℕ) → many active_number n files ≤ 1
 once_ascending [] ascends n = omega arith
 once_ascending (a ∷ files) ascends n =
-    elim (cases_eq (number_of a) n) [
+    elim (cases_eq (active_number a) n) [
       | inl e ↦
-          let apart : All (λ later. n ≢ number_of later) files =
-          All-weaker (λ later. number_of a < number_of later) (λ later. n ≢ number_of later) (λ (later : ActiveFile) (above : number_of a < number_of later) same. absurd (omega (arith, above, e, same))) files ascends.0 in
-          omega (arith, at_most (number_of a == n) 1, none_from_apart number_of n files apart)
-      | inr ne ↦ let fails : (number_of a == n) ≡ false = ne_eqb (number_of a) n ne in rw fails (omega (arith, once_ascending files ascends.1 n))
+          let apart : All (λ later. n ≢ active_number later) files =
+          All-weaker (λ later. active_number a < active_number later) (λ later. n ≢ active_number later) (λ (later : ActiveFile) (above : active_number a < active_number later) same. absurd (omega (arith, above, e, same))) files ascends.0 in
+          omega (arith, at_most (active_number a == n) 1, none_from_apart active_number n files apart)
+      | inr ne ↦ let fails : (active_number a == n) ≡ false = ne_eqb (active_number a) n ne in rw fails (omega (arith, once_ascending files ascends.1 n))
     ]
 
 eligible_once : (k : Kept) (place : ℕ) (order : List Prioritizer) (limits : QueueLimits) (moment n : ℕ) → IsConsistent k → many seen_number n (eligible_files order limits moment (kept_views k place)) ≤ 1
@@ -83,7 +83,7 @@ eligible_once k place order limits moment n consistent =
       order-weighs w order (filter (is_eligible limits moment) (kept_views k place)),
       tally-filter w (is_eligible limits moment) (kept_views k place),
       tally-map w (λ (a : ActiveFile). view_of_kept a.file) here,
-      tally-filter (λ (a : ActiveFile). bit (number_of a == n)) (λ a. a.connection == place) k.files,
+      tally-filter (λ (a : ActiveFile). bit (active_number a == n)) (λ a. a.connection == place) k.files,
       once_ascending k.files consistent.numbers n,
     )
 
@@ -145,21 +145,21 @@ pick_is Defragment files once =
 -- live files of a connection, each once, as many as a rule takes
 pub record IsPicked (k : Kept) (rule : TakeRule) (connection : ℕ) (numbers : List ℕ) : Type 0 where
   pub active : are_active_in k.files connection numbers ≡ true
-  pub distinct : are_distinct numbers ≡ true
+  pub distinct : are_distinct_numbers numbers ≡ true
   pub count : MayTake rule (length numbers)
 
-one_active : (k : Kept) (place : ℕ) (view : FileView) → IsConsistent k → Among view (kept_views k place) → is_in place (active_of view.number k.files) ≡ true
+one_active : (k : Kept) (place : ℕ) (view : FileView) → IsConsistent k → Among view (kept_views k place) → is_in_connection place (active_of view.number k.files) ≡ true
 one_active k place view consistent there =
     let made = is_made (λ (a : ActiveFile). view_of_kept a.file) (filter (λ a. a.connection == place) k.files) view there in
     let among = kept_by (λ (a : ActiveFile). a.connection == place) k.files made.source made.there in
     let numbered : view.number ≡ made.source.file.number = ap (λ (f : FileView). f.number) (sym made.is) in
     let found : active_of view.number k.files ≡ Some made.source = ap (λ n. active_of n k.files) numbered ∙ found_active made.source k.files consistent.numbers among.0 in
-    ap (is_in place) found ∙ among.1
+    ap (is_in_connection place) found ∙ among.1
 
 all_active : (k : Kept) (place : ℕ) (picked : List FileView) → IsConsistent k → ((view : FileView) → Among view picked → Among view (kept_views k place)) → are_active_in k.files place (numbers_of picked) ≡ true
 all_active k place [] consistent there = refl
 all_active k place (view ∷ picked) consistent there =
-    and_from (is_in place (active_of view.number k.files)) (are_active_in k.files place (numbers_of picked))
+    and_from (is_in_connection place (active_of view.number k.files)) (are_active_in k.files place (numbers_of picked))
     (one_active k place view consistent (there view (inl refl)))
     (all_active k place picked consistent (λ v h. there v (inr h)))
 

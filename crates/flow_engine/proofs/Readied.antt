@@ -10,10 +10,10 @@ use Rattle.store_core.specs.Store.{kept_by}
 use Rattle.engine_choice.specs.Listing.{AreDistinct}
 use Rattle.engine_queues.specs.Queues.{AreQueuesOf}
 use Rattle.flow_run.specs.Work.{IsAtWork}
-use Rattle.flow_engine.specs.Committing.{IsQueued}
+use Rattle.flow_engine.specs.Committing.{IsAtWorkWithQueues}
 use Rattle.flow_engine.specs.Engine.{AreBuilt, EngineState}
 use Rattle.flow_engine.specs.Journal.{journaled}
-use Rattle.flow_engine.specs.Ready.{IsReady, KnowsDue}
+use Rattle.flow_engine.specs.Ready.{EngineIsReady, KnowsDue}
 use Rattle.flow_engine.specs.declared.error.EngineError.{EngineError}
 
 -- an engine that knows no moment says nothing of what is due
@@ -24,8 +24,8 @@ knows_none e none moment is = absurd (apart (sym none ∙ is))
     apart both = cc
 
 module _ {D : Type 0} (tells : Bool) (held : D → Files) (moment : D → ℕ) (images : D → ℕ → Files → Type 0) where
-  pub ready_by : (e f : EngineState) (old new : D) → IsReady tells held moment images e old → f.flow ≡ e.flow → f.most ≡ e.most → f.listing.flow ≡ e.listing.flow → AreDistinct f.listing.names
-      → IsQueued e.flow tells held moment images f.store f.queues new → length f.journal ≤ e.most → KnowsDue f → IsReady tells held moment images f new
+  pub ready_by : (e f : EngineState) (old new : D) → EngineIsReady tells held moment images e old → f.flow ≡ e.flow → f.most ≡ e.most → f.listing.flow ≡ e.listing.flow → AreDistinct f.listing.names
+      → IsAtWorkWithQueues e.flow tells held moment images f.store f.queues new → length f.journal ≤ e.most → KnowsDue f → EngineIsReady tells held moment images f new
   ready_by e f old new ready flow_is most_is listing distinct queued entries due = record {
     sound = subst IsSound (sym flow_is) ready.sound;
     built = subst AreBuilt (sym flow_is) ready.built;

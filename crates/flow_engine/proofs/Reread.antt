@@ -9,7 +9,7 @@ use Rattle.machine_model.specs.State.{Machine}
 use Rattle.flow_run.specs.Laws.{SparedRunsGoOn}
 use Rattle.flow_engine.specs.Commit.{StandsSo}
 use Rattle.flow_engine.specs.Engine.{EngineState}
-use Rattle.flow_engine.specs.Ready.{IsReady}
+use Rattle.flow_engine.specs.Ready.{EngineIsReady}
 use Rattle.flow_engine.specs.Running.{IsRunning}
 use Rattle.flow_engine.specs.declared.done.Done.{Done}
 use Rattle.flow_engine.proofs.Commits.{work_read}
@@ -18,9 +18,9 @@ use Rattle.flow_run.specs.Puts.{Outgoing, Start}
 use Rattle.flow_engine.proofs.Steps.{runs_on}
 
 module _ (tells : Bool) {D : Type 0} (held : D → Files) (moment : D → ℕ) (images : D → ℕ → Files → Type 0) (old new : D) (stays : Stays held moment images old new) where
-  pub still_ready : (e f : EngineState) → f ≡ e → IsReady tells held moment images e old → IsReady tells held moment images f new
+  pub still_ready : (e f : EngineState) → f ≡ e → EngineIsReady tells held moment images e old → EngineIsReady tells held moment images f new
   still_ready e f same ready =
-      subst (λ (x : EngineState). IsReady tells held moment images x new) (sym same)
+      subst (λ (x : EngineState). EngineIsReady tells held moment images x new) (sym same)
       (record {
         sound = ready.sound;
         built = ready.built;

@@ -15,10 +15,10 @@ use Rattle.machine_model.specs.Acknowledged.{steps}
 use Rattle.machine_model.specs.State.{Machine, World}
 use Rattle.engine_choice.specs.Choice.{coming_of}
 use Rattle.flow_run.specs.Going.{IsRunningAt, IsSpared}
-use Rattle.flow_run.specs.Journal.{files_left}
+use Rattle.flow_run.specs.Journal.{inbox_left}
 use Rattle.flow_run.specs.Laws.{DiskFaultsEnd, FaultsEnd, IsOfQueue, NextStepsAreInTurn, QueuesLeaveTheWorld, SparedRunsGoOn, SteppedRunsGoOn}
 use Rattle.flow_run.specs.Run.{HasRun, IsAtJournalLimit, IsAtLimit, IsAtStoreLimit, StandsFor}
-use Rattle.flow_run.specs.Turns.{ComesNext, last_worker, moment_of, worker_behind}
+use Rattle.flow_run.specs.Turns.{ComesNext, last_worker, step_moment, worker_behind}
 use Rattle.flow_run.specs.declared.ended.Ended.{Ended}
 use Rattle.flow_run.specs.declared.ended.Ended.TheVariants as ending
 use Rattle.flow_run.specs.declared.ended.Fault.{Fault}
@@ -26,7 +26,7 @@ use Rattle.flow_run.specs.declared.ended.Fault.TheVariants as fault
 use Rattle.flow_engine.specs.Engine.{EngineState, IsOfSameRun}
 use Rattle.flow_engine.specs.Errors.{ended_by}
 use Rattle.flow_engine.specs.Running.{IsLimited, IsRunning, IsRunningTo, Stops}
-use Rattle.flow_engine.specs.Tending.{GoesTo, IsCutOff, IsDone}
+use Rattle.flow_engine.specs.Tending.{GoesTo, IsCutOff, StepIsDone}
 use Rattle.flow_engine.specs.declared.error.EngineError.{EngineError}
 use Rattle.flow_run.specs.Puts.{IsPutBy, Outgoing, Start, puts_of_step}
 use Rattle.flow_engine.proofs.LastWorker.{last_behind}
@@ -120,10 +120,10 @@ module _ {D : Type 0} (tells : Bool) (held : D → Files) (moment : D → ℕ) (
         (λ end le. stops_spared law EngineError.Memory fault.Memory refl journal spared run end (omega (arith, by, le)))
 
     -- a step of a queue that comes next
-    module _ (leaves : QueuesLeaveTheWorld) (one : Step) (queue : IsOfQueue one) (by : time ≤ moment_of one) (comes : (m : Machine) → StandsIn e old m → ComesNext e.flow (last_worker None (steps e.journal)) m one) where
+    module _ (leaves : QueuesLeaveTheWorld) (one : Step) (queue : IsOfQueue one) (by : time ≤ step_moment one) (comes : (m : Machine) → StandsIn e old m → ComesNext e.flow (last_worker None (steps e.journal)) m one) where
       pub runs_stepped : SteppedRunsGoOn moment images → f.journal ≡ e.journal ++ record { step = one; acked = Some (moment new) } ∷ [] → f.listing ≡ e.listing → f.last ≡ e.last
-          → ((m : Machine) → StandsIn e old m → IsDone e.flow moment images e.store.lot m one old new)
-          → IsRunning moment images e opened first start time old left out → IsRunning moment images f opened first start (moment_of one) new left out
+          → ((m : Machine) → StandsIn e old m → StepIsDone e.flow moment images e.store.lot m one old new)
+          → IsRunning moment images e opened first start time old left out → IsRunning moment images f opened first start (step_moment one) new left out
       runs_stepped law journal names last done run =
           let it = done run.reached run.to.run.holds in
           let world : it.after.world ≡ run.reached.world = leaves e.flow run.reached it.after one it.goes queue in
@@ -131,9 +131,9 @@ module _ {D : Type 0} (tells : Bool) (held : D → Files) (moment : D → ℕ) (
           record {
             reached = it.after;
             to = record {
-              run = runs_at (moment_of one) (e.journal ++ entry ∷ []) it.after journal
+              run = runs_at (step_moment one) (e.journal ++ entry ∷ []) it.after journal
                   (law e.flow start time e.store.lot opened run.reached it.after first old new e.journal one left left out out run.to.run by (comes run.reached run.to.run.holds) it.goes it.is_so
-                  (run.to.run.lies ∙ ap files_left (sym world)) (put_by_queue e.flow run.reached it.after one out queue world run.to.run.stands.standing));
+                  (run.to.run.lies ∙ ap inbox_left (sym world)) (put_by_queue e.flow run.reached it.after one out queue world run.to.run.stands.standing));
               coming = ap coming_of world ∙ run.to.coming ∙ sym (ap (λ l. l.names) names);
               last = last ∙ run.to.last ∙ sym (ap (λ (j : List Entry). last_worker None (steps j)) journal ∙ last_behind None e.journal entry ∙ queues_leave_the_worker (last_worker None (steps e.journal)) one queue);
             };
@@ -141,7 +141,7 @@ module _ {D : Type 0} (tells : Bool) (held : D → Files) (moment : D → ℕ) (
 
       pub stops_cut_off : DiskFaultsEnd tells held moment images → f.journal ≡ e.journal ++ record { step = one; acked = None } ∷ []
           → ((m : Machine) → StandsIn e old m → IsCutOff e.flow moment images e.store.lot m one old new) → IsRunning moment images e opened first start time old left out
-          → (later : ℕ) → moment_of one ≤ later → HasRun f.flow (ended_by EngineError.Disk) start later tells held moment images f.store.lot opened first new left out f.journal
+          → (later : ℕ) → step_moment one ≤ later → HasRun f.flow (ended_by EngineError.Disk) start later tells held moment images f.store.lot opened first new left out f.journal
       stops_cut_off law journal cut run later le =
           let it = cut run.reached run.to.run.holds in
           let world : it.after.world ≡ run.reached.world = leaves e.flow run.reached it.after one it.goes queue in
@@ -150,29 +150,29 @@ module _ {D : Type 0} (tells : Bool) (held : D → Files) (moment : D → ℕ) (
           (put_by_queue e.flow run.reached it.after one out queue world run.to.run.stands.standing))
 
     -- a limit, of the store or of the journal, before anything was called for the step that comes next
-    module _ (one : Step) (limit : Limit) (by : time ≤ moment_of one) (comes : (m : Machine) → StandsIn e old m → ComesNext e.flow (last_worker None (steps e.journal)) m one) where
+    module _ (one : Step) (limit : Limit) (by : time ≤ step_moment one) (comes : (m : Machine) → StandsIn e old m → ComesNext e.flow (last_worker None (steps e.journal)) m one) where
       abbrev pub IsMet : Machine → Machine → Type 0
       IsMet m after = StandsFor e.flow e.store.lot m (held old) × (IsAtStoreLimit tells held moment images limit m after old ⊎ IsAtJournalLimit limit e.journal)
 
-      limit_at : (m : Machine) → new ≡ old → f.journal ≡ e.journal → IsAtLimit e.flow start (moment_of one) tells held moment images e.store.lot opened e.journal m limit old
-          → IsAtLimit f.flow start (moment_of one) tells held moment images f.store.lot opened f.journal m limit new
+      limit_at : (m : Machine) → new ≡ old → f.journal ≡ e.journal → IsAtLimit e.flow start (step_moment one) tells held moment images e.store.lot opened e.journal m limit old
+          → IsAtLimit f.flow start (step_moment one) tells held moment images f.store.lot opened f.journal m limit new
       limit_at m disk journal met =
-          subst (λ (d : D). IsAtLimit f.flow start (moment_of one) tells held moment images f.store.lot opened f.journal m limit d) (sym disk)
-          (subst (λ (j : List Entry). IsAtLimit f.flow start (moment_of one) tells held moment images f.store.lot opened j m limit old) (sym journal)
-          (subst (λ (lot : ℕ). IsAtLimit f.flow start (moment_of one) tells held moment images lot opened e.journal m limit old) (sym same.lot)
-          (subst (λ (flow : Flow). IsAtLimit flow start (moment_of one) tells held moment images e.store.lot opened e.journal m limit old) (sym same.flow) met)))
+          subst (λ (d : D). IsAtLimit f.flow start (step_moment one) tells held moment images f.store.lot opened f.journal m limit d) (sym disk)
+          (subst (λ (j : List Entry). IsAtLimit f.flow start (step_moment one) tells held moment images f.store.lot opened j m limit old) (sym journal)
+          (subst (λ (lot : ℕ). IsAtLimit f.flow start (step_moment one) tells held moment images lot opened e.journal m limit old) (sym same.lot)
+          (subst (λ (flow : Flow). IsAtLimit flow start (step_moment one) tells held moment images e.store.lot opened e.journal m limit old) (sym same.flow) met)))
 
       pub stops_limited : SparedRunsGoOn moment images → NextStepsAreInTurn moment images → new ≡ old → f.journal ≡ e.journal → f.listing ≡ e.listing → f.last ≡ e.last
           → ((m : Machine) → StandsIn e old m → GoesTo e.flow m one (IsMet m))
-          → IsRunning moment images e opened first start time old left out → IsLimited tells held moment images f limit opened first start (moment_of one) new left out
+          → IsRunning moment images e opened first start time old left out → IsLimited tells held moment images f limit opened first start (step_moment one) new left out
       stops_limited law turn disk journal names last limited run =
           let it = limited run.reached run.to.run.holds in
           record {
             reached = run.reached;
-            to = runs_to law (moment_of one) by journal names last run.reached (λ stands. subst (λ (d : D). IsSpared e.flow moment images e.store.lot run.reached old d) (sym disk) (spared_by_none e.flow e.store.lot run.reached old stands)) run.to;
+            to = runs_to law (step_moment one) by journal names last run.reached (λ stands. subst (λ (d : D). IsSpared e.flow moment images e.store.lot run.reached old d) (sym disk) (spared_by_none e.flow e.store.lot run.reached old stands)) run.to;
             met = limit_at run.reached disk journal (record {
               next = one;
-              turn = turn e.flow start time (moment_of one) e.store.lot opened run.reached first old e.journal one left out run.to.run by (omega arith) (comes run.reached run.to.run.holds);
+              turn = turn e.flow start time (step_moment one) e.store.lot opened run.reached first old e.journal one left out run.to.run by (omega arith) (comes run.reached run.to.run.holds);
               after = it.after;
               goes = it.goes;
               stands = it.is_so.0;
@@ -181,33 +181,33 @@ module _ {D : Type 0} (tells : Bool) (held : D → Files) (moment : D → ℕ) (
           }
 
     -- a step of a queue that failed
-    module _ (leaves : QueuesLeaveTheWorld) (one : Step) (queue : IsOfQueue one) (by : time ≤ moment_of one) (comes : (m : Machine) → StandsIn e old m → ComesNext e.flow (last_worker None (steps e.journal)) m one)
+    module _ (leaves : QueuesLeaveTheWorld) (one : Step) (queue : IsOfQueue one) (by : time ≤ step_moment one) (comes : (m : Machine) → StandsIn e old m → ComesNext e.flow (last_worker None (steps e.journal)) m one)
         (law : SparedRunsGoOn moment images) (turn : NextStepsAreInTurn moment images) (between : FaultsEnd tells held moment images) (disk_fails : DiskFaultsEnd tells held moment images) (error : EngineError)
         (names : f.listing ≡ e.listing) (last : f.last ≡ e.last) (open_journal : error ≡ EngineError.Disk → f.journal ≡ e.journal ++ record { step = one; acked = None } ∷ [])
         (cut : error ≡ EngineError.Disk → (m : Machine) → StandsIn e old m → IsCutOff e.flow moment images e.store.lot m one old new) (unwritten : (error ≡ EngineError.Disk → ⊥) → (new ≡ old) × (f.journal ≡ e.journal))
         (limited : (limit : Limit) → error ≡ EngineError.Limit limit → (m : Machine) → StandsIn e old m
         → GoesTo e.flow m one (λ after. StandsFor e.flow e.store.lot m (held old) × IsAtStoreLimit tells held moment images limit m after old))
         (run : IsRunning moment images e opened first start time old left out) where
-      by_memory : error ≡ EngineError.Memory → Stops error tells held moment images f opened first start (moment_of one) new left out
+      by_memory : error ≡ EngineError.Memory → Stops error tells held moment images f opened first start (step_moment one) new left out
       by_memory is =
           let stays = unwritten (λ disk. let both : EngineError.Memory ≡ EngineError.Disk = sym is ∙ disk in cc) in
-          stops_by between error (inr is) (moment_of one) by stays.1
+          stops_by between error (inr is) (step_moment one) by stays.1
           (λ m stands. subst (λ (d : D). IsSpared e.flow moment images e.store.lot m old d) (sym stays.0) (spared_by_none e.flow e.store.lot m old stands)) run
 
-      by_disk : error ≡ EngineError.Disk → Stops error tells held moment images f opened first start (moment_of one) new left out
+      by_disk : error ≡ EngineError.Disk → Stops error tells held moment images f opened first start (step_moment one) new left out
       by_disk is =
-          subst (λ (er : EngineError). Stops er tells held moment images f opened first start (moment_of one) new left out) (sym is)
+          subst (λ (er : EngineError). Stops er tells held moment images f opened first start (step_moment one) new left out) (sym is)
           (stops_cut_off leaves one queue by comes disk_fails (open_journal is) (cut is) run)
 
-      by_limit : (limit : Limit) → error ≡ EngineError.Limit limit → Stops error tells held moment images f opened first start (moment_of one) new left out
+      by_limit : (limit : Limit) → error ≡ EngineError.Limit limit → Stops error tells held moment images f opened first start (step_moment one) new left out
       by_limit limit is =
           let stays = unwritten (λ disk. let both : EngineError.Limit limit ≡ EngineError.Disk = sym is ∙ disk in cc) in
-          subst (λ (er : EngineError). Stops er tells held moment images f opened first start (moment_of one) new left out) (sym is)
+          subst (λ (er : EngineError). Stops er tells held moment images f opened first start (step_moment one) new left out) (sym is)
           (stops_limited one limit by comes law turn stays.0 stays.1 names last
           (λ m stands. let it = limited limit is m stands in record { after = it.after; goes = it.goes; is_so = (it.is_so.0, inl it.is_so.1) }) run)
 
       pub stops_failed : (error ≡ EngineError.Disk) ⊎ (error ≡ EngineError.Memory) ⊎ ((limit : Limit) × (error ≡ EngineError.Limit limit))
-          → Stops error tells held moment images f opened first start (moment_of one) new left out
+          → Stops error tells held moment images f opened first start (step_moment one) new left out
       stops_failed (inl is) = by_disk is
       stops_failed (inr (inl is)) = by_memory is
       stops_failed (inr (inr is)) = by_limit is.0 is.1

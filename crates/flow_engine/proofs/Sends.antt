@@ -38,7 +38,7 @@ use Rattle.machine_model.specs.Parts.{Piece, groups_of, parted}
 use Rattle.machine_model.proofs.Options.{if_and_then, if_map, if_where}
 use Rattle.process_session.specs.declared.file.Source.{Source}
 use Rattle.settlement.specs.Contents.{IsBodyWithin}
-use Rattle.settlement.specs.Handed.{AreRead}
+use Rattle.settlement.specs.Handed.{AreReadSources}
 use Rattle.flow_engine.specs.Sending.{sources_left}
 
 -- ---- which kinds send
@@ -174,7 +174,7 @@ within_left kind taken given outcome sources acts within = ⊎_elim
     (sends_or_puts kind taken given outcome acts)
 
 -- and what is left was read
-pub read_left : (bytes : ContentRef → List ℕ) (files : List FlowFile) (sources : List Source) (sent : Option Sent) → AreRead bytes files sources → AreRead bytes files (sources_left sent sources)
+pub read_left : (bytes : ContentRef → List ℕ) (files : List FlowFile) (sources : List Source) (sent : Option Sent) → AreReadSources bytes files sources → AreReadSources bytes files (sources_left sent sources)
 read_left bytes files sources None read = read
 read_left bytes [] [] (Some sent) read = tt
 read_left bytes [] (source ∷ sources) (Some sent) read = absurd read

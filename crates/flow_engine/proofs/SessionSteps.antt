@@ -24,24 +24,24 @@ use Rattle.machine_model.specs.Placing.{EndedSession}
 use Rattle.machine_model.specs.Sound.{IsSound, IsSoundKind}
 use Rattle.machine_model.specs.State.{Machine, QueuedFile, State}
 use Rattle.machine_model.specs.Stepping.{as_taken, given_at, given_in, session_of as machine_session, step, taken_files, world_after}
-use Rattle.process_session.specs.Bench.{source_of}
+use Rattle.process_session.specs.Bench.{taken_source}
 use Rattle.process_session.specs.declared.file.Source.{Source}
 use Rattle.process_session.specs.declared.file.Taken.{Taken}
-use Rattle.processor_api.specs.Acts.{KeepsGiven, MayBeHanded}
-use Rattle.settlement.specs.Handed.{AreRead, session_of}
+use Rattle.processor_api.specs.Acts.{KeepsGiven, MayBeHandedTo}
+use Rattle.settlement.specs.Handed.{AreReadSources, ended_session}
 use Rattle.settlement.specs.declared.handed.Ended.{Ended}
 use Rattle.store_core.specs.State.{state_with}
 use Rattle.engine_core.specs.Committing.{LeavesDigests, LeavesState, MayCommit}
-use Rattle.engine_session.specs.Handing.{MayEnd, taken_from}
+use Rattle.engine_session.specs.Handing.{MayEndSession, taken_with_contents}
 use Rattle.engine_session.specs.Laws.{TakenFilesAreTheMachines, TakenFilesAreThere, TakenFilesMayBeHanded}
-use Rattle.engine_session.specs.Steps.{IsSession, SettledSessionsAreSteps, machine_in}
+use Rattle.engine_session.specs.Steps.{IsMachineSession, SettledSessionsAreSteps, machine_in}
 use Rattle.engine_session.specs.Working.{IsWorkAt, MayWork}
 use Rattle.flow_run.specs.Laws.{OtherSessionsLoseNone, OtherSessionsPutNone, PutsSendTheTakenBytes, ReceivingSessionsLoseAFile}
-use Rattle.flow_run.specs.Puts.{IsPutBy, files_sent, puts_of_step, session_at, session_puts}
+use Rattle.flow_run.specs.Puts.{IsPutBy, files_sent, puts_of_step, session_of_step, session_puts}
 use Rattle.flow_run.specs.Run.{IsStateOf}
 use Rattle.flow_engine.specs.Change.{IsSentBy, IsStepOf, MakesStep, TellsDigests, step_of, with_sending, without_bytes}
 use Rattle.flow_engine.specs.Done.{IsWorkOn}
-use Rattle.flow_engine.specs.Job.{MayHand, StandsIn}
+use Rattle.flow_engine.specs.Job.{MayHand, JobStandsIn}
 use Rattle.flow_engine.specs.Sending.{sending_of, sources_left}
 use Rattle.flow_engine.specs.declared.change.Changed.{Changed}
 use Rattle.flow_engine.specs.declared.change.Sending.{Sending}
@@ -54,10 +54,10 @@ use Rattle.flow_engine.proofs.Sends.{read_left, within_left}
 -- ---- the work
 
 abbrev pub taken_of : Kept → Job → List Taken
-taken_of k job = taken_from k.store job.files job.contents
+taken_of k job = taken_with_contents k.store job.files job.contents
 
 abbrev pub sources_of : Kept → Job → List Source
-sources_of k job = map source_of (taken_of k job)
+sources_of k job = map taken_source (taken_of k job)
 
 some_is : {A : Type 0} (x y : A) → ◌≡◌ {A = Option A} (Some x) (Some y) → x ≡ y
 some_is x y is = cc
@@ -70,7 +70,7 @@ sound_at (first ∷ processors) (suc place) processor all found =
     sound_at processors place processor (All-tail (λ p. IsSoundKind p.kind) first processors all) found
 
 may_be_handed : TakenFilesMayBeHanded → (flow : Flow) (k : Kept) (job : Job) → IsSound flow → IsConsistent k → (hand : MayHand flow k job)
-    → MayBeHanded hand.processor.kind (taken_of k job) job.given
+    → MayBeHandedTo hand.processor.kind (taken_of k job) job.given
 may_be_handed law flow k job sound consistent hand =
     law k job.connection job.numbers hand.bytes job.files job.contents hand.processor.kind job.given consistent hand.taken
     (sound_at flow.processors job.processor hand.processor sound.kinds hand.found) hand.rule hand.given
@@ -82,7 +82,7 @@ may_work law flow k job sound consistent hand =
 
 -- and its work may end
 pub may_end : TakenFilesMayBeHanded → (flow : Flow) (k : Kept) (job : Job) (done : Outcome × List Source) → IsSound flow → IsConsistent k → MayHand flow k job
-    → IsWorkAt flow job.processor (taken_of k job) job.given done → MayEnd flow k job.given job.processor job.connection job.files done
+    → IsWorkAt flow job.processor (taken_of k job) job.given done → MayEndSession flow k job.given job.processor job.connection job.files done
 may_end law flow k job done sound consistent hand work = record {
   consistent = consistent;
   numbers = job.numbers;
@@ -144,7 +144,7 @@ pub record IsChange (flow : Flow) (k : Kept) (job : Job) (outcome : Outcome) (le
   pub leaves : LeavesState flow left (left_of k job outcome) k settled
 
 module _ (laws : Laws) (flow : Flow) (k : Kept) (job : Job) (outcome : Outcome) (left : Given) (settled : Settled) (is : IsChange flow k job outcome left settled)
-    (contents : ContentRef → List ℕ) (ranges : HaveRanges contents) (before : Machine) (tied : IsStateOf before contents k) (last : Option ℕ) (stands : StandsIn flow last k contents before job) where
+    (contents : ContentRef → List ℕ) (ranges : HaveRanges contents) (before : Machine) (tied : IsStateOf before contents k) (last : Option ℕ) (stands : JobStandsIn flow last k contents before job) where
   abbrev state : State
   state = state_with contents before.state.events k
 
@@ -152,14 +152,14 @@ module _ (laws : Laws) (flow : Flow) (k : Kept) (job : Job) (outcome : Outcome) 
   queued = map (queued_file contents) job.files
 
   abbrev session : State → EndedSession
-  session s = session_of flow job.given (left_of k job outcome) stands.processor contents s
+  session s = ended_session flow job.given (left_of k job outcome) stands.processor contents s
 
   acts : (s : State) → state ≡ s → act stands.processor.kind (map (as_taken s) queued) job.given ≡ Some outcome
   acts s same = subst (λ (t : State). act stands.processor.kind (map (as_taken t) queued) job.given ≡ Some outcome) same
       ((is.work stands.processor stands.found).outcome (map (as_taken state) queued)
       (laws.machine k job.connection job.numbers contents job.files job.contents before.state.events stands.read))
 
-  is_session : IsSession before.world job.numbers job.given.moment (without_bytes job.given) (session state) outcome
+  is_session : IsMachineSession before.world job.numbers job.given.moment (without_bytes job.given) (session state) outcome
   is_session = record {
     processor = stands.found;
     no_bytes = refl;
@@ -217,7 +217,7 @@ module _ (laws : Laws) (flow : Flow) (k : Kept) (job : Job) (outcome : Outcome) 
   -- it puts what its outcome sends
   puts_sent : puts_of_step flow before (step_of job) ≡ files_sent (session before.state) outcome outcome.sent
   puts_sent =
-      ap (λ (p : Option Processor). option_map_or (session_puts before) (option_and_then (session_at flow before job.processor job.numbers job.given.moment (without_bytes job.given)) p) []) stands.found
+      ap (λ (p : Option Processor). option_map_or (session_puts before) (option_and_then (session_of_step flow before job.processor job.numbers job.given.moment (without_bytes job.given)) p) []) stands.found
       ∙ ap (λ (taken : Option (List QueuedFile)). option_map_or (session_puts before) (option_and_then (λ files. option_map (machine_session flow before job.processor stands.processor files)
       (option_and_then (given_in stands.processor.kind job.processor before.state before.world files) (given_at job.given.moment (without_bytes job.given)))) taken) []) stands.taken
       ∙ ap (λ (given : Option Given). option_map_or (session_puts before) (option_map (machine_session flow before job.processor stands.processor queued) given) []) stands.given
@@ -274,7 +274,7 @@ module _ (flow : Flow) (k : Kept) (job : Job) (taken : List Taken) (done : Outco
       ∙ ap (λ (s : List Source). ended_of job (sources_left done.0.sent s) done.0) sources_are
 
   pub may_settle : TakenFilesMayBeHanded → TakenFilesAreTheMachines
-      → ((flow : Flow) (kept : Kept) (given left : Given) → MayEnd flow kept given job.processor job.connection job.files done → KeepsGiven given left → MayCommit flow left kept whole)
+      → ((flow : Flow) (kept : Kept) (given left : Given) → MayEndSession flow kept given job.processor job.connection job.files done → KeepsGiven given left → MayCommit flow left kept whole)
       → MayCommit flow left k ended
   may_settle handed machine may =
       let commits : MayCommit flow left k whole = may flow k job.given left (may_end handed flow k job done is.sound is.consistent is.hand work_is) is.keeps in
@@ -298,7 +298,7 @@ module _ (flow : Flow) (k : Kept) (job : Job) (taken : List Taken) (done : Outco
   pub settled_tells_digests : TakenFilesAreThere → (changed : Changed) → LeavesDigests ended changed.settled → TellsDigests k job changed
   settled_tells_digests there changed leaves contents ranges taken =
       leaves contents ranges
-      (subst (λ (e : Ended). AreRead contents e.taken e.sources) (sym left_is)
+      (subst (λ (e : Ended). AreReadSources contents e.taken e.sources) (sym left_is)
       (read_left contents job.files (sources_of k job) done.0.sent (there k job.connection job.numbers contents job.files job.contents taken).read))
 
 -- ---- the work on a job
@@ -319,14 +319,14 @@ module _ (flow : Flow) (k : Kept) (job : Job) (done : Done) (whole ended : Ended
   }
 
   pub may_settle_on : TakenFilesMayBeHanded → TakenFilesAreTheMachines
-      → ((flow : Flow) (kept : Kept) (given left : Given) → MayEnd flow kept given done.processor done.connection done.files (done.outcome, done.sources) → KeepsGiven given left → MayCommit flow left kept whole)
+      → ((flow : Flow) (kept : Kept) (given left : Given) → MayEndSession flow kept given done.processor done.connection done.files (done.outcome, done.sources) → KeepsGiven given left → MayCommit flow left kept whole)
       → MayCommit flow done.given k ended
   may_settle_on handed machine may =
       may_settle flow k job (taken_of k job) (done.outcome, done.sources) done.given whole ended worked_on handed machine
       (λ fl kept given left ends. may fl kept given left
-      (subst (λ (place : ℕ). MayEnd fl kept given place done.connection done.files (done.outcome, done.sources)) (sym work.processor)
-      (subst (λ (place : ℕ). MayEnd fl kept given job.processor place done.files (done.outcome, done.sources)) (sym work.connection)
-      (subst (λ (files : List FlowFile). MayEnd fl kept given job.processor job.connection files (done.outcome, done.sources)) (sym work.files) ends))))
+      (subst (λ (place : ℕ). MayEndSession fl kept given place done.connection done.files (done.outcome, done.sources)) (sym work.processor)
+      (subst (λ (place : ℕ). MayEndSession fl kept given job.processor place done.files (done.outcome, done.sources)) (sym work.connection)
+      (subst (λ (files : List FlowFile). MayEndSession fl kept given job.processor job.connection files (done.outcome, done.sources)) (sym work.files) ends))))
 
   pub makes_step_on : Laws → (changed : Changed) → LeavesState flow done.given ended k changed.settled → changed.sending ≡ sending_of whole.outcome.sent whole.sources → MakesStep flow k job changed
   makes_step_on laws changed leaves sends =

@@ -12,7 +12,7 @@ use Rattle.flowfile_wal.specs.Current.{CurrentLog}
 use Rattle.machine_model.specs.Due.{is_checkpoint_due}
 use Rattle.store_core.specs.Store.{HasLog, StoreState}
 use Rattle.store_core.proofs.Opening.{claims_log}
-use Rattle.flow_run.specs.Ending.{EndsShort, IsAtRest}
+use Rattle.flow_run.specs.Ending.{EndsShort, IsQuietOrBlocked}
 use Rattle.flow_run.specs.Work.{HasShortLog, IsShortOn}
 use Rattle.flow_run.specs.declared.ended.Ended.{Ended}
 use Rattle.flow_run.specs.declared.ended.Ended.TheVariants as ended
@@ -89,7 +89,7 @@ not_blocked (Limit limit) place is = cc
 not_blocked MustReopen place is = cc
 not_blocked Memory place is = cc
 
-pub no_rest : (error : EngineError) (end : Ended) → end ≡ ended_by error → IsAtRest end → ⊥
+pub no_rest : (error : EngineError) (end : Ended) → end ≡ ended_by error → IsQuietOrBlocked end → ⊥
 no_rest error end is (inl quiet) = not_quiet error (sym is ∙ quiet)
 no_rest error end is (inr blocked) = not_blocked error blocked.0 (sym is ∙ blocked.1)
 

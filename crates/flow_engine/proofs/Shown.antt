@@ -16,7 +16,7 @@ use Rattle.flow_run.specs.Ending.{IsFault}
 use Rattle.flow_run.specs.Puts.{Outgoing, Start}
 use Rattle.flow_run.specs.Run.{StandsFor, machine_at}
 use Rattle.flow_run.specs.declared.ended.Ended.{Ended}
-use Rattle.flow_engine.specs.Closing.{IsClosed, Shows, ShowsState}
+use Rattle.flow_engine.specs.Closing.{EngineIsClosed, Shows, ShowsState}
 use Rattle.flow_engine.specs.Engine.{EngineState}
 use Rattle.flow_engine.specs.Errors.{ended_by}
 use Rattle.flow_engine.specs.Running.{IsRunningTo}
@@ -71,7 +71,7 @@ one_end flow other opened one two journal same first second =
     let both : Some one ≡ Some two = sym first ∙ ap (λ (f : Flow). replay f opened journal) same ∙ second in cc
 
 shown : {D : Type 0} (tells : Bool) (held : D → Files) (moment : D → ℕ) (images : D → ℕ → Files → Type 0) (e : EngineState) (old new : D) (reached : Machine) (result : Result Closed EngineError)
-    → IfOk result (IsClosed tells held moment images e new)
+    → IfOk result (EngineIsClosed tells held moment images e new)
     → IfOk result (λ closed. IsTrue tells → (m : Machine) → InEach (images old (moment old)) (StandsFor e.flow e.store.lot m) → ShowsState e.flow m closed)
     → IsTrue tells → InEach (images old (moment old)) (StandsFor e.flow e.store.lot reached) → length reached.world.left ≡ length e.listing.names + e.listing.too_large
     → IfSome (result_ok result) (Shows e.flow reached)
@@ -83,7 +83,7 @@ pub run_shows : StepsLoseNames → {D : Type 0} (tells : Bool) (held : D → Fil
     (standing : List ℕ → Option (List ℕ)) (now_out : Outgoing) (first old new : D) (start : Start) (time : ℕ) (reached m : Machine) (result : Result Closed EngineError) (o : Option Closed) → e.flow ≡ flow → e.listing.too_large ≡ e0.listing.too_large
     → coming_of (machine_at state left standing).world ≡ e0.listing.names → length left ≡ length e0.listing.names + e0.listing.too_large
     → IsRunningTo moment images e (machine_at state left standing) first start time old now_left now_out reached
-    → replay flow (machine_at state left standing) (steps e.journal) ≡ Some m → o ≡ result_ok result → IfOk result (IsClosed tells held moment images e new)
+    → replay flow (machine_at state left standing) (steps e.journal) ≡ Some m → o ≡ result_ok result → IfOk result (EngineIsClosed tells held moment images e new)
     → IfOk result (λ closed. IsTrue tells → (m : Machine) → InEach (images old (moment old)) (StandsFor e.flow e.store.lot m) → ShowsState e.flow m closed) → IsTrue tells → IfSome o (Shows flow m)
 run_shows law tells held moment images flow e0 e state left now_left standing now_out first old new start time reached m result o flow_is large_is coming counted to ends is closed shows telling =
     let all : length reached.world.left ≡ length e.listing.names + e0.listing.too_large

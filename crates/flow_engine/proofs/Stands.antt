@@ -36,11 +36,11 @@ use Rattle.engine_choice.specs.declared.choice.Taking.{Taking}
 use Rattle.engine_choice.specs.declared.choice.Taking.TheVariants.{Files, Generate, Receive}
 use Rattle.engine_session.specs.Handing.{live_files}
 use Rattle.engine_session.specs.Laws.{MachinesFilesAreLive}
-use Rattle.flow_run.specs.Journal.{files_left}
+use Rattle.flow_run.specs.Journal.{inbox_left}
 use Rattle.flow_run.specs.Run.{IsStateOf}
 use Rattle.flow_run.specs.Turns.{IsNextSession}
-use Rattle.flow_engine.specs.Handing.{HasBytes, HasBytesOf, IsHanded, IsHandedAs}
-use Rattle.flow_engine.specs.Job.{StandsIn}
+use Rattle.flow_engine.specs.Handing.{HasBytes, HasBytesOf, JobIsHanded, IsHandedAs}
+use Rattle.flow_engine.specs.Job.{JobStandsIn}
 use Rattle.flow_engine.specs.declared.job.Job.{Job}
 use Rattle.flow_engine.proofs.Chosen.{IsNext, TakesSo}
 
@@ -72,7 +72,7 @@ found_list names name bytes (file ∷ files) found = by (is_among file.name name
     by true some found later = kept some (bytes_eq file.name name) refl found later
     by false none found later = dropped none (bytes_eq file.name name) refl (later found)
 
-found_left : (w : World) (name bytes : List ℕ) → bytes_of (files_left w) name ≡ Some bytes → (is_among name w.left ≡ true) × (bytes_of w.inbox name ≡ Some bytes)
+found_left : (w : World) (name bytes : List ℕ) → bytes_of (inbox_left w) name ≡ Some bytes → (is_among name w.left ≡ true) × (bytes_of w.inbox name ≡ Some bytes)
 found_left w name bytes found = found_list w.left name bytes w.inbox found
 
 -- ---- what it is given
@@ -97,11 +97,11 @@ received_back filter place state world files given handed name file is =
     got_so (may_get filter world name) (record given { bytes = bytes_of world.inbox name }) handed (ap (option_and_then F) (sym file) ∙ is)
 
 -- the bytes of a file that is left are those that the inbox had
-bytes_in : (left : List NamedFile) (world : World) (name : List ℕ) (bytes : Option (List ℕ)) → left ≡ files_left world → IsSomeAnd bytes (λ bytes. length bytes ≤ CONTENT_MAX) → bytes_of left name ≡ bytes → bytes_of world.inbox name ≡ bytes
+bytes_in : (left : List NamedFile) (world : World) (name : List ℕ) (bytes : Option (List ℕ)) → left ≡ inbox_left world → IsSomeAnd bytes (λ bytes. length bytes ≤ CONTENT_MAX) → bytes_of left name ≡ bytes → bytes_of world.inbox name ≡ bytes
 bytes_in left world name None lies some is = absurd some
 bytes_in left world name (Some bytes) lies some is = (found_left world name bytes (ap (λ (l : List NamedFile). bytes_of l name) (sym lies) ∙ is)).1
 
-module _ (k : Kept) (names : List (List ℕ)) (moment place : ℕ) (state : State) (world : World) (files : List QueuedFile) (left : List NamedFile) (lies : left ≡ files_left world) (given handed : Given) where
+module _ (k : Kept) (names : List (List ℕ)) (moment place : ℕ) (state : State) (world : World) (files : List QueuedFile) (left : List NamedFile) (lies : left ≡ inbox_left world) (given handed : Given) where
   pub handed_so : (kind : Kind) (taking : Taking) → TakesSo k names moment kind taking → record given { bytes = None } ≡ given_for moment given.there taking → HasBytes taking given.bytes
       → HasBytesOf left taking given.bytes → given_in kind place state world files (record given { bytes = None }) ≡ Some handed → handed ≡ given
   handed_so (GetFile filter) (Receive name) takes is has bytes gives =
@@ -128,8 +128,8 @@ module _ (sessions : ChoicesAreSessions) (choices : ChoicesAreSeen) (seen : Queu
     (contents : ContentRef → List ℕ) (m : Machine) (left : List NamedFile) (standing : List ℕ → Option (List ℕ)) (job : Job) where
   pub stands_in : IsConsistent k → k.batches ≡ [] → flow_in k ≡ identity_of flow → AreQueuesOf flow k queues → HaveSizes contents k
       → due_expiry flow (queue_seen queues) moment ≡ None → next_choice flow (queue_seen queues) k.counts names moment last ≡ Some choice → IsNext flow k names moment choice
-      → IsStateOf m contents k → IsValid flow m.state → coming_of m.world ≡ names → left ≡ files_left m.world → standing ≡ m.world.outbox
-      → IsHanded k moment choice job → IsHandedAs true true true k contents left standing choice job → StandsIn flow last k contents m job
+      → IsStateOf m contents k → IsValid flow m.state → coming_of m.world ≡ names → left ≡ inbox_left m.world → standing ≡ m.world.outbox
+      → JobIsHanded k moment choice job → IsHandedAs true true true k contents left standing choice job → JobStandsIn flow last k contents m job
   stands_in consistent no_batches flow_is are sizes nothing chosen next tied valid coming lies stands handed told =
       let count = ap (λ (f : store.Flow). length f.connections) flow_is ∙ length-map flow.connections (λ c. c.id) in
       let sees : SeesTheSame flow (queue_seen queues) (queues_of m.state) =

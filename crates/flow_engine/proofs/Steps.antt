@@ -10,7 +10,7 @@ use Rattle.content_repo.proofs.Ranges.{contents-have-ranges}
 use Rattle.machine_model.specs.declared.flow.Flow.{Flow}
 use Rattle.machine_model.specs.Due.{due_expiry}
 use Rattle.machine_model.specs.State.{Machine}
-use Rattle.store_core.specs.Store.{Holds, StoreState, kept_by}
+use Rattle.store_core.specs.Store.{FilesHold, StoreState, kept_by}
 use Rattle.engine_queues.specs.Laws.{HeldContentsHaveSizes, QueuesAreSeen, QueuesShowKept}
 use Rattle.engine_queues.specs.Queues.{queue_seen}
 use Rattle.engine_choice.specs.Choice.{next_choice}
@@ -23,8 +23,8 @@ use Rattle.flow_run.specs.Run.{IsStateOf, StandsFor}
 use Rattle.flow_run.specs.Work.{IsAtWork}
 use Rattle.flow_engine.specs.Change.{IsStepOf, MakesStep}
 use Rattle.flow_engine.specs.Engine.{EngineState}
-use Rattle.flow_engine.specs.Ready.{IsReady}
-use Rattle.flow_engine.specs.Handing.{IsHanded, IsHandedAs}
+use Rattle.flow_engine.specs.Ready.{EngineIsReady}
+use Rattle.flow_engine.specs.Handing.{JobIsHanded, IsHandedAs}
 use Rattle.flow_engine.specs.Running.{IsRunning}
 use Rattle.flow_engine.specs.declared.change.Changed.{Changed}
 use Rattle.flow_engine.specs.declared.job.Job.{Job}
@@ -32,7 +32,7 @@ use Rattle.flow_engine.proofs.Chosen.{IsNext, next_takes}
 use Rattle.flow_run.specs.Puts.{Outgoing, Start}
 use Rattle.flow_engine.proofs.Stands.{stands_in}
 
-module _ (tells : Bool) {D : Type 0} (held : D → Files) (moment : D → ℕ) (images : D → ℕ → Files → Type 0) (e : EngineState) (disk : D) (ready : IsReady tells held moment images e disk)
+module _ (tells : Bool) {D : Type 0} (held : D → Files) (moment : D → ℕ) (images : D → ℕ → Files → Type 0) (e : EngineState) (disk : D) (ready : EngineIsReady tells held moment images e disk)
     (consistent : IsConsistent (kept_by e.store)) (time : ℕ) (choice : Choice)
     (chosen : next_choice e.flow (queue_seen e.queues) (kept_by e.store).counts e.listing.names time e.last ≡ Some choice) where
   pub next : QueuesShowKept → IsNext e.flow (kept_by e.store) e.listing.names time choice
@@ -40,10 +40,10 @@ module _ (tells : Bool) {D : Type 0} (held : D → Files) (moment : D → ℕ) (
 
   -- where nothing has expired, what it makes of what it was handed is a step
   pub steps : QueuesShowKept → QueuesAreSeen → HeldContentsHaveSizes → ChoicesAreSessions → ChoicesAreSeen → MachinesFilesAreLive → due_expiry e.flow (queue_seen e.queues) time ≡ None
-      → (kept_by e.store).batches ≡ [] → Holds e.store (held disk)
+      → (kept_by e.store).batches ≡ [] → FilesHold e.store (held disk)
       → (opened : Machine) (first : D) (start : Start) (since : ℕ) (left : List NamedFile) (out : Outgoing) (run : IsRunning moment images e opened first start since disk left out)
       → IsStateOf run.reached (content_in (held disk)) (kept_by e.store) → (job : Job) (changed : Changed)
-      → IsHanded (kept_by e.store) time choice job → IsHandedAs true true true (kept_by e.store) (content_in (held disk)) left out.standing choice job
+      → JobIsHanded (kept_by e.store) time choice job → IsHandedAs true true true (kept_by e.store) (content_in (held disk)) left out.standing choice job
       → MakesStep e.flow (kept_by e.store) job changed → IsStepOf e.flow e.last (content_in (held disk)) run.reached job changed
   steps shown seen sizes sessions choices live nothing no_batches holds opened first start since left out run tied job changed handed told makes =
       makes e.last (content_in (held disk)) run.reached (contents-have-ranges (held disk)) tied run.to.run.valid
@@ -65,11 +65,11 @@ runs_on moment images law e opened first start time later old new left out run n
 
 -- ---- where the engine's fields are those of its value
 
-module _ (tells : Bool) {D : Type 0} (held : D → Files) (moment : D → ℕ) (images : D → ℕ → Files → Type 0) (v e : EngineState) (is : v ≡ e) (disk : D) (ready : IsReady tells held moment images e disk)
+module _ (tells : Bool) {D : Type 0} (held : D → Files) (moment : D → ℕ) (images : D → ℕ → Files → Type 0) (v e : EngineState) (is : v ≡ e) (disk : D) (ready : EngineIsReady tells held moment images e disk)
     (consistent : IsConsistent (kept_by v.store)) (time : ℕ) (choice : Choice)
     (chosen : next_choice e.flow (queue_seen e.queues) (kept_by e.store).counts e.listing.names time e.last ≡ Some choice) where
-  ready_there : IsReady tells held moment images v disk
-  ready_there = subst (λ (x : EngineState). IsReady tells held moment images x disk) (sym is) ready
+  ready_there : EngineIsReady tells held moment images v disk
+  ready_there = subst (λ (x : EngineState). EngineIsReady tells held moment images x disk) (sym is) ready
 
   pub next_there : QueuesShowKept → IsNext v.flow (kept_by v.store) v.listing.names time choice
   next_there shown =
@@ -77,21 +77,21 @@ module _ (tells : Bool) {D : Type 0} (held : D → Files) (moment : D → ℕ) (
       (subst (λ (x : EngineState). next_choice x.flow (queue_seen x.queues) (kept_by x.store).counts x.listing.names time x.last ≡ Some choice) (sym is) chosen) shown
 
   pub step_so : QueuesShowKept → QueuesAreSeen → HeldContentsHaveSizes → ChoicesAreSessions → ChoicesAreSeen → MachinesFilesAreLive → due_expiry e.flow (queue_seen e.queues) time ≡ None
-      → (kept_by v.store).batches ≡ [] → Holds v.store (held disk)
+      → (kept_by v.store).batches ≡ [] → FilesHold v.store (held disk)
       → ((flow : Flow) → IsAtWork flow tells held moment images v.store disk → (m : Machine) → InEach (images disk (moment disk)) (StandsFor flow v.store.lot m) → IsStateOf m (content_in (held disk)) (kept_by v.store))
       → (t : StoreState) → t ≡ v.store
       → (opened : Machine) (first : D) (start : Start) (since : ℕ) (left : List NamedFile) (out : Outgoing) (run : IsRunning moment images e opened first start since disk left out)
       → (job : Job) (changed : Changed)
-      → IsHanded (kept_by v.store) time choice job → IsHandedAs true true true (kept_by v.store) (content_in (held disk)) left out.standing choice job
+      → JobIsHanded (kept_by v.store) time choice job → IsHandedAs true true true (kept_by v.store) (content_in (held disk)) left out.standing choice job
       → MakesStep v.flow (kept_by t) job changed
       → IsStepOf e.flow e.last (content_in (held disk)) run.reached job changed × IsStateOf run.reached (content_in (held disk)) (kept_by v.store)
   step_so shown seen sizes sessions choices live nothing no_batches holds tied t same opened first start since left out run job changed handed told makes =
       let tie = tied e.flow (subst (λ (x : EngineState). IsAtWork e.flow tells held moment images x.store disk) (sym is) ready.work) run.reached
       (subst (λ (x : EngineState). InEach (images disk (moment disk)) (StandsFor e.flow x.store.lot run.reached)) (sym is) run.to.run.holds) in (
         steps tells held moment images e disk ready (subst (λ (x : EngineState). IsConsistent (kept_by x.store)) is consistent) time choice chosen shown seen sizes sessions choices live nothing
-            (subst (λ (x : EngineState). (kept_by x.store).batches ≡ []) is no_batches) (subst (λ (x : EngineState). Holds x.store (held disk)) is holds) opened first start since left out run
+            (subst (λ (x : EngineState). (kept_by x.store).batches ≡ []) is no_batches) (subst (λ (x : EngineState). FilesHold x.store (held disk)) is holds) opened first start since left out run
             (subst (λ (x : EngineState). IsStateOf run.reached (content_in (held disk)) (kept_by x.store)) is tie) job changed
-            (subst (λ (x : EngineState). IsHanded (kept_by x.store) time choice job) is handed)
+            (subst (λ (x : EngineState). JobIsHanded (kept_by x.store) time choice job) is handed)
             (subst (λ (x : EngineState). IsHandedAs true true true (kept_by x.store) (content_in (held disk)) left out.standing choice job) is told)
             (subst (λ (x : EngineState). MakesStep x.flow (kept_by x.store) job changed) is (subst (λ (s : StoreState). MakesStep v.flow (kept_by s) job changed) same makes)),
         tie,

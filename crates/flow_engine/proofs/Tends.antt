@@ -15,7 +15,7 @@ use Rattle.record_codec.specs.declared.entry.LogEntry.{LogEntry}
 use Rattle.record_codec.specs.declared.entry.LogEntry.TheVariants.{Begin, Session, Expire, SwapOut, SwapIn}
 use Rattle.checkpoint_store.specs.Consistent.{IsConsistent}
 use Rattle.content_repo.specs.Claims.{content_in, IdleShortened}
-use Rattle.content_repo.specs.Slots.{HasRoom}
+use Rattle.content_repo.specs.Slots.{SlotsHaveRoom}
 use Rattle.content_repo.specs.declared.slot.Slot.{Slot}
 use Rattle.flowfile_record.specs.declared.stored.Placed.{Placed}
 use Rattle.flowfile_wal.specs.Calls.{InEach}
@@ -46,7 +46,7 @@ use Rattle.flow_run.specs.Going.{IsBetween, IsSpared, IsStepped}
 use Rattle.flow_run.specs.Run.{StandsFor}
 use Rattle.flow_run.specs.Work.{IsAtWork, IsRefused, WritesLog}
 use Rattle.flow_run.proofs.Writing.{checkpoint_writes, log_writes, writes_as}
-use Rattle.flow_engine.specs.Errors.{error_of}
+use Rattle.flow_engine.specs.Errors.{engine_error}
 use Rattle.flow_engine.specs.Journal.{journaled}
 use Rattle.flow_engine.specs.declared.error.EngineError.{EngineError}
 
@@ -64,7 +64,7 @@ still_works {A = A} result s t answer is works fails = by t.failed refl
         (fails.0 so))
 
 -- which error of the store a limit is
-pub limit_of : (e : StoreError) (limit : Limit) → error_of e ≡ EngineError.Limit limit → e ≡ StoreError.Limit limit
+pub limit_of : (e : StoreError) (limit : Limit) → engine_error e ≡ EngineError.Limit limit → e ≡ StoreError.Limit limit
 limit_of StoreError.Disk limit is = absurd cc
 limit_of StoreError.Memory limit is = absurd cc
 limit_of StoreError.MustReopen limit is = absurd cc
@@ -73,7 +73,7 @@ limit_of (StoreError.Damaged damage) limit is = absurd cc
 limit_of (StoreError.OtherFlow kept found) limit is = absurd cc
 
 -- .. and want of memory, of a call that tells no damage
-pub memory_of : (e : StoreError) → IsDiskOrMemory e ⊎ (e ≡ StoreError.MustReopen) → error_of e ≡ EngineError.Memory → e ≡ StoreError.Memory
+pub memory_of : (e : StoreError) → IsDiskOrMemory e ⊎ (e ≡ StoreError.MustReopen) → engine_error e ≡ EngineError.Memory → e ≡ StoreError.Memory
 memory_of StoreError.Disk kind is = absurd cc
 memory_of StoreError.Memory kind is = refl
 memory_of StoreError.MustReopen kind is = absurd cc
@@ -172,7 +172,7 @@ passes s x limit was may is =
     let placed : x.settled.placed ≡ [] = ap (λ (t : Settled). t.placed) may.expires.as_session in
     inr (
       expiry_live (kept_by s) x.connection x.settled was may.expires,
-      inr (subst (λ (placed : List Placed). HasRoom s.slots (fresh_sizes_of placed)) (sym placed) tt, is),
+      inr (subst (λ (placed : List Placed). SlotsHaveRoom s.slots (fresh_sizes_of placed)) (sym placed) tt, is),
     )
 
 pub refuses : {D : Type 0} (flow : Flow) (tells : Bool) (held : D → Files) (moment : D → ℕ) (images : D → ℕ → Files → Type 0) (s : StoreState) (x : SettledExpiry) (limit : Limit) (disk : D)

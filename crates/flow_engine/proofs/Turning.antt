@@ -19,7 +19,7 @@ use Rattle.flow_run.specs.Turns.{ComesNext}
 use Rattle.flow_run.specs.Work.{IsReadDamaged}
 use Rattle.flow_engine.specs.Engine.{EngineState, IsOfSameRun}
 use Rattle.flow_engine.specs.Errors.{CountsEachFault, OnlyReads, Reopens}
-use Rattle.flow_engine.specs.Handing.{IsHanded}
+use Rattle.flow_engine.specs.Handing.{JobIsHanded}
 use Rattle.flow_engine.specs.Running.{IsLimited, IsRunning}
 use Rattle.flow_engine.specs.declared.error.EngineError.{EngineError}
 use Rattle.flow_engine.specs.declared.error.EngineError.TheVariants.{Damaged, Disk, Inbox, Outbox, Limit, MustReopen, Memory}
@@ -134,7 +134,7 @@ moment_given moment there (taking.Generate index) = refl
 moment_given moment there (taking.Receive name) = refl
 
 -- the work on a session's job is of the moment at which it came next
-pub moment_of_work : (k : Kept) (moment : ℕ) (choice : Choice) (job : Job) (given : Given) → IsHanded k moment choice job → KeepsGiven job.given given → given.moment ≡ moment
+pub moment_of_work : (k : Kept) (moment : ℕ) (choice : Choice) (job : Job) (given : Given) → JobIsHanded k moment choice job → KeepsGiven job.given given → given.moment ≡ moment
 moment_of_work k moment choice job given handed kept =
     ap (λ (g : Given). g.moment) kept.but_bytes ∙ ap (λ (g : Given). g.moment) handed.given ∙ moment_given moment job.given.there choice.taking
 

@@ -12,17 +12,17 @@ use Rattle.machine_model.specs.declared.kind.Kind.TheVariants.{GetFile}
 use Rattle.machine_model.specs.Acting.{received}
 use Rattle.machine_model.specs.Kinds.{take_rule_of}
 use Rattle.machine_model.specs.Laws.{MayTake, received_name}
-use Rattle.process_session.specs.Bench.{source_of}
+use Rattle.process_session.specs.Bench.{taken_source}
 use Rattle.process_session.specs.declared.file.Source.{Source}
 use Rattle.process_session.specs.declared.file.Taken.{Taken}
 use Rattle.processor_api.specs.Acts.{IsOutcomeOf, KeepsGiven}
-use Rattle.engine_session.specs.Handing.{live_files, taken_as, taken_from}
+use Rattle.engine_session.specs.Handing.{live_files, taken_as, taken_with_contents}
 use Rattle.engine_session.specs.Working.{IsWorkOf}
 use Rattle.engine_choice.specs.Laws.{given_for}
 use Rattle.engine_choice.specs.declared.choice.Taking.{Taking}
 use Rattle.engine_choice.specs.declared.choice.Taking.TheVariants.{Files, Generate, Receive}
-use Rattle.flow_engine.specs.Done.{IsDone, IsSame, IsWorkOn, ReceivesAs, first_made}
-use Rattle.flow_engine.specs.Handing.{HasBytes, IsHanded}
+use Rattle.flow_engine.specs.Done.{WorkIsDone, IsSame, IsWorkOn, ReceivesAs, first_made}
+use Rattle.flow_engine.specs.Handing.{HasBytes, JobIsHanded}
 use Rattle.flow_engine.specs.Job.{MayHand}
 use Rattle.flow_engine.specs.declared.done.Done.{Done}
 use Rattle.flow_engine.specs.declared.job.Job.{Job}
@@ -35,7 +35,7 @@ bytes_by moment (Receive name) given is has none = let both : Some name ≡ None
 bytes_by moment (Files connection numbers) given is has none = has
 bytes_by moment (Generate index) given is has none = has
 
-pub none_given : (k : Kept) (moment : ℕ) (choice : _) (job : Job) → IsHanded k moment choice job → job.given.file ≡ None → job.given.bytes ≡ None
+pub none_given : (k : Kept) (moment : ℕ) (choice : _) (job : Job) → JobIsHanded k moment choice job → job.given.file ≡ None → job.given.bytes ≡ None
 none_given k moment choice job handed none = bytes_by moment choice.taking job.given handed.given handed.has none
 
 -- ---- what was taken, by what stays of it
@@ -43,7 +43,7 @@ none_given k moment choice job handed none = bytes_by moment choice.taking job.g
 abbrev bytes_in : List Source → List (Option (List ℕ))
 bytes_in sources = map (λ source. source.bytes) sources
 
-same_taken : (store : ℕ) (files : List FlowFile) (contents : List (Option (List ℕ))) → taken_from store files (bytes_in (map source_of (taken_from store files contents))) ≡ taken_from store files contents
+same_taken : (store : ℕ) (files : List FlowFile) (contents : List (Option (List ℕ))) → taken_with_contents store files (bytes_in (map taken_source (taken_with_contents store files contents))) ≡ taken_with_contents store files contents
 same_taken store [] [] = refl
 same_taken store [] (c ∷ contents) = refl
 same_taken store (file ∷ files) [] = refl
@@ -77,7 +77,7 @@ by_kind : (kind : Kind) (name : List ℕ) (count : ℕ) (given : Given) (outcome
 by_kind (GetFile filter) name count given outcome is rule file acts = made_so given.file given.bytes name outcome file (acts rule [] tt)
 by_kind kind name count given outcome is rule file acts = absurd cc
 
-module _ (flow : Flow) (store : ℕ) (k : Kept) (done : Done) (again : Job) (of : IsDone flow store done) (same : IsSame done again) (hand : MayHand flow k again)
+module _ (flow : Flow) (store : ℕ) (k : Kept) (done : Done) (again : Job) (of : WorkIsDone flow store done) (same : IsSame done again) (hand : MayHand flow k again)
     (none : again.given.file ≡ None → again.given.bytes ≡ None) where
   abbrev first : Job
   first = of.job
@@ -91,14 +91,14 @@ module _ (flow : Flow) (store : ℕ) (k : Kept) (done : Done) (again : Job) (of 
   found : slice_get flow.processors first.processor ≡ Some hand.processor
   found = ap (slice_get flow.processors) (sym work.processor ∙ same.processor) ∙ hand.found
 
-  at_work : IsWorkOf hand.processor.kind (taken_from store first.files first.contents) first.given (done.outcome, done.sources)
+  at_work : IsWorkOf hand.processor.kind (taken_with_contents store first.files first.contents) first.given (done.outcome, done.sources)
   at_work = work.work hand.processor found
 
-  taken_are : taken_from store first.files first.contents ≡ taken_from store again.files again.contents
+  taken_are : taken_with_contents store first.files first.contents ≡ taken_with_contents store again.files again.contents
   taken_are =
       sym (same_taken store first.files first.contents)
-      ∙ ap (λ (sources : List Source). taken_from store first.files (bytes_in sources)) (sym at_work.sources)
-      ∙ (λ i. taken_from store (files_are i) (same.contents i))
+      ∙ ap (λ (sources : List Source). taken_with_contents store first.files (bytes_in sources)) (sym at_work.sources)
+      ∙ (λ i. taken_with_contents store (files_are i) (same.contents i))
 
   but_bytes : record first.given { bytes = None } ≡ record again.given { bytes = None }
   but_bytes = sym (ap (λ (g : Given). record g { bytes = None }) work.given.but_bytes) ∙ same.given
@@ -106,8 +106,8 @@ module _ (flow : Flow) (store : ℕ) (k : Kept) (done : Done) (again : Job) (of 
   file_is : first.given.file ≡ again.given.file
   file_is = ap (λ (g : Given). g.file) but_bytes
 
-  none_taken : length again.numbers ≡ 0 → taken_from store first.files first.contents ≡ []
-  none_taken is = taken_are ∙ ap (λ (files : List FlowFile). taken_from store files again.contents) (hand.taken.are ∙ ap (live_files k) (no_numbers again.numbers is))
+  none_taken : length again.numbers ≡ 0 → taken_with_contents store first.files first.contents ≡ []
+  none_taken is = taken_are ∙ ap (λ (files : List FlowFile). taken_with_contents store files again.contents) (hand.taken.are ∙ ap (live_files k) (no_numbers again.numbers is))
 
   bytes_are : first.given.bytes ≡ again.given.bytes
   bytes_are = by again.given.file refl
@@ -133,7 +133,7 @@ module _ (flow : Flow) (store : ℕ) (k : Kept) (done : Done) (again : Job) (of 
     numbers = same.numbers;
     files = same.files;
     given = subst (λ (g : Given). KeepsGiven g done.given) given_is work.given;
-    work = λ processor at. subst (λ (g : Given). IsWorkOf processor.kind (taken_from store again.files again.contents) g (done.outcome, done.sources)) given_is
+    work = λ processor at. subst (λ (g : Given). IsWorkOf processor.kind (taken_with_contents store again.files again.contents) g (done.outcome, done.sources)) given_is
         (subst (λ (taken : List Taken). IsWorkOf processor.kind taken first.given (done.outcome, done.sources)) taken_are
         (work.work processor (ap (slice_get flow.processors) (sym work.processor ∙ same.processor) ∙ at)));
   }

@@ -20,7 +20,7 @@ use Rattle.flow_run.specs.Run.{StandsFor}
 use Rattle.flow_run.specs.Work.{IsAtWork}
 use Rattle.flow_engine.specs.Change.{with_sending}
 use Rattle.flow_engine.specs.Committing.{HasWritten, IsLeftBySend, with_room}
-use Rattle.flow_engine.specs.Errors.{error_of}
+use Rattle.flow_engine.specs.Errors.{engine_error}
 use Rattle.flow_engine.specs.declared.change.Changed.{Changed}
 use Rattle.flow_engine.specs.declared.error.EngineError.{EngineError}
 use Rattle.flow_engine.specs.declared.error.EngineError.TheVariants.{Disk, Limit, Memory, Outbox}
@@ -92,9 +92,9 @@ module _ {D : Type 0} (tells : Bool) (held : D → Files) (moment : D → ℕ) (
   })
 
 -- a store that works and refuses a commit met a failure of its disk
-pub refused_by_disk : (error : StoreError) → IsDiskOrReopen error → error_of error ≡ Disk
-refused_by_disk error (inl disk) = ap error_of disk
-refused_by_disk error (inr reopen) = ap error_of reopen
+pub refused_by_disk : (error : StoreError) → IsDiskOrReopen error → engine_error error ≡ Disk
+refused_by_disk error (inl disk) = ap engine_error disk
+refused_by_disk error (inr reopen) = ap engine_error reopen
 
 -- what a commit leaves of the store as it was before the preparation
 pub lot_after : (p : PreparedChange) (s t u : StoreState) (room : ℕ) → t ≡ with_room room s → HasChange p t u → (u.lot ≡ s.lot) × (u.log.number ≡ s.log.number)

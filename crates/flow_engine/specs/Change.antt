@@ -14,11 +14,11 @@ use Rattle.machine_model.specs.Stepping.{step, without_name}
 use Rattle.machine_model.specs.Valid.{IsValid}
 use Rattle.engine_choice.specs.Choice.{coming_of}
 use Rattle.engine_session.specs.Handing.{AreTaken}
-use Rattle.flow_run.specs.Journal.{files_left}
+use Rattle.flow_run.specs.Journal.{inbox_left}
 use Rattle.flow_run.specs.Puts.{IsPutBy, Outgoing}
-use Rattle.flow_run.specs.Run.{IsPut, IsStateOf}
+use Rattle.flow_run.specs.Run.{IsPutStep, IsStateOf}
 use Rattle.flow_run.specs.Turns.{ComesNext}
-use Rattle.flow_engine.specs.Job.{StandsIn}
+use Rattle.flow_engine.specs.Job.{JobStandsIn}
 use Rattle.flow_engine.specs.declared.change.Changed.{Changed}
 use Rattle.flow_engine.specs.declared.change.Sending.{Sending}
 use Rattle.flow_engine.specs.declared.job.Job.{Job}
@@ -51,7 +51,7 @@ step_of job = Session job.processor job.numbers job.given.moment (without_bytes 
 -- what is sent is what this session of a PutFile puts
 abbrev pub IsSentBy : Flow → Machine → Step → Option Sending → Type 0
 IsSentBy flow before one None = ⊤
-IsSentBy flow before one (Some sending) = IsPut flow before one sending.name
+IsSentBy flow before one (Some sending) = IsPutStep flow before one sending.name
 
 -- It is the step that comes next. Behind it the state is that behind the change; the inbox has lost the file that the
 -- session was given, if one, and the outbox has what it sends.
@@ -61,7 +61,7 @@ pub record IsStepOf (flow : Flow) (last : Option ℕ) (contents : ContentRef →
   pub goes : step flow before (step_of job) ≡ Some after
   pub comes : ComesNext flow last before (step_of job)
   pub state : state_after contents before.state changed.settled ≡ after.state
-  pub inbox : files_left after.world ≡ without_received job.given.file (files_left before.world)
+  pub inbox : inbox_left after.world ≡ without_received job.given.file (inbox_left before.world)
   pub coming : coming_of after.world ≡ names_without job.given.file (coming_of before.world)
   pub outbox : (out : Outgoing) → out.standing ≡ before.world.outbox
       → IsPutBy flow before (step_of job) after out (with_sending changed.sending out)
@@ -72,7 +72,7 @@ pub record IsStepOf (flow : Flow) (last : Option ℕ) (contents : ContentRef →
 abbrev pub MakesStep : Flow → Kept → Job → Changed → Type 0
 MakesStep flow k job changed =
     (last : Option ℕ) (contents : ContentRef → List ℕ) (before : Machine) → HaveRanges contents
-    → IsStateOf before contents k → IsValid flow before.state → StandsIn flow last k contents before job
+    → IsStateOf before contents k → IsValid flow before.state → JobStandsIn flow last k contents before job
     → IsStepOf flow last contents before job changed
 
 -- where the files of its job stand so, each placed content that is in the store has the digest of its bytes

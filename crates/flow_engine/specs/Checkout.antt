@@ -34,24 +34,24 @@ session_in e moment = choice_behind (due_in e moment) (choice_in e moment)
 abbrev pub ending_in : EngineState → (moment : ℕ) → Ending
 ending_in e moment = ending_of e.flow (queue_seen e.queues) (kept_by e.store).counts e.listing.names moment
 
-abbrev pub ended_as : Ending → Checkout
-ended_as (ending.Rest until) = Rest until
-ended_as (ending.Blocked connection) = Blocked connection
-ended_as ending.Quiet = Quiet
+abbrev pub checkout_of_ending : Ending → Checkout
+checkout_of_ending (ending.Rest until) = Rest until
+checkout_of_ending (ending.Blocked connection) = Blocked connection
+checkout_of_ending ending.Quiet = Quiet
 
 -- a session, where the journal has room for its entry, or why none comes
 abbrev pub next_of : (entries most : ℕ) → Option Choice → Ending → Checkout
-next_of entries most None end = ended_as end
+next_of entries most None end = checkout_of_ending end
 next_of entries most (Some choice) end = if nat_lt entries most then Session choice else Limit (journal_full most)
 
 -- what is due comes before that
-abbrev pub next_behind : Option WhatIsDue → Checkout → Checkout
-next_behind None next = next
-next_behind (Some due) next = Due
+abbrev pub due_or_next : Option WhatIsDue → Checkout → Checkout
+due_or_next None next = next
+due_or_next (Some due) next = Due
 
 abbrev pub checkout_in : EngineState → (moment : ℕ) → Checkout
 checkout_in e moment =
-    next_behind (due_in e moment) (next_of (length e.journal) e.most (choice_in e moment) (ending_in e moment))
+    due_or_next (due_in e moment) (next_of (length e.journal) e.most (choice_in e moment) (ending_in e moment))
 
 -- What is in memory is that of the flow, and the engine knows right what is due.
 pub record MayCheckOut (e : EngineState) : Type 0 where

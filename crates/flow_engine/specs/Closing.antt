@@ -20,8 +20,8 @@ use Rattle.flow_engine.specs.declared.error.EngineError.TheVariants.{Disk, MustR
 
 -- The journal is handed over, what the store keeps, how many names are left in the inbox and how many events there are of
 -- each kind. One image alone is left, and each claim that isn't empty has the content of a kept file.
-pub record IsClosed {D : Type 0} (tells : Bool) (held : D → Files) (moment : D → ℕ) (images : D → ℕ → Files → Type 0)
-    (e : EngineState) (new : D) (closed : Closed) : Type 0 where
+pub record EngineIsClosed {D : Type 0} (tells : Bool) (held : D → Files) (moment : D → ℕ)
+    (images : D → ℕ → Files → Type 0) (e : EngineState) (new : D) (closed : Closed) : Type 0 where
   pub journal : closed.journal ≡ e.journal
   pub state : kept_of closed.state ≡ kept_by e.store
   pub left : closed.left ≡ length e.listing.names + e.listing.too_large

@@ -42,7 +42,7 @@ StandsOtherwise tells in_tells out_tells e contents left standing done =
 
 -- The journal has one entry more, the session, acknowledged at this moment; the file that it received is no longer to
 -- come, and its processor got the last session.
-pub record IsAcknowledged (done : Done) (at : ℕ) (old new : EngineState) : Type 0 where
+pub record SessionIsAcknowledged (done : Done) (at : ℕ) (old new : EngineState) : Type 0 where
   pub journal : new.journal ≡ old.journal ++ record { step = step_done done; acked = Some at } ∷ []
   pub names : new.listing.names ≡ names_without done.given.file old.listing.names
   pub last : new.last ≡ Some done.processor
@@ -67,16 +67,16 @@ IsCutOff done old new =
 -- not acknowledged; where the inbox failed, acknowledged by now; and at any other refusal all is as it was.
 abbrev pub IsJournaled : Result Committed EngineError → Done → (now : ℕ) → (old new : EngineState) → Type 0
 IsJournaled (Ok (Acked entry moment)) done now old new =
-    (entry ≡ length old.journal) × (moment ≡ now) × IsAcknowledged done moment old new
+    (entry ≡ length old.journal) × (moment ≡ now) × SessionIsAcknowledged done moment old new
 IsJournaled (Err Disk) done now old new = IsUnjournaled old new ⊎ IsCutOff done old new
-IsJournaled (Err Inbox) done now old new = IsUnjournaled old new ⊎ IsAcknowledged done now old new
+IsJournaled (Err Inbox) done now old new = IsUnjournaled old new ⊎ SessionIsAcknowledged done now old new
 IsJournaled _ done now old new = IsUnjournaled old new
 
 -- the same of work whose job stands
 abbrev pub IsEntered : Result ℕ EngineError → Done → (now : ℕ) → (old new : EngineState) → Type 0
-IsEntered (Ok moment) done now old new = (moment ≡ now) × IsAcknowledged done moment old new
+IsEntered (Ok moment) done now old new = (moment ≡ now) × SessionIsAcknowledged done moment old new
 IsEntered (Err Disk) done now old new = IsUnjournaled old new ⊎ IsCutOff done old new
-IsEntered (Err Inbox) done now old new = IsAcknowledged done now old new
+IsEntered (Err Inbox) done now old new = SessionIsAcknowledged done now old new
 IsEntered _ done now old new = IsUnjournaled old new
 
 -- what the inbox has then: the file that was received goes where it is acknowledged

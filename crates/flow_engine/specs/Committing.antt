@@ -22,7 +22,7 @@ use Rattle.flow_run.specs.Work.{IsAtWork}
 use Rattle.flow_engine.specs.declared.change.Sending.{Sending}
 
 -- a store at work for a flow, and the queues of what it keeps
-pub record IsQueued {D : Type 0} (flow : Flow) (tells : Bool) (held : D → Files) (moment : D → ℕ)
+pub record IsAtWorkWithQueues {D : Type 0} (flow : Flow) (tells : Bool) (held : D → Files) (moment : D → ℕ)
     (images : D → ℕ → Files → Type 0) (s : StoreState) (queues : List QueueState) (disk : D) : Type 0 where
   pub work : IsAtWork flow tells held moment images s disk
   pub are : AreQueuesOf flow (kept_by s) queues
@@ -32,14 +32,14 @@ abbrev pub with_room : ℕ → StoreState → StoreState
 with_room room s = record s { memory = record { kept = kept_by s; room = room } }
 
 -- It was put, in vain: under its name may stand anything.
-pub record IsTried (sending : Sending) (old new : Outgoing) : Type 0 where
+pub record PutIsTried (sending : Sending) (old new : Outgoing) : Type 0 where
   pub others : (other : List ℕ) → other ≢ sending.name → new.standing other ≡ old.standing other
   pub puts : new.puts ≡ (with_sending (Some sending) old).puts
 
 -- what the outbox has where it failed as this was put: all is as it was, or it was tried
 abbrev pub IsLeftBySend : Option Sending → (old new : Outgoing) → Type 0
 IsLeftBySend None old new = ⊥
-IsLeftBySend (Some sending) old new = (new ≡ old) ⊎ IsTried sending old new
+IsLeftBySend (Some sending) old new = (new ≡ old) ⊎ PutIsTried sending old new
 
 -- What is left where a change was sent and committed, and why it wasn't. Any error but the disk's comes before the commit,
 -- and any but these two devices' before the put.
@@ -67,5 +67,6 @@ pub record HasWritten {D : Type 0} (result : Result ℕ EngineError) (tells : Bo
   pub kinds : IfErr result (λ error. (error ≡ Disk) ⊎ (error ≡ Memory) ⊎ (error ≡ Outbox)
       ⊎ ((limit : TheLimit) × (error ≡ Limit limit)))
   pub work : (IsErrOf result Disk → ⊥) → (flow : Flow)
-      → IsQueued flow tells held moment images s queues old → IsQueued flow tells held moment images t now_queues new
+      → IsAtWorkWithQueues flow tells held moment images s queues old
+      → IsAtWorkWithQueues flow tells held moment images t now_queues new
   pub lot : (t.lot ≡ s.lot) × (t.log.number ≡ s.log.number)

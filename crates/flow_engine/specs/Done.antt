@@ -8,14 +8,14 @@ use Rattle.machine_model.specs.declared.given.Given.{Given}
 use Rattle.machine_model.specs.declared.journal.Step.{Step}
 use Rattle.machine_model.specs.declared.journal.Step.TheVariants.{Session}
 use Rattle.processor_api.specs.Acts.{KeepsGiven}
-use Rattle.engine_session.specs.Handing.{taken_from}
+use Rattle.engine_session.specs.Handing.{taken_with_contents}
 use Rattle.engine_session.specs.Working.{IsWorkAt, MayWork}
 use Rattle.flow_engine.specs.declared.done.Done.{Done}
 use Rattle.flow_engine.specs.declared.job.Job.{Job}
 
 -- the job's processor may be handed it, by a store of this id; bytes it is given for a file that it receives alone
 abbrev pub MayWorkOn : Flow → (store : ℕ) → Job → Type 0
-MayWorkOn flow store job = MayWork flow job.processor (taken_from store job.files job.contents) job.given
+MayWorkOn flow store job = MayWork flow job.processor (taken_with_contents store job.files job.contents) job.given
 
 -- It is what the job's processor makes of it, by the definition, and what stays of what it was handed.
 pub record IsWorkOn (flow : Flow) (store : ℕ) (job : Job) (done : Done) : Type 0 where
@@ -24,10 +24,11 @@ pub record IsWorkOn (flow : Flow) (store : ℕ) (job : Job) (done : Done) : Type
   pub numbers : done.numbers ≡ job.numbers
   pub files : done.files ≡ job.files
   pub given : KeepsGiven job.given done.given
-  pub work : IsWorkAt flow job.processor (taken_from store job.files job.contents) job.given (done.outcome, done.sources)
+  pub work : IsWorkAt flow job.processor (taken_with_contents store job.files job.contents) job.given
+      (done.outcome, done.sources)
 
 -- It is the work on some job, which was given bytes for a file that it received alone.
-pub record IsDone (flow : Flow) (store : ℕ) (done : Done) : Type 0 where
+pub record WorkIsDone (flow : Flow) (store : ℕ) (done : Done) : Type 0 where
   pub job : Job
   pub none : job.given.file ≡ None → job.given.bytes ≡ None
   pub work : IsWorkOn flow store job done

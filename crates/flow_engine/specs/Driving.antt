@@ -12,7 +12,7 @@ use Rattle.engine_queues.specs.Laws.{SeesTheSame}
 use Rattle.engine_queues.specs.Queues.{queue_seen}
 use Rattle.store_core.specs.Store.{kept_by}
 use Rattle.flow_run.specs.Puts.{Outgoing, Start}
-use Rattle.flow_run.specs.Turns.{moment_of}
+use Rattle.flow_run.specs.Turns.{step_moment}
 use Rattle.flow_engine.specs.Engine.{EngineState}
 use Rattle.flow_engine.specs.Running.{IsRunning, IsRunningTo}
 
@@ -43,4 +43,4 @@ IsTurned moment images e opened first start time now left out (Some ending) =
 -- a turn's journal has one entry more at most, of a step that was made at this moment
 abbrev pub GrowsAt : (moment : ℕ) → (old new : List Entry) → Type 0
 GrowsAt moment old new =
-    (new ≡ old) ⊎ ((entry : Entry) × (moment_of entry.step ≡ moment) × (new ≡ old ++ entry ∷ []))
+    (new ≡ old) ⊎ ((entry : Entry) × (step_moment entry.step ≡ moment) × (new ≡ old ++ entry ∷ []))

@@ -31,13 +31,13 @@ ended_by Memory = ended.Fault fault.Memory
 
 -- what a refusal of the store means: one that has to be opened anew met a failure of the disk before, and of a store
 -- that was opened no call asks for another flow
-abbrev pub error_of : StoreError → EngineError
-error_of store.Disk = Disk
-error_of store.MustReopen = Disk
-error_of store.Memory = Memory
-error_of (store.Limit limit) = Limit limit
-error_of (store.Damaged damage) = Damaged damage
-error_of (store.OtherFlow kept found) = Memory
+abbrev pub engine_error : StoreError → EngineError
+engine_error store.Disk = Disk
+engine_error store.MustReopen = Disk
+engine_error store.Memory = Memory
+engine_error (store.Limit limit) = Limit limit
+engine_error (store.Damaged damage) = Damaged damage
+engine_error (store.OtherFlow kept found) = Memory
 
 abbrev pub inbox_error_of : WorldError → EngineError
 inbox_error_of world.Failed = Inbox
@@ -99,7 +99,7 @@ pub record RefusesToTend {D A : Type 0} (result : Result A EngineError) (tells :
 
 -- How `read` refuses: so, by no limit, by damage that a live content has on a disk that doesn't tell, and by a device only
 -- where it failed.
-pub record RefusesToRead {D I O A : Type 0} (result : Result A EngineError) (tells : Bool) (held : D → Files)
+pub record EngineRefusesToRead {D I O A : Type 0} (result : Result A EngineError) (tells : Bool) (held : D → Files)
     (moment : D → ℕ) (images : D → ℕ → Files → Type 0) (faults : D → ℕ) (in_faults : I → ℕ) (out_faults : O → ℕ)
     (e_old e_new : EngineState) (old new : D) (in_old in_new : I) (out_old out_new : O) : Type 0 where
   pub reopen : Reopens {W = D × I × O} result e_old e_new (old, in_old, out_old) (new, in_new, out_new)

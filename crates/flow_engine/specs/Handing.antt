@@ -6,7 +6,7 @@ use Rattle.flowfile_record.specs.Stored.{Kept}
 use Rattle.flowfile_record.specs.declared.TheConstants.{CONTENT_MAX}
 use Rattle.flowfile_record.specs.declared.content.ContentRef.{ContentRef}
 use Rattle.flowfile_record.specs.declared.flow_file.FlowFile.{FlowFile}
-use Rattle.kept_state.specs.Fits.{are_active_in, are_distinct}
+use Rattle.kept_state.specs.Fits.{are_active_in, are_distinct_numbers}
 use Rattle.machine_model.specs.Changing.{queued_file}
 use Rattle.machine_model.specs.State.{World}
 use Rattle.machine_model.specs.Stepping.{is_there}
@@ -27,7 +27,7 @@ received_in _ = None
 -- the files that it takes are live ones of their connection, each once
 abbrev pub MayBeTaken : Kept → Taking → Type 0
 MayBeTaken k (Files connection numbers) =
-    (are_active_in k.files connection numbers ≡ true) × (are_distinct numbers ≡ true)
+    (are_active_in k.files connection numbers ≡ true) × (are_distinct_numbers numbers ≡ true)
 MayBeTaken k _ = ⊤
 
 -- the file that it receives is left, and no longer than a content may be
@@ -59,7 +59,7 @@ connection_in (Files connection numbers) = connection
 connection_in _ = 0
 
 -- The job is that of the choice, and its files are those of its numbers, read.
-pub record IsHanded (k : Kept) (moment : ℕ) (choice : Choice) (job : Job) : Type 0 where
+pub record JobIsHanded (k : Kept) (moment : ℕ) (choice : Choice) (job : Job) : Type 0 where
   pub processor : job.processor ≡ choice.processor
   pub connection : job.connection ≡ connection_in choice.taking
   pub numbers : job.numbers ≡ numbers_in choice.taking

@@ -21,7 +21,7 @@ use Rattle.engine_session.specs.Working.{is_built}
 use Rattle.flow_run.specs.Turns.{ComesNext}
 use Rattle.flow_engine.specs.Checkout.{session_in}
 use Rattle.flow_engine.specs.Engine.{EngineState}
-use Rattle.flow_engine.specs.Handing.{IsHanded, IsHandedAs}
+use Rattle.flow_engine.specs.Handing.{JobIsHanded, IsHandedAs}
 use Rattle.flow_engine.specs.declared.job.Job.{Job}
 
 -- The processor at its place may be handed this: as many files as its rule takes, live ones of one connection, read
@@ -39,7 +39,7 @@ pub record MayHand (flow : Flow) (k : Kept) (job : Job) : Type 0 where
 
 -- Where references stand for these bytes, it stands so in the machine's state and world: the session is the one that
 -- comes next behind this last worker, its rules let it take these files, and what it is given is what stands.
-pub record StandsIn (flow : Flow) (last : Option ℕ) (k : Kept) (contents : ContentRef → List ℕ) (before : Machine)
+pub record JobStandsIn (flow : Flow) (last : Option ℕ) (k : Kept) (contents : ContentRef → List ℕ) (before : Machine)
     (job : Job) : Type 0
   where
     pub processor : Processor
@@ -58,6 +58,6 @@ pub record IsNextJob (tells in_tells out_tells : Bool) (e : EngineState) (conten
     (left : List NamedFile) (standing : List ℕ → Option (List ℕ)) (moment : ℕ) (job : Job) : Type 0 where
   pub choice : Choice
   pub chosen : session_in e moment ≡ Some choice
-  pub handed : IsHanded (kept_by e.store) moment choice job
+  pub handed : JobIsHanded (kept_by e.store) moment choice job
   pub told : IsHandedAs tells in_tells out_tells (kept_by e.store) contents left standing choice job
   pub may : MayHand e.flow (kept_by e.store) job

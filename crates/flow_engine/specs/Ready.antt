@@ -27,16 +27,16 @@ pub data Due : Type 0 where
   Claims : Due
 
 -- which of these comes first
-abbrev pub first_of : (expired log claims : Bool) → Option Due
-first_of true log claims = Some Expiry
-first_of false true claims = Some Log
-first_of false false true = Some Claims
-first_of false false false = None
+abbrev pub due_first : (expired log claims : Bool) → Option Due
+due_first true log claims = Some Expiry
+due_first false true claims = Some Log
+due_first false false true = Some Claims
+due_first false false false = None
 
 -- what is due first at this moment
 abbrev pub due_in : EngineState → (moment : ℕ) → Option Due
 due_in e moment =
-    first_of (is_some (due_expiry e.flow (queue_seen e.queues) moment)) (is_log_due e.checkpoint e.store)
+    due_first (is_some (due_expiry e.flow (queue_seen e.queues) moment)) (is_log_due e.checkpoint e.store)
     (is_reclaim_due e.since_reclaim)
 
 -- what was due where this was done
@@ -53,8 +53,8 @@ KnowsDue e = (moment : ℕ) → e.tended ≡ Some moment → due_in e moment ≡
 -- ---- between two calls
 
 -- It works, and its queues are those of what its store keeps.
-pub record IsReady {D : Type 0} (tells : Bool) (held : D → Files) (moment : D → ℕ) (images : D → ℕ → Files → Type 0)
-    (e : EngineState) (disk : D) : Type 0 where
+pub record EngineIsReady {D : Type 0} (tells : Bool) (held : D → Files) (moment : D → ℕ)
+    (images : D → ℕ → Files → Type 0) (e : EngineState) (disk : D) : Type 0 where
   pub sound : IsSound e.flow
   pub built : AreBuilt e.flow
   pub work : IsAtWork e.flow tells held moment images e.store disk
@@ -68,7 +68,7 @@ pub record IsReady {D : Type 0} (tells : Bool) (held : D → Files) (moment : D 
 -- so it is, unless its store must be opened anew
 abbrev pub IsUsable : {D : Type 0} → (tells : Bool) → (D → Files) → (D → ℕ) → (D → ℕ → Files → Type 0) → EngineState
     → (disk : D) → Type 0
-IsUsable tells held moment images e disk = e.failed ≡ false → IsReady tells held moment images e disk
+IsUsable tells held moment images e disk = e.failed ≡ false → EngineIsReady tells held moment images e disk
 
 -- .. and the files that are to come can be taken
 pub record IsUsableWith {D : Type 0} (tells : Bool) (held : D → Files) (moment : D → ℕ)

@@ -56,9 +56,9 @@ pub record HasExpired (moment : ℕ) (acked : Option ℕ) (old new : EngineState
       ≡ old.journal ++ record { step = Expire connection numbers moment; acked = acked } ∷ []
 
 -- the step was done, ..
-abbrev pub IsDone : {D : Type 0} → Flow → (D → ℕ) → (D → ℕ → Files → Type 0) → (lot : ℕ) → Machine → Step
+abbrev pub StepIsDone : {D : Type 0} → Flow → (D → ℕ) → (D → ℕ → Files → Type 0) → (lot : ℕ) → Machine → Step
     → (old new : D) → Type 0
-IsDone flow moment images lot before one old new =
+StepIsDone flow moment images lot before one old new =
     GoesTo flow before one (λ after. IsStepped flow moment images lot before after old new)
 
 -- .. or it was cut off

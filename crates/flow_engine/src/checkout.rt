@@ -3,7 +3,7 @@ ghost use Rattle.std.specs.Prelude.{◌≡◌, ◌⊎◌, ◌↔◌, ◌-◌, �
 ghost use Rattle.engine_choice.specs.Choice.{MayChoose};
 ghost use Rattle.flow_run.specs.Ending.{journal_full};
 ghost use Rattle.store_core.specs.Store.{kept_by};
-ghost use Rattle.flow_engine.specs.Checkout.{MayCheckOut, checkout_in, choice_in, ending_in, ended_as, session_in};
+ghost use Rattle.flow_engine.specs.Checkout.{MayCheckOut, checkout_in, choice_in, ending_in, checkout_of_ending, session_in};
 ghost use Rattle.flow_engine.specs.Ready.{due_in};
 ghost use Rattle.flow_engine.specs.declared.error.EngineError.TheVariants.{Memory, MustReopen};
 
@@ -142,7 +142,7 @@ impl Engine<'_> {
 }
 
 impl From<Ending> for Checkout {
-    ghost from_gives = { λ ending next. next ≡ ended_as ending };
+    ghost from_gives = { λ ending next. next ≡ checkout_of_ending ending };
 
     fn from(ending: Ending) -> Checkout {
         match ending {

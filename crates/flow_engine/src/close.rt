@@ -7,7 +7,7 @@ ghost use Rattle.store_core.specs.Flow.{flow_in};
 ghost use Rattle.store_core.specs.State.{stands_for};
 ghost use Rattle.store_core.specs.Store.{kept_by, live_in, EachStandsFor};
 ghost use Rattle.store_core.specs.Touched.{Frees};
-ghost use Rattle.flow_engine.specs.Closing.{IsClosed, RefusesToClose, ShowsState};
+ghost use Rattle.flow_engine.specs.Closing.{EngineIsClosed, RefusesToClose, ShowsState};
 ghost use Rattle.flow_run.specs.Run.{StandsFor};
 ghost use Rattle.flow_run.specs.Work.{IsAtWork, IsShortOn};
 
@@ -33,7 +33,7 @@ impl Engine<'_> {
     /// the same state.
     pub fn close<D: Disk>(self, disk: &mut D) -> Result<Closed, EngineError>
         requires work { self.failed ≡ false → IsAtWork self.flow D.tells D.held D.moment D.images self.store disk.old }
-        ensures closed { IfOk result (IsClosed D.tells D.held D.moment D.images self.entry disk.new) }
+        ensures closed { IfOk result (EngineIsClosed D.tells D.held D.moment D.images self.entry disk.new) }
         // Where the disk tells, the state that is handed over is the machine's.
         ensures shows { IfOk result (λ closed. IsTrue D.tells → (m : Machine)
             → InEach (D.images disk.old (D.moment disk.old)) (StandsFor self.entry.flow self.entry.store.lot m)

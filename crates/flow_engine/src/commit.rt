@@ -12,12 +12,12 @@ ghost use Rattle.machine_model.specs.declared.flow.Flow.{Flow as TheFlow};
 ghost use Rattle.store_core.specs.Change.{HasLiveContents, MayChange};
 ghost use Rattle.store_core.specs.Store.{kept_by};
 ghost use Rattle.flow_engine.specs.Commit.{CommitsAlone, IsEntered, IsInboxBehind, IsInboxLeft, IsJournaled, IsLeftOut, MakesEntry, StandsOtherwise, StandsSo, TakesWhatStands};
-ghost use Rattle.flow_engine.specs.Committing.{HasWritten, IsQueued};
-ghost use Rattle.flow_engine.specs.Done.{IsDone, step_done};
+ghost use Rattle.flow_engine.specs.Committing.{HasWritten, IsAtWorkWithQueues};
+ghost use Rattle.flow_engine.specs.Done.{WorkIsDone, step_done};
 ghost use Rattle.flow_engine.specs.Engine.{AreTakeable, IsOfSameRun};
 ghost use Rattle.flow_engine.specs.Errors.{CountsEachFault, HasCause, IsReadBy, RefusesToCommit};
 ghost use Rattle.flow_engine.specs.Journal.{journaled};
-ghost use Rattle.flow_engine.specs.Ready.{IsReady, IsUsableWith};
+ghost use Rattle.flow_engine.specs.Ready.{EngineIsReady, IsUsableWith};
 ghost use Rattle.flow_engine.specs.Running.{CommitsRun, IsRunning, Stops};
 ghost use Rattle.flow_run.specs.Work.{IsReadDamaged, WritesLog};
 ghost use Rattle.flow_engine.specs.declared.error.EngineError.{EngineError as TheError};
@@ -62,7 +62,7 @@ impl Engine<'_> {
         done: Done,
     ) -> Result<Committed, EngineError>
         requires usable { IsUsableWith D.tells D.held D.moment D.images I.tells (I.left inbox.old) self.old disk.old }
-        requires done { IsDone self.old.flow (kept_by self.old.store).store done }
+        requires done { WorkIsDone self.old.flow (kept_by self.old.store).store done }
         // Acknowledged, the journal has one entry more: this session. Else it is as it was, but at a failure of the disk
         // or the inbox.
         ensures entered { MakesEntry result done (D.moment disk.new) I.tells self.old self.new
@@ -101,10 +101,10 @@ impl Engine<'_> {
         outbox: &mut O,
         done: Done,
     ) -> Result<Committed, EngineError>
-        requires ready { IsReady D.tells D.held D.moment D.images self.old disk.old }
+        requires ready { EngineIsReady D.tells D.held D.moment D.images self.old disk.old }
         requires works { self.old.failed ≡ false }
         requires left { IsTrue I.tells → AreTakeable (I.left inbox.old) self.old.listing.names }
-        requires done { IsDone self.old.flow (kept_by self.old.store).store done }
+        requires done { WorkIsDone self.old.flow (kept_by self.old.store).store done }
         ensures journal { IsJournaled result done (D.moment disk.new) self.old self.new }
         ensures inbox { IsTrue I.tells
             → IsInboxBehind result done.given.file (I.left inbox.old) (I.left inbox.new) }
@@ -132,7 +132,7 @@ impl Engine<'_> {
             → Stops error D.tells D.held D.moment D.images self.new opened first start done.given.moment disk.new
             (I.left inbox.new) (outgoing O.standing O.puts outbox.new) }
         ensures ready { (IsErrOf result EngineError.Disk → ⊥)
-            → IsReady D.tells D.held D.moment D.images self.new disk.new }
+            → EngineIsReady D.tells D.held D.moment D.images self.new disk.new }
         ensures left { IsTrue I.tells → AreTakeable (I.left inbox.new) self.new.listing.names }
         ensures works { IsErrOf result EngineError.MustReopen → ⊥ }
         ensures failed { self.new.failed ≡ true → IsErrOf result EngineError.Outbox }
@@ -163,9 +163,9 @@ impl Engine<'_> {
         outbox: &mut O,
         done: &Done,
     ) -> Result<bool, EngineError>
-        requires ready { IsReady D.tells D.held D.moment D.images self.old disk.old }
+        requires ready { EngineIsReady D.tells D.held D.moment D.images self.old disk.old }
         requires left { IsTrue I.tells → AreTakeable (I.left inbox.old) self.old.listing.names }
-        requires done { IsDone self.old.flow (kept_by self.old.store).store done.now }
+        requires done { WorkIsDone self.old.flow (kept_by self.old.store).store done.now }
         ensures so { result ≡ Ok true
             → StandsSo D.tells I.tells O.tells self.old (content_in (D.held disk.old))
             (I.left inbox.old) (O.standing outbox.old) done.now }
@@ -201,7 +201,7 @@ impl Engine<'_> {
         outbox: &mut O,
         done: Done,
     ) -> Result<u64, EngineError>
-        requires ready { IsReady D.tells D.held D.moment D.images self.old disk.old }
+        requires ready { EngineIsReady D.tells D.held D.moment D.images self.old disk.old }
         requires works { self.old.failed ≡ false }
         requires left { IsTrue I.tells → AreTakeable (I.left inbox.old) self.old.listing.names }
         requires stands { StandsSo D.tells I.tells O.tells self.old
@@ -222,7 +222,7 @@ impl Engine<'_> {
             → Stops error D.tells D.held D.moment D.images self.new opened first start done.given.moment disk.new
             (I.left inbox.new) (outgoing O.standing O.puts outbox.new) }
         ensures ready { (IsErrOf result EngineError.Disk → ⊥)
-            → IsReady D.tells D.held D.moment D.images self.new disk.new }
+            → EngineIsReady D.tells D.held D.moment D.images self.new disk.new }
         ensures left { IsTrue I.tells → AreTakeable (I.left inbox.new) self.new.listing.names }
         ensures works { IsErrOf result EngineError.MustReopen → ⊥ }
         ensures failed { (self.new.failed ≡ true) ↔ IsErrOf result EngineError.Outbox }
@@ -266,7 +266,7 @@ impl Engine<'_> {
         step: Step,
     ) -> Result<u64, EngineError>
         requires work { (flow : TheFlow)
-            × IsQueued flow D.tells D.held D.moment D.images self.old.store self.old.queues disk.old }
+            × IsAtWorkWithQueues flow D.tells D.held D.moment D.images self.old.store self.old.queues disk.old }
         requires may { MayChange (kept_by self.old.store) changed.settled }
         requires live { HasLiveContents self.old.store changed.settled }
         requires digests { IsTrue D.tells → HaveDigests (content_in (D.held disk.old)) changed.settled.placed }

@@ -10,7 +10,7 @@ ghost use Rattle.flow_run.specs.Turns.{AreMadeAt};
 ghost use Rattle.flowfile_wal.specs.Calls.{InEach};
 ghost use Rattle.flow_engine.specs.Engine.{AreTakeable, IsOfSameRun};
 ghost use Rattle.flow_engine.specs.Errors.{CountsEachFault, HasCause};
-ghost use Rattle.flow_engine.specs.Ready.{IsReady, due_in};
+ghost use Rattle.flow_engine.specs.Ready.{EngineIsReady, due_in};
 ghost use Rattle.flow_engine.specs.Running.{IsRunning, Stops};
 ghost use Rattle.flow_run.specs.Work.{IsAtWork, IsNoEarlier, IsShortOn, WritesLog};
 ghost use Rattle.flow_engine.specs.declared.error.EngineError.{EngineError as TheError};
@@ -44,7 +44,7 @@ impl Engine<'_> {
         clock: &mut C,
         gate: &G,
     ) -> Result<Ending, EngineError>
-        requires ready { IsReady D.tells D.held D.moment D.images self.old disk.old }
+        requires ready { EngineIsReady D.tells D.held D.moment D.images self.old disk.old }
         requires works { self.old.failed ≡ false }
         requires left { IsTrue I.tells → AreTakeable (I.left inbox.old) self.old.listing.names }
         // The run went on until nothing was left to do, or it was stopped.
@@ -101,7 +101,7 @@ impl Engine<'_> {
         moment: u64,
         gate: &G,
     ) -> Result<Option<Ending>, EngineError>
-        requires ready { IsReady D.tells D.held D.moment D.images self.old disk.old }
+        requires ready { EngineIsReady D.tells D.held D.moment D.images self.old disk.old }
         requires works { self.old.failed ≡ false }
         requires left { IsTrue I.tells → AreTakeable (I.left inbox.old) self.old.listing.names }
         ensures turned { IfOk result (λ ending. IsTrue D.tells → IsTrue I.tells → IsTrue O.tells
@@ -118,7 +118,7 @@ impl Engine<'_> {
             (outgoing O.standing O.puts outbox.old)
             → Stops error D.tells D.held D.moment D.images self.new opened first start moment disk.new
             (I.left inbox.new) (outgoing O.standing O.puts outbox.new) }
-        ensures ready { OnOk result (IsReady D.tells D.held D.moment D.images self.new disk.new) }
+        ensures ready { OnOk result (EngineIsReady D.tells D.held D.moment D.images self.new disk.new) }
         ensures grows { GrowsAt moment self.old.journal self.new.journal }
         ensures failed { self.new.failed ≡ true → IsErrOf result EngineError.Disk ⊎ IsErrOf result EngineError.Outbox }
         ensures works { IsErrOf result EngineError.MustReopen → ⊥ }
@@ -147,7 +147,7 @@ impl Engine<'_> {
         moment: u64,
         gate: &G,
     ) -> Result<Option<Ending>, EngineError>
-        requires ready { IsReady D.tells D.held D.moment D.images self.old disk.old }
+        requires ready { EngineIsReady D.tells D.held D.moment D.images self.old disk.old }
         requires works { self.old.failed ≡ false }
         requires left { IsTrue I.tells → AreTakeable (I.left inbox.old) self.old.listing.names }
         requires tended { due_in self.old moment ≡ None }
@@ -166,7 +166,7 @@ impl Engine<'_> {
             (outgoing O.standing O.puts outbox.old)
             → Stops error D.tells D.held D.moment D.images self.new opened first start moment disk.new
             (I.left inbox.new) (outgoing O.standing O.puts outbox.new) }
-        ensures ready { OnOk result (IsReady D.tells D.held D.moment D.images self.new disk.new) }
+        ensures ready { OnOk result (EngineIsReady D.tells D.held D.moment D.images self.new disk.new) }
         ensures grows { GrowsAt moment self.old.journal self.new.journal }
         ensures failed { self.new.failed ≡ true → IsErrOf result EngineError.Disk ⊎ IsErrOf result EngineError.Outbox }
         ensures works { IsErrOf result EngineError.MustReopen → ⊥ }
@@ -212,7 +212,7 @@ impl Engine<'_> {
         choice: Choice,
         gate: &G,
     ) -> Result<(), EngineError>
-        requires ready { IsReady D.tells D.held D.moment D.images self.old disk.old }
+        requires ready { EngineIsReady D.tells D.held D.moment D.images self.old disk.old }
         requires works { self.old.failed ≡ false }
         requires chosen { session_in self.old moment ≡ Some choice }
         requires left { IsTrue I.tells → AreTakeable (I.left inbox.old) self.old.listing.names }
@@ -228,7 +228,7 @@ impl Engine<'_> {
             (outgoing O.standing O.puts outbox.old)
             → Stops error D.tells D.held D.moment D.images self.new opened first start moment disk.new
             (I.left inbox.new) (outgoing O.standing O.puts outbox.new) }
-        ensures ready { OnOk result (IsReady D.tells D.held D.moment D.images self.new disk.new) }
+        ensures ready { OnOk result (EngineIsReady D.tells D.held D.moment D.images self.new disk.new) }
         ensures grows { GrowsAt moment self.old.journal self.new.journal }
         ensures failed { self.new.failed ≡ true → IsErrOf result EngineError.Disk ⊎ IsErrOf result EngineError.Outbox }
         ensures works { IsErrOf result EngineError.MustReopen → ⊥ }
@@ -259,7 +259,7 @@ impl Engine<'_> {
 
     // It does nothing: where the disk tells, the engine shows the machine's state.
     fn shows_its_state<D: Disk>(&self, disk: &D)
-        requires { IsReady D.tells D.held D.moment D.images self.now disk.now }
+        requires { EngineIsReady D.tells D.held D.moment D.images self.now disk.now }
         ensures { IsTrue D.tells → (m : Machine)
             → InEach (D.images disk.now (D.moment disk.now)) (StandsFor self.now.flow self.now.store.lot m)
             → ShowsState self.now m }

@@ -1,6 +1,6 @@
 //! Why an engine stops.
 ghost use Rattle.std.specs.Prelude.{◌≡◌};
-ghost use Rattle.flow_engine.specs.Errors.{ended_by, error_of, inbox_error_of};
+ghost use Rattle.flow_engine.specs.Errors.{ended_by, engine_error, inbox_error_of};
 ghost use Rattle.flow_engine.specs.declared.error.EngineError.TheVariants.{Memory};
 
 use disk_trait::Damage;
@@ -59,7 +59,7 @@ impl From<AllocError> for EngineError {
 }
 
 impl From<StoreError> for EngineError {
-    ghost from_gives = { λ store_error error. error ≡ error_of store_error };
+    ghost from_gives = { λ store_error error. error ≡ engine_error store_error };
 
     fn from(error: StoreError) -> EngineError {
         match error {

@@ -15,10 +15,10 @@ ghost use Rattle.store_core.specs.Store.{kept_by};
 ghost use Rattle.flow_engine.specs.Checkout.{session_in};
 ghost use Rattle.flow_engine.specs.Done.{MayWorkOn};
 ghost use Rattle.flow_engine.specs.Engine.{AreTakeable};
-ghost use Rattle.flow_engine.specs.Errors.{CountsEachFault, IsReadBy, OnlyReads, RefusesToRead};
-ghost use Rattle.flow_engine.specs.Handing.{IsHanded, IsHandedAs, MayBeReceived, MayBeTaken};
+ghost use Rattle.flow_engine.specs.Errors.{CountsEachFault, IsReadBy, OnlyReads, EngineRefusesToRead};
+ghost use Rattle.flow_engine.specs.Handing.{JobIsHanded, IsHandedAs, MayBeReceived, MayBeTaken};
 ghost use Rattle.flow_engine.specs.Job.{IsNextJob};
-ghost use Rattle.flow_engine.specs.Ready.{IsReady, IsUsableWith};
+ghost use Rattle.flow_engine.specs.Ready.{EngineIsReady, IsUsableWith};
 ghost use Rattle.flow_run.specs.Work.{IsAtWork, IsReadDamaged};
 ghost use Rattle.flow_run.specs.Puts.{outgoing};
 
@@ -70,7 +70,7 @@ impl Engine<'_> {
         ensures world { Stays D.held D.moment D.images disk.old disk.new × (I.left inbox.new ≡ I.left inbox.old)
             × (outgoing O.standing O.puts outbox.new ≡ outgoing O.standing O.puts outbox.old) }
         ensures usable { IsUsableWith D.tells D.held D.moment D.images I.tells (I.left inbox.new) self.new disk.new }
-        ensures refusal { RefusesToRead result D.tells D.held D.moment D.images D.faults I.faults O.faults
+        ensures refusal { EngineRefusesToRead result D.tells D.held D.moment D.images D.faults I.faults O.faults
             self.old self.new disk.old disk.new inbox.old inbox.new outbox.old outbox.new }
     {
         if self.has_failed {
@@ -93,7 +93,7 @@ impl Engine<'_> {
         moment: u64,
         choice: Choice,
     ) -> Result<Job, EngineError>
-        requires ready { IsReady D.tells D.held D.moment D.images self.old disk.old }
+        requires ready { EngineIsReady D.tells D.held D.moment D.images self.old disk.old }
         requires chosen { session_in self.old moment ≡ Some choice }
         requires left { IsTrue I.tells → AreTakeable (I.left inbox.old) self.old.listing.names }
         ensures job { IfOk result (IsNextJob D.tells I.tells O.tells self.old
@@ -131,7 +131,7 @@ fn hand<D: Disk, I: Inbox, O: Outbox>(
     requires work { (flow : TheFlow) × IsAtWork flow D.tells D.held D.moment D.images store.old disk.old }
     requires taken { MayBeTaken (kept_by store.old) choice.taking }
     requires received { IsTrue I.tells → MayBeReceived (I.left inbox.old) choice.taking }
-    ensures handed { IfOk result (IsHanded (kept_by store.old) moment choice) }
+    ensures handed { IfOk result (JobIsHanded (kept_by store.old) moment choice) }
     ensures told { IfOk result (IsHandedAs D.tells I.tells O.tells (kept_by store.old) (content_in (D.held disk.old))
         (I.left inbox.old) (O.standing outbox.old) choice) }
     ensures store { IsReadBy result store.old store.new }
@@ -230,7 +230,7 @@ fn hand_files<D: Disk, O: Outbox>(
 ) -> Result<Job, EngineError>
     requires work { (flow : TheFlow) × IsAtWork flow D.tells D.held D.moment D.images store.old disk.old }
     requires taken { MayBeTaken (kept_by store.old) (Files connection numbers) }
-    ensures handed { IfOk result (IsHanded (kept_by store.old) moment
+    ensures handed { IfOk result (JobIsHanded (kept_by store.old) moment
         (record { processor = processor; taking = Files connection numbers })) }
     ensures told { IfOk result (λ job. (in_tells : Bool) (left : List NamedFile)
         → IsHandedAs D.tells in_tells O.tells (kept_by store.old) (content_in (D.held disk.old)) left

@@ -5,7 +5,7 @@ ghost use Rattle.disk_trait.specs.Images.{Stays};
 ghost use Rattle.disk_trait.specs.declared.damage.Damage.{Damage as TheDamage};
 ghost use Rattle.flowfile_record.specs.declared.flow_file.FlowFile.{FlowFile as TheFile};
 ghost use Rattle.content_repo.specs.Claims.{IsRead, content_in};
-ghost use Rattle.engine_session.specs.Handing.{AreReadOf, fit_a_content};
+ghost use Rattle.engine_session.specs.Handing.{AreReadOf, files_fit_a_content};
 ghost use Rattle.machine_model.specs.declared.flow.Flow.{Flow as TheFlow};
 ghost use Rattle.store_core.specs.Store.{live_in};
 ghost use Rattle.flow_engine.specs.Errors.{IsReadBy};
@@ -29,9 +29,9 @@ pub(crate) fn read_contents<D: Disk>(
 ) -> Result<ReadList, EngineError>
     requires work { (flow : TheFlow) × IsAtWork flow D.tells D.held D.moment D.images store.old disk.old }
     requires live { All (λ file. Contains (live_in store.old) file.content) files.now }
-    ensures read { IfOk result (HaveRead (fit_a_content files.now) files.now) }
+    ensures read { IfOk result (HaveRead (files_fit_a_content files.now) files.now) }
     ensures told { IfOk result (λ contents. IsTrue D.tells
-        → AreReadOf (content_in (D.held disk.old)) (fit_a_content files.now) files.now contents) }
+        → AreReadOf (content_in (D.held disk.old)) (files_fit_a_content files.now) files.now contents) }
     ensures store { IsReadBy result store.old store.new }
     ensures stays { Stays D.held D.moment D.images disk.old disk.new }
     ensures kinds { IfErr result (λ error. (error ≡ EngineError.Disk) ⊎ (error ≡ EngineError.Memory)

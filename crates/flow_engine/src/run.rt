@@ -6,7 +6,7 @@ ghost use Rattle.machine_model.specs.State.{State};
 ghost use Rattle.machine_model.specs.declared.journal.Entry.{Entry as TheEntry};
 ghost use Rattle.flow_run.specs.Going.{IsRunningAt};
 ghost use Rattle.flow_run.specs.Run.{HasRun, machine_at};
-ghost use Rattle.flow_run.specs.Ending.{EndsForCause, EndsShort, IsAtRest, IsFault};
+ghost use Rattle.flow_run.specs.Ending.{EndsForCause, EndsShort, IsQuietOrBlocked, IsFault};
 ghost use Rattle.flow_run.specs.Turns.{AreMadeAt};
 ghost use Rattle.flow_engine.specs.Closing.{Shows};
 ghost use Rattle.flow_engine.specs.Engine.{AreBuilt};
@@ -65,7 +65,7 @@ pub fn run_flow<D: Disk, I: Inbox, O: Outbox, C: Clock, G: Gate>(
         (Shows flow.now ran.reached)
         × AreMadeAt C.given journal }
     // At rest the time is one that the clock gave.
-    ensures given { IsAtRest result.ended → C.given (C.time clock.new) }
+    ensures given { IsQuietOrBlocked result.ended → C.given (C.time clock.new) }
     // The store was closed unless something failed.
     ensures closed { MatchOption result.closed (IsFault result.ended) (λ closed. IsFault result.ended → ⊥) }
     // Whatever inbox and outbox tell.

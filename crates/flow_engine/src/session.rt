@@ -11,7 +11,7 @@ ghost use Rattle.machine_model.specs.declared.flow.Processor.{Processor as ThePr
 ghost use Rattle.store_core.specs.Change.{HasLiveContents, MayChange};
 ghost use Rattle.store_core.specs.Store.{kept_by};
 ghost use Rattle.flow_engine.specs.Change.{names_without, with_sending, without_received};
-ghost use Rattle.flow_engine.specs.Committing.{HasWritten, IsLeftBySend, IsQueued};
+ghost use Rattle.flow_engine.specs.Committing.{HasWritten, IsLeftBySend, IsAtWorkWithQueues};
 ghost use Rattle.flow_run.specs.Work.{WritesLog};
 ghost use Rattle.flow_run.specs.Puts.{outgoing};
 
@@ -34,7 +34,8 @@ pub(crate) fn commit<D: Disk, O: Outbox>(
     connection: u16,
     changed: Changed,
 ) -> Result<u64, EngineError>
-    requires work { (flow : TheFlow) × IsQueued flow D.tells D.held D.moment D.images store.old queues.old disk.old }
+    requires work { (flow : TheFlow)
+        × IsAtWorkWithQueues flow D.tells D.held D.moment D.images store.old queues.old disk.old }
     requires may { MayChange (kept_by store.old) changed.settled }
     requires live { HasLiveContents store.old changed.settled }
     requires digests { IsTrue D.tells → HaveDigests (content_in (D.held disk.old)) changed.settled.placed }

@@ -25,9 +25,9 @@ ghost use Rattle.flow_run.specs.Going.{IsSpared};
 ghost use Rattle.flow_run.specs.Run.{IsAtStoreLimit, StandsFor};
 ghost use Rattle.flow_engine.specs.Engine.{IsOfSameRun};
 ghost use Rattle.flow_engine.specs.Errors.{RefusesToTend};
-ghost use Rattle.flow_engine.specs.Ready.{IsReady, IsUsable, due_behind, due_in, is_log_due};
+ghost use Rattle.flow_engine.specs.Ready.{EngineIsReady, IsUsable, due_behind, due_in, is_log_due};
 ghost use Rattle.flow_engine.specs.Running.{IsRunning, Stops, TendsRun};
-ghost use Rattle.flow_engine.specs.Tending.{GoesTo, HasExpired, HasTended, IsCheckpointed, IsCutOff, IsDone, MakesExpiry, TendsAlone, TendsFirst, counted_on};
+ghost use Rattle.flow_engine.specs.Tending.{GoesTo, HasExpired, HasTended, IsCheckpointed, IsCutOff, StepIsDone, MakesExpiry, TendsAlone, TendsFirst, counted_on};
 ghost use Rattle.flow_run.specs.Work.{IsAtWork, IsNoEarlier, IsRefused, IsShortOn, WritesLog};
 ghost use Rattle.flow_engine.specs.declared.error.EngineError.{EngineError as TheError};
 ghost use Rattle.flow_engine.specs.declared.tending.Tended.TheVariants.{Expired, Nothing};
@@ -96,7 +96,7 @@ impl Engine<'_> {
         disk: &mut D,
         moment: u64,
     ) -> Result<Tended, EngineError>
-        requires ready { IsReady D.tells D.held D.moment D.images self.old disk.old }
+        requires ready { EngineIsReady D.tells D.held D.moment D.images self.old disk.old }
         ensures due { IfOk result (λ tended. due_behind tended ≡ due_in self.old moment) }
         ensures done { HasTended result moment (D.moment disk.new) self.old self.new }
         ensures nothing { result ≡ Ok Nothing
@@ -115,7 +115,7 @@ impl Engine<'_> {
             → IsRunning D.moment D.images self.old opened first start time disk.old left out
             → Stops error D.tells D.held D.moment D.images self.new opened first start moment disk.new left out }
         ensures ready { (IsErrOf result EngineError.Disk → ⊥)
-            → IsReady D.tells D.held D.moment D.images self.new disk.new }
+            → EngineIsReady D.tells D.held D.moment D.images self.new disk.new }
         ensures names { (self.new.listing ≡ self.old.listing) × (self.new.last ≡ self.old.last)
             × (self.new.failed ≡ self.old.failed) }
         ensures same { IsOfSameRun self.old self.new }
@@ -145,7 +145,7 @@ impl Engine<'_> {
     // Begins a new log behind a snapshot where that is due, and answers whether it was. All memory is taken before the
     // first call of the disk.
     fn checkpoint_due<D: Disk>(&mut self, disk: &mut D) -> Result<bool, EngineError>
-        requires { IsReady D.tells D.held D.moment D.images self.old disk.old }
+        requires { EngineIsReady D.tells D.held D.moment D.images self.old disk.old }
         ensures due { IfOk result (λ made. made ≡ is_log_due self.old.checkpoint self.old.store) }
         ensures goes_on { (IsErrOf result EngineError.Disk → ⊥) → (opened : Machine) (first : D) (start : Start)
             (time : ℕ)
@@ -161,7 +161,7 @@ impl Engine<'_> {
         ensures none { result ≡ Ok false → (self.new ≡ self.old) × (disk.new ≡ disk.old) }
         ensures short { result ≡ Ok false → IsShortOn D.moment D.images self.old.checkpoint disk.old }
         ensures ready { (IsErrOf result EngineError.Disk → ⊥)
-            → IsReady D.tells D.held D.moment D.images self.new disk.new }
+            → EngineIsReady D.tells D.held D.moment D.images self.new disk.new }
         ensures rest { self.new ≡ record self.old { store = self.new.store; tended = self.new.tended } }
         ensures same { IsOfSameRun self.old self.new }
         ensures log { OnOk result (IsNoEarlier self.old.store.log.number self.new.store.log.number) }
@@ -182,7 +182,7 @@ impl Engine<'_> {
 
     // Reclaims the claims where that is due, and answers how many became empty.
     fn reclaim_due<D: Disk>(&mut self, disk: &mut D) -> Result<Option<Reclaimed>, EngineError>
-        requires { IsReady D.tells D.held D.moment D.images self.old disk.old }
+        requires { EngineIsReady D.tells D.held D.moment D.images self.old disk.old }
         ensures due { IfOk result (λ answer. is_some answer ≡ nat_le RECLAIM_ENTRIES self.old.since_reclaim) }
         ensures goes_on { (IsErrOf result EngineError.Disk → ⊥) → (opened : Machine) (first : D) (start : Start)
             (time : ℕ)
@@ -199,7 +199,7 @@ impl Engine<'_> {
         ensures none { result ≡ Ok None → (self.new ≡ self.old) × (disk.new ≡ disk.old) }
         ensures since { IsErrOf result EngineError.Disk → self.new.since_reclaim ≡ self.old.since_reclaim }
         ensures ready { (IsErrOf result EngineError.Disk → ⊥)
-            → IsReady D.tells D.held D.moment D.images self.new disk.new }
+            → EngineIsReady D.tells D.held D.moment D.images self.new disk.new }
         ensures rest { self.new ≡ record self.old
             { store = self.new.store; since_reclaim = self.new.since_reclaim; tended = self.new.tended } }
         ensures same { IsOfSameRun self.old self.new }
@@ -226,7 +226,7 @@ impl Engine<'_> {
         disk: &mut D,
         moment: u64,
     ) -> Result<bool, EngineError>
-        requires ready { IsReady D.tells D.held D.moment D.images self.old disk.old }
+        requires ready { EngineIsReady D.tells D.held D.moment D.images self.old disk.old }
         ensures due { IfOk result (λ done.
             done ≡ is_some (due_expiry self.old.flow (queue_seen self.old.queues) moment)) }
         ensures goes_on { (IsErrOf result EngineError.Disk → ⊥) → IsTrue D.tells → (opened : Machine) (first : D)
@@ -250,7 +250,7 @@ impl Engine<'_> {
         ensures since { (error : TheError) → IsErrOf result error → self.new.since_reclaim ≡ self.old.since_reclaim }
         ensures none { result ≡ Ok false → (self.new ≡ self.old) × (disk.new ≡ disk.old) }
         ensures ready { (IsErrOf result EngineError.Disk → ⊥)
-            → IsReady D.tells D.held D.moment D.images self.new disk.new }
+            → EngineIsReady D.tells D.held D.moment D.images self.new disk.new }
         ensures names { (self.new.listing ≡ self.old.listing) × (self.new.last ≡ self.old.last)
             × (self.new.failed ≡ self.old.failed) }
         ensures same { IsOfSameRun self.old self.new }
@@ -379,7 +379,7 @@ fn expire<D: Disk>(
     requires due { due_expiry flow.now (queue_seen queues.old) moment ≡ Some (expiry.connection, expiry.numbers) }
     ensures done { OnOk result (IsTrue D.tells → (before : Machine)
         → InEach (D.images disk.old (D.moment disk.old)) (StandsFor flow.now store.old.lot before)
-        → IsDone flow.now D.moment D.images store.old.lot before (Expire expiry.connection expiry.numbers moment)
+        → StepIsDone flow.now D.moment D.images store.old.lot before (Expire expiry.connection expiry.numbers moment)
         disk.old disk.new) }
     ensures cut_off { IsErrOf result EngineError.Disk → IsTrue D.tells → (before : Machine)
         → InEach (D.images disk.old (D.moment disk.old)) (StandsFor flow.now store.old.lot before)

@@ -12,7 +12,7 @@ ghost use Rattle.machine_model.specs.Valid.{IsValid};
 ghost use Rattle.machine_model.specs.declared.flow.Flow.{Flow as TheFlow};
 ghost use Rattle.prov_store.specs.State.{counts_of};
 ghost use Rattle.store_core.specs.State.{state_with};
-ghost use Rattle.store_core.specs.Store.{Holds, kept_by};
+ghost use Rattle.store_core.specs.Store.{FilesHold, kept_by};
 ghost use Rattle.flow_run.specs.Run.{IsStateOf, StandsFor};
 ghost use Rattle.flow_run.specs.Work.{IsAtWork};
 
@@ -27,7 +27,7 @@ use store_core::{Store, what_is_kept_is_a_state};
 /// flow.
 pub fn holds_its_state<D: Disk>(store: &Store, disk: &D)
     requires { (flow : TheFlow) × IsAtWork flow D.tells D.held D.moment D.images store.now disk.now }
-    ensures held { IsTrue D.tells → Holds store.now (D.held disk.now) }
+    ensures held { IsTrue D.tells → FilesHold store.now (D.held disk.now) }
     ensures tied { IsTrue D.tells → (flow : TheFlow)
         → IsAtWork flow D.tells D.held D.moment D.images store.now disk.now
         → (m : Machine) → InEach (D.images disk.now (D.moment disk.now)) (StandsFor flow store.now.lot m)

@@ -16,7 +16,7 @@ use Rattle.machine_model.specs.Changing.{with_arrival}
 use Rattle.machine_model.specs.State.{QueuedFile, State}
 use Rattle.flow_report.specs.Texts.{line_of}
 use Rattle.store_core.specs.Seen.{no_flow, SeenState, kept_seen, IsSeenOn}
-use Rattle.store_core.specs.State.{queued, queue_of, stands_for}
+use Rattle.store_core.specs.State.{queued_active, queue_of, stands_for}
 use Rattle.store_core.proofs.Seeing.{state_is}
 use Rattle.flow_query.specs.Texts.{files_in, sound_text}
 use Rattle.flow_query.proofs.Known.{known}
@@ -35,8 +35,8 @@ length-fold (f ∷ files) front =
 pub length-queue : (contents : ContentRef → List ℕ) (files : List ActiveFile) (place : ℕ) → length (queue_of contents files place) ≡ many_at files place
 length-queue contents files place =
     let listed = filter (λ (a : ActiveFile). a.connection == place) files in
-    let all = length-fold (map (queued contents) listed) [] in
-    let mapped : length (map (queued contents) listed) ≡ length listed = length-map listed (queued contents) in
+    let all = length-fold (map (queued_active contents) listed) [] in
+    let mapped : length (map (queued_active contents) listed) ≡ length listed = length-map listed (queued_active contents) in
     omega (arith, all, mapped)
 
 -- ---- a file more counts once, at its connection

@@ -23,7 +23,7 @@ use Rattle.record_codec.specs.Version.{version_at}
 use Rattle.record_codec.specs.declared.block.TheConstants.{BLOCK_OVERHEAD}
 use Rattle.record_codec.specs.declared.head.Head.{Head}
 use Rattle.record_codec.specs.declared.snapshot.SnapshotKind.TheVariants as kinds
-use Rattle.checkpoint_store.specs.Reading.{More, Last, Next, behind_block, blocks_from, end_next, batch_next, file_next, first_in, go_on, head_next, kept_by, next_in, said, snapshot_of}
+use Rattle.checkpoint_store.specs.Reading.{More, Last, Next, behind_block, blocks_from, end_next, batch_next, file_next, first_block_kept, go_on, head_next, kept_of_head, next_in, said, snapshot_of}
 use Rattle.checkpoint_store.specs.Snapshot.{snapshot_file}
 use Rattle.flowfile_wal.specs.Current.{CurrentLog, current_log, current_number, log_in, log_bytes, log_of_number, of_some}
 use Rattle.machine_model.specs.State.{State}
@@ -39,7 +39,7 @@ use Rattle.store_core.proofs.Agreeing.{keeps_of, kept_by_log, sound_of, stands_b
 use Rattle.store_core.proofs.KeptRead.{agreed_snapshot}
 use Rattle.store_core.proofs.Seeing.{agrees_with_no_flow}
 use Rattle.content_repo.specs.Claims.{content_in}
-use Rattle.flow_query.specs.OwnFlow.{IsMade, new_state}
+use Rattle.flow_query.specs.OwnFlow.{StoreIsMade, state_anew}
 
 -- ---- a Head's digest has bytes
 
@@ -125,13 +125,13 @@ one_of true x y z is = inl is
 one_of false x y z is = inr is
 
 head_named : (r : Result Head ℕ) (k : Kept) → head_next r ≡ Some k → (h : Head) × (r ≡ read h) × (k.flow ≡ h.flow)
-head_named (Ok h) k is = (h, refl, ap (λ (x : Kept). x.flow) (sym (some_if _ (kept_by h) k is)))
+head_named (Ok h) k is = (h, refl, ap (λ (x : Kept). x.flow) (sym (some_if _ (kept_of_head h) k is)))
 head_named (Err left) k is = absurd cc
 
 abbrev no_kept : Option Kept
 no_kept = None
 
-first_long : (kind : ℕ) (payload : List ℕ) (k : Kept) → first_in kind payload ≡ Some k → length k.flow ≡ DIGEST_SIZE
+first_long : (kind : ℕ) (payload : List ℕ) (k : Kept) → first_block_kept kind payload ≡ Some k → length k.flow ≡ DIGEST_SIZE
 first_long kind payload k is =
     elim (one_of _ (head_next (whole head_at payload)) no_kept k is) [
       | inl head ↦ let named = head_named (whole head_at payload) k head in ap length named.2 ∙ whole_long payload named.0 named.1
@@ -212,7 +212,7 @@ blocks_same (suc most) file at k bytes found is =
 
 snapshot_long : (file : FileName) (bytes : List ℕ) (k : Kept) → snapshot_of file bytes ≡ kept_is k → length k.flow ≡ DIGEST_SIZE
 snapshot_long file bytes k is =
-    let head = says_of file 0 first_in (reading_of bytes) (λ first size. blocks_from (suc (length bytes)) file size first (drop size bytes)) k is in
+    let head = says_of file 0 first_block_kept (reading_of bytes) (λ first size. blocks_from (suc (length bytes)) file size first (drop size bytes)) k is in
     ap length (blocks_same (suc (length bytes)) file head.size head.value (drop head.size bytes) k head.follows) ∙ first_long head.kind head.payload head.value head.is
 
 -- ---- what is kept
@@ -252,7 +252,7 @@ unmade_log : (files : Files) → current_number files ≡ None → current_log f
 unfolding current_log
 unmade_log files is = ap (log_of_number files) is
 
-kept_of_log : (flow : Flow) (lot of_query : ℕ) (files : Files) (k : Kept) (log : Result (Option CurrentLog) Damage) → IsMade files → current_log files ≡ log → behind_log flow lot files log ≡ kept_is k
+kept_of_log : (flow : Flow) (lot of_query : ℕ) (files : Files) (k : Kept) (log : Result (Option CurrentLog) Damage) → StoreIsMade files → current_log files ≡ log → behind_log flow lot files log ≡ kept_is k
     → behind_log no_flow of_query files log ≡ kept_is k
 kept_of_log flow lot of_query files k (Ok (Some log)) made is kept =
     behind_seen files log (snapshot_for flow (snapshot_file log.number) (files (snapshot_file log.number))) (snapshot_for no_flow (snapshot_file log.number) (files (snapshot_file log.number))) k
@@ -260,7 +260,7 @@ kept_of_log flow lot of_query files k (Ok (Some log)) made is kept =
 kept_of_log flow lot of_query files k (Ok None) made is kept = absurd (made (none_current files is))
 kept_of_log flow lot of_query files k (Err damage) made is kept = absurd cc
 
-pub kept_seen_too : (flow : Flow) (lot of_query : ℕ) (files : Files) (k : Kept) → IsMade files → kept_in flow lot files ≡ Ok k → kept_in no_flow of_query files ≡ Ok k
+pub kept_seen_too : (flow : Flow) (lot of_query : ℕ) (files : Files) (k : Kept) → StoreIsMade files → kept_in flow lot files ≡ Ok k → kept_in no_flow of_query files ≡ Ok k
 unfolding kept_in
 kept_seen_too flow lot of_query files k made kept = kept_of_log flow lot of_query files k (current_log files) made refl kept
 
@@ -272,7 +272,7 @@ state_is s = Ok s
 state_inj : (s t : State) → state_is s ≡ state_is t → s ≡ t
 state_inj s t is = cc
 
-pub state_seen_too : (flow : Flow) (lot of_query : ℕ) (files : Files) (state : State) → IsMade files → stands_for flow lot files ≡ Ok state → stands_for no_flow of_query files ≡ Ok state
+pub state_seen_too : (flow : Flow) (lot of_query : ℕ) (files : Files) (state : State) → StoreIsMade files → stands_for flow lot files ≡ Ok state → stands_for no_flow of_query files ≡ Ok state
 state_seen_too flow lot of_query files state made stands =
     let keeps = keeps_of flow lot files state stands in
     stands_by_kept no_flow of_query files keeps.kept (kept_seen_too flow lot of_query files keeps.kept made keeps.is) ∙ keeps.state
@@ -294,12 +294,12 @@ kept_anew_of flow lot files k none kept = unstrayed flow lot (first_stray files)
 no_events : (files : Files) (events : List Event) → events_in files 0 ≡ Ok events → events ≡ []
 no_events files events is = nil_from_length events (last_numbered 0 files events is).1
 
-anew_state : (flow : Flow) (lot : ℕ) (files : Files) → current_number files ≡ None → first_stray files ≡ None → events_in files 0 ≡ Ok [] → stands_for flow lot files ≡ state_is (new_state flow lot)
+anew_state : (flow : Flow) (lot : ℕ) (files : Files) → current_number files ≡ None → first_stray files ≡ None → events_in files 0 ≡ Ok [] → stands_for flow lot files ≡ state_is (state_anew flow lot)
 anew_state flow lot files none stray events =
     stands_by_kept flow lot files (kept_anew flow lot) (anew flow lot files none stray) ∙ state_of_sound files (kept_anew flow lot) [] refl events
 
 unmade_seen : (flow : Flow) (lot of_query : ℕ) (files : Files) (state : State) → current_number files ≡ None → stands_for flow lot files ≡ state_is state
-    → (state ≡ new_state flow lot) × (stands_for no_flow of_query files ≡ state_is (new_state no_flow of_query))
+    → (state ≡ state_anew flow lot) × (stands_for no_flow of_query files ≡ state_is (state_anew no_flow of_query))
 unmade_seen flow lot of_query files state none stands =
     let keeps = keeps_of flow lot files state stands in
     let kept = kept_anew_of flow lot files keeps.kept none keeps.is in
@@ -307,14 +307,14 @@ unmade_seen flow lot of_query files state none stands =
     let end : keeps.kept.last_event ≡ 0 = ap (λ (k : Kept). k.last_event) (sym kept.1) in
     let says : events_in files 0 ≡ Ok sound.events = ap (events_in files) (sym end) ∙ sound.events_are in
     let events : events_in files 0 ≡ Ok [] = says ∙ ap Ok (no_events files sound.events says) in
-    let same : state_is state ≡ state_is (new_state flow lot) = sym stands ∙ anew_state flow lot files none kept.0 events in
-    (state_inj state (new_state flow lot) same, anew_state no_flow of_query files none kept.0 events)
+    let same : state_is state ≡ state_is (state_anew flow lot) = sym stands ∙ anew_state flow lot files none kept.0 events in
+    (state_inj state (state_anew flow lot) same, anew_state no_flow of_query files none kept.0 events)
 
 -- a store is made, or it isn't
-number_is : (files : Files) (number : Option ℕ) → current_number files ≡ number → (IsMade files → ⊥) → current_number files ≡ None
+number_is : (files : Files) (number : Option ℕ) → current_number files ≡ number → (StoreIsMade files → ⊥) → current_number files ≡ None
 number_is files None is unmade = is
 number_is files (Some n) is unmade = absurd (unmade (λ none. let both : Some n ≡ None = sym is ∙ none in absurd cc))
 
-pub new_seen_too : (flow : Flow) (lot of_query : ℕ) (files : Files) (state : State) → (IsMade files → ⊥) → stands_for flow lot files ≡ Ok state
-    → (state ≡ new_state flow lot) × (stands_for no_flow of_query files ≡ Ok (new_state no_flow of_query))
+pub new_seen_too : (flow : Flow) (lot of_query : ℕ) (files : Files) (state : State) → (StoreIsMade files → ⊥) → stands_for flow lot files ≡ Ok state
+    → (state ≡ state_anew flow lot) × (stands_for no_flow of_query files ≡ Ok (state_anew no_flow of_query))
 new_seen_too flow lot of_query files state unmade stands = unmade_seen flow lot of_query files state (number_is files (current_number files) refl unmade) stands

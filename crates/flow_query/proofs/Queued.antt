@@ -23,11 +23,11 @@ use Rattle.machine_model.specs.State.{QueuedFile, State}
 use Rattle.flow_report.specs.Texts.{connection_text}
 use Rattle.flow_report.specs.Writing.{Writes}
 use Rattle.store_core.specs.Seen.{no_flow, SeenState, kept_seen, IsSeenOn}
-use Rattle.store_core.specs.State.{queued, queue_of, state_with, stands_for, live_contents}
+use Rattle.store_core.specs.State.{queued_active, queue_of, state_with, stands_for, live_contents}
 use Rattle.store_core.proofs.Agreeing.{sound_of, stands_by_kept}
 use Rattle.store_core.proofs.Seeing.{state_is}
 use Rattle.store_core.proofs.Sound.{IsSoundIn, each_sound, unmap}
-use Rattle.flow_query.specs.Parts.{arrival_of, size_of, waiting_of, waiting_in, waiting_at, waiting_text, line_text, lines_text}
+use Rattle.flow_query.specs.Parts.{waiting_arrival, waiting_size, waiting_of, waiting_in, waiting_at, waiting_text, line_text, lines_text}
 use Rattle.flow_query.specs.Texts.{queued_text, queue_text, queues_text}
 use Rattle.flow_query.specs.declared.waiting.Waiting.{Waiting}
 use Rattle.flow_query.proofs.Arrivals.{all_in}
@@ -42,40 +42,40 @@ sized arrival number size = record { arrival = arrival; number = number; size = 
 
 -- ---- one queue
 
-put_shown : (q : QueuedFile) (queue : List QueuedFile) → map shown (with_arrival queue q) ≡ with_item arrival_of (shown q) (map shown queue)
+put_shown : (q : QueuedFile) (queue : List QueuedFile) → map shown (with_arrival queue q) ≡ with_item waiting_arrival (shown q) (map shown queue)
 put_shown q [] = refl
 put_shown q (x ∷ queue) =
     elim (cases_Bool (nat_lt x.arrival q.arrival)) [
       | inl t ↦
           ap (λ (b : Bool). map shown (cond b (x ∷ with_arrival queue q) (q ∷ x ∷ queue))) t
           ∙ ap (λ (l : List Waiting). shown x ∷ l) (put_shown q queue)
-          ∙ sym (ap (λ (b : Bool). cond b (shown x ∷ with_item arrival_of (shown q) (map shown queue)) (shown q ∷ shown x ∷ map shown queue)) t)
+          ∙ sym (ap (λ (b : Bool). cond b (shown x ∷ with_item waiting_arrival (shown q) (map shown queue)) (shown q ∷ shown x ∷ map shown queue)) t)
       | inr f ↦
           ap (λ (b : Bool). map shown (cond b (x ∷ with_arrival queue q) (q ∷ x ∷ queue))) f
-          ∙ sym (ap (λ (b : Bool). cond b (shown x ∷ with_item arrival_of (shown q) (map shown queue)) (shown q ∷ shown x ∷ map shown queue)) f)
+          ∙ sym (ap (λ (b : Bool). cond b (shown x ∷ with_item waiting_arrival (shown q) (map shown queue)) (shown q ∷ shown x ∷ map shown queue)) f)
     ]
 
-all_put : (files front : List QueuedFile) → map shown (fold with_arrival front files) ≡ with_items arrival_of (map shown files) (map shown front)
+all_put : (files front : List QueuedFile) → map shown (fold with_arrival front files) ≡ with_items waiting_arrival (map shown files) (map shown front)
 all_put [] front = refl
-all_put (q ∷ files) front = all_put files (with_arrival front q) ∙ ap (with_items arrival_of (map shown files)) (put_shown q front)
+all_put (q ∷ files) front = all_put files (with_arrival front q) ∙ ap (with_items waiting_arrival (map shown files)) (put_shown q front)
 
 -- each content is as long as its reference says
 abbrev pub HaveSizes : (ContentRef → List ℕ) → List ActiveFile → Type 0
 HaveSizes contents files = All (λ a. length (contents a.file.content) ≡ a.file.content.size) files
 
 module _ (contents : ContentRef → List ℕ) (place : ℕ) where
-  shown_by : (t : Bool) (a : ActiveFile) (files : List ActiveFile) → shown (queued contents a) ≡ waiting_of a
-      → map shown (map (queued contents) (filter (λ x. x.connection == place) files)) ≡ waiting_in files place
-      → map shown (map (queued contents) (cond t (a ∷ filter (λ x. x.connection == place) files) (filter (λ x. x.connection == place) files)))
+  shown_by : (t : Bool) (a : ActiveFile) (files : List ActiveFile) → shown (queued_active contents a) ≡ waiting_of a
+      → map shown (map (queued_active contents) (filter (λ x. x.connection == place) files)) ≡ waiting_in files place
+      → map shown (map (queued_active contents) (cond t (a ∷ filter (λ x. x.connection == place) files) (filter (λ x. x.connection == place) files)))
       ≡ map waiting_of (cond t (a ∷ filter (λ x. x.connection == place) files) (filter (λ x. x.connection == place) files))
   shown_by true a files one rest =
-      ap (λ (w : Waiting). w ∷ map shown (map (queued contents) (filter (λ x. x.connection == place) files))) one ∙ ap (λ (l : List Waiting). waiting_of a ∷ l) rest
+      ap (λ (w : Waiting). w ∷ map shown (map (queued_active contents) (filter (λ x. x.connection == place) files))) one ∙ ap (λ (l : List Waiting). waiting_of a ∷ l) rest
   shown_by false a files one rest = rest
 
-  shown_one : (a : ActiveFile) → length (contents a.file.content) ≡ a.file.content.size → shown (queued contents a) ≡ waiting_of a
+  shown_one : (a : ActiveFile) → length (contents a.file.content) ≡ a.file.content.size → shown (queued_active contents a) ≡ waiting_of a
   shown_one a size = ap (λ (n : ℕ). sized a.file.arrival a.file.number n) size
 
-  shown_in : (files : List ActiveFile) → HaveSizes contents files → map shown (map (queued contents) (filter (λ a. a.connection == place) files)) ≡ waiting_in files place
+  shown_in : (files : List ActiveFile) → HaveSizes contents files → map shown (map (queued_active contents) (filter (λ a. a.connection == place) files)) ≡ waiting_in files place
   shown_in [] sizes = refl
   shown_in (a ∷ files) sizes =
       shown_by (a.connection == place) a files (shown_one a (All-head (λ x. length (contents x.file.content) ≡ x.file.content.size) a files sizes))
@@ -83,12 +83,12 @@ module _ (contents : ContentRef → List ℕ) (place : ℕ) where
 
   shown_at : (files : List ActiveFile) → HaveSizes contents files → map shown (queue_of contents files place) ≡ waiting_at files place
   shown_at files sizes =
-      all_put (map (queued contents) (filter (λ a. a.connection == place) files)) [] ∙ ap (λ (l : List Waiting). with_items arrival_of l []) (shown_in files sizes)
+      all_put (map (queued_active contents) (filter (λ a. a.connection == place) files)) [] ∙ ap (λ (l : List Waiting). with_items waiting_arrival l []) (shown_in files sizes)
 
-sizes_shown : (queue : List QueuedFile) → sum_by size_of (map shown queue) ≡ content_bytes queue
+sizes_shown : (queue : List QueuedFile) → sum_by waiting_size (map shown queue) ≡ content_bytes queue
 sizes_shown [] = refl
 sizes_shown (q ∷ queue) =
-    omega (arith, sum_by-cons size_of (shown q) (map shown queue), sum_by-cons (λ (x : QueuedFile). length x.bytes) q queue, sizes_shown queue)
+    omega (arith, sum_by-cons waiting_size (shown q) (map shown queue), sum_by-cons (λ (x : QueuedFile). length x.bytes) q queue, sizes_shown queue)
 
 texts_shown : (store : ℕ) (queue : List QueuedFile) → flat_map (waiting_text store) (map shown queue) ≡ flat_map (queued_text store) queue
 texts_shown store [] = refl
@@ -97,7 +97,7 @@ texts_shown store (q ∷ queue) = ap (λ (l : List ℕ). queued_text store q ++ 
 line_shown : (store : ℕ) (id : List ℕ) (queue : List QueuedFile) (waiting : List Waiting) → map shown queue ≡ waiting → line_text store id waiting ≡ queue_text store (id, queue)
 line_shown store id queue waiting are =
     ap (line_text store id) (sym are)
-    ∙ ap (λ (n : ℕ). connection_text id n (sum_by size_of (map shown queue)) ++ flat_map (waiting_text store) (map shown queue)) (length-map queue shown)
+    ∙ ap (λ (n : ℕ). connection_text id n (sum_by waiting_size (map shown queue)) ++ flat_map (waiting_text store) (map shown queue)) (length-map queue shown)
     ∙ ap (λ (n : ℕ). connection_text id (length queue) n ++ flat_map (waiting_text store) (map shown queue)) (sizes_shown queue)
     ∙ ap (λ (l : List ℕ). connection_text id (length queue) (content_bytes queue) ++ l) (texts_shown store queue)
 
@@ -169,9 +169,9 @@ lines_done k place b b' past left = (items-done (line_at k) (lines_text k) (enum
 
 -- ---- sizes fit
 
-all_put_in : (P : Waiting → Type 0) (news items : List Waiting) → All P news → All P items → All P (with_items arrival_of news items)
+all_put_in : (P : Waiting → Type 0) (news items : List Waiting) → All P news → All P items → All P (with_items waiting_arrival news items)
 all_put_in P [] items all others = others
-all_put_in P (w ∷ news) items all others = all_put_in P news (with_item arrival_of w items) (All-tail P w news all) (All-with arrival_of P w items (All-head P w news all) others)
+all_put_in P (w ∷ news) items all others = all_put_in P news (with_item waiting_arrival w items) (All-tail P w news all) (All-with waiting_arrival P w items (All-head P w news all) others)
 
 length-kept : (files : List ActiveFile) (place : ℕ) → length (waiting_in files place) ≤ length files
 length-kept [] place = omega arith
@@ -182,15 +182,15 @@ length-kept (a ∷ files) place = by (a.connection == place) (length-kept files 
     by true le = omega (arith, le)
     by false le = omega (arith, le)
 
-pub sizes_fit : (k : Kept) (place : ℕ) → IsConsistent k → sum_by size_of (waiting_at k.files place) < 2 ^ 64
+pub sizes_fit : (k : Kept) (place : ℕ) → IsConsistent k → sum_by waiting_size (waiting_at k.files place) < 2 ^ 64
 sizes_fit k place consistent =
     let queue = waiting_at k.files place in
     let small : All (λ (w : Waiting). w.size ≤ CONTENT_MAX) queue =
     all_put_in (λ w. w.size ≤ CONTENT_MAX) (waiting_in k.files place) []
     (all_in place (λ w. w.size ≤ CONTENT_MAX) k.files (All-weaker (IsFileIn k) (λ (a : ActiveFile). a.file.content.size ≤ CONTENT_MAX) (λ a is. is.encoded.file.content.size) k.files consistent.files))
     (All-nil (λ w. w.size ≤ CONTENT_MAX)) in
-    let bound = sum_by-le size_of CONTENT_MAX queue small in
-    let many : length queue ≡ 0 + length (waiting_in k.files place) = length-with_items arrival_of (waiting_in k.files place) [] in
+    let bound = sum_by-le waiting_size CONTENT_MAX queue small in
+    let many : length queue ≡ 0 + length (waiting_in k.files place) = length-with_items waiting_arrival (waiting_in k.files place) [] in
     let few = length-kept k.files place in
     let live = consistent.live_files in
     omega (arith, bound, many, few, live)

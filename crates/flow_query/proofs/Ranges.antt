@@ -9,7 +9,7 @@ use Rattle.std.proofs.lemmas.List.FromFn.{length-range_with_len}
 use Rattle.std.proofs.lemmas.List.Elements.{All-nil, All-cons, All-head, All-tail, All-append, All-weaker}
 use Rattle.flowfile_record.specs.NumberedItems.{AscendsByNumber}
 use Rattle.flowfile_record.specs.declared.event.Event.{Event}
-use Rattle.prov_index.specs.Index.{number_of}
+use Rattle.prov_index.specs.Index.{event_number}
 use Rattle.prov_store.specs.Scanning.{is_within, numbers_between}
 use Rattle.prov_store.specs.State.{AreNumberedFrom}
 use Rattle.prov_store.proofs.Scans.{none_behind}
@@ -93,7 +93,7 @@ all_from f (e ∷ events) row =
     (All-weaker (λ x. f + 1 ≤ x.number) (λ x. f ≤ x.number) (λ x le. omega (arith, le)) events (all_from (f + 1) events (tail_is f e events row)))
 
 -- events in a row go behind events whose numbers are below theirs
-pub ascends-row : (f : ℕ) (events : List Event) → AreNumberedFrom f events → AscendsByNumber number_of events
+pub ascends-row : (f : ℕ) (events : List Event) → AreNumberedFrom f events → AscendsByNumber event_number events
 ascends-row f [] row = tt
 ascends-row f (e ∷ events) row = (
   let same = head_is f e events row in
@@ -101,8 +101,8 @@ ascends-row f (e ∷ events) row = (
   ascends-row (f + 1) events (tail_is f e events row),
 )
 
-pub ascends-append : (f : ℕ) (earlier events : List Event) → AscendsByNumber number_of earlier → All (λ e. e.number < f) earlier → AreNumberedFrom f events
-    → AscendsByNumber number_of (earlier ++ events)
+pub ascends-append : (f : ℕ) (earlier events : List Event) → AscendsByNumber event_number earlier → All (λ e. e.number < f) earlier → AreNumberedFrom f events
+    → AscendsByNumber event_number (earlier ++ events)
 ascends-append f [] events up below row = ascends-row f events row
 ascends-append f (e ∷ earlier) events up below row =
     let lt : e.number < f = All-head (λ x. x.number < f) e earlier below in (
@@ -124,10 +124,10 @@ row_of first many events numbered =
 
 -- what a range adds to events up to it
 pub record GoesOn (shown to : ℕ) (earlier events : List Event) : Type 0 where
-  pub ascends : AscendsByNumber number_of (earlier ++ events)
+  pub ascends : AscendsByNumber event_number (earlier ++ events)
   pub below : All (λ e. e.number < to + 1) (earlier ++ events)
 
-pub goes_on : (shown to end : ℕ) (earlier events : List Event) → shown < to → AscendsByNumber number_of earlier → All (λ e. e.number < shown + 1) earlier
+pub goes_on : (shown to end : ℕ) (earlier events : List Event) → shown < to → AscendsByNumber event_number earlier → All (λ e. e.number < shown + 1) earlier
     → map (λ (e : Event). e.number) events ≡ numbers_between (max (shown + 1) 1) (min to end) → GoesOn shown to earlier events
 goes_on shown to end earlier events more up below numbered =
     let first : max (shown + 1) 1 ≡ shown + 1 = omega arith in

@@ -10,13 +10,13 @@ use Rattle.flowfile_record.specs.declared.event.Event.{Event}
 use Rattle.machine_model.specs.Files.{is_number_among}
 use Rattle.machine_model.specs.Lineage.{HasTold, IsLineage, Lineage}
 use Rattle.machine_model.proofs.Among.{Among, among_contained, contains_among}
-use Rattle.prov_index.specs.Index.{number_of, event_of}
+use Rattle.prov_index.specs.Index.{event_number, event_of}
 use Rattle.flow_query.specs.Parts.{events_at}
 use Rattle.flow_query.specs.Texts.{told_in}
 
 -- ---- an event that goes behind others
 
-pub below_next : (events : List Event) (next : Event) (later : List Event) → AscendsByNumber number_of (events ++ next ∷ later) → All (λ e. e.number < next.number) events
+pub below_next : (events : List Event) (next : Event) (later : List Event) → AscendsByNumber event_number (events ++ next ∷ later) → All (λ e. e.number < next.number) events
 below_next [] next later up = All-nil (λ e. e.number < next.number)
 below_next (e ∷ events) next later up =
     All-cons (λ x. x.number < next.number) e events
@@ -91,7 +91,7 @@ pairs_tail : (n : ℕ) (numbers : List ℕ) → AllPairs (λ a b. a < b) (n ∷ 
 pairs_tail n numbers pairs = λ i j d lt within. pairs (suc i) (suc j) d (omega arith) (omega arith)
 
 -- of ascending numbers that are there, the events stand in the order of the events
-pub told_at : (events : List Event) (numbers : List ℕ) → AscendsByNumber number_of events → AllPairs (λ a b. a < b) numbers → All (IsThere events) numbers → events_at events numbers ≡ told_in events numbers
+pub told_at : (events : List Event) (numbers : List ℕ) → AscendsByNumber event_number events → AllPairs (λ a b. a < b) numbers → All (IsThere events) numbers → events_at events numbers ≡ told_in events numbers
 told_at [] [] up pairs there = refl
 told_at [] (n ∷ numbers) up pairs there = absurd (false≢true (All-head (IsThere []) n numbers there))
 told_at (e ∷ events) [] up pairs there = sym (told_none (e ∷ events))
@@ -140,7 +140,7 @@ pub all_there : (events : List Event) (file : ℕ) (lineage : Lineage) → IsLin
 all_there events file lineage is =
     All-weaker (Contains lineage.events) (IsThere events) (λ n has. there_told events file n ((is.told.just n).0 has)) lineage.events (All-contains_itself lineage.events)
 
-pub told_is : (events : List Event) (file : ℕ) (lineage : Lineage) → AscendsByNumber number_of events → IsLineage events file lineage → events_at events lineage.events ≡ told_in events lineage.events
+pub told_is : (events : List Event) (file : ℕ) (lineage : Lineage) → AscendsByNumber event_number events → IsLineage events file lineage → events_at events lineage.events ≡ told_in events lineage.events
 told_is events file lineage up is = told_at events lineage.events up is.told.ascend (all_there events file lineage is)
 
 -- ---- one number more

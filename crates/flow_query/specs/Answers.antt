@@ -69,20 +69,20 @@ pub record HasBegun (query : Query) (ids : List (List ℕ)) (state : State) (bef
   pub written : after ≡ before ++ part
 
 -- .. or nothing
-abbrev pub IsBroken : Query → (ids : List (List ℕ)) → State → (before after : List ℕ) → Type 0
-IsBroken query ids state before after = (after ≡ before) ⊎ HasBegun query ids state before after
+abbrev pub IsBrokenOff : Query → (ids : List (List ℕ)) → State → (before after : List ℕ) → Type 0
+IsBrokenOff query ids state before after = (after ≡ before) ⊎ HasBegun query ids state before after
 
 -- Behind what stood in the sink stands now what is printed, all of it; or nothing is there to be printed; or, after a
 -- failure, only a front of it stands there.
-abbrev pub IsAnswer : Query → (ids : List (List ℕ)) → State → (before after : List ℕ) → Result (Unit {0}) QueryError
-    → Type 0
-IsAnswer query ids state before after (Ok _) =
+abbrev pub IsQueryAnswer : Query → (ids : List (List ℕ)) → State → (before after : List ℕ)
+    → Result (Unit {0}) QueryError → Type 0
+IsQueryAnswer query ids state before after (Ok _) =
     (text : List ℕ) × Prints query ids state text × (after ≡ before ++ text)
-IsAnswer query ids state before after (Err Absent) = IsAbsent query state × (after ≡ before)
-IsAnswer query ids state before after (Err (Damaged _)) = ⊥
-IsAnswer query ids state before after (Err Disk) = IsBroken query ids state before after
-IsAnswer query ids state before after (Err Sink) = IsBroken query ids state before after
-IsAnswer query ids state before after (Err Memory) = IsBroken query ids state before after
+IsQueryAnswer query ids state before after (Err Absent) = IsAbsent query state × (after ≡ before)
+IsQueryAnswer query ids state before after (Err (Damaged _)) = ⊥
+IsQueryAnswer query ids state before after (Err Disk) = IsBrokenOff query ids state before after
+IsQueryAnswer query ids state before after (Err Sink) = IsBrokenOff query ids state before after
+IsQueryAnswer query ids state before after (Err Memory) = IsBrokenOff query ids state before after
 
 -- ---- of which stores answers come
 

@@ -8,9 +8,9 @@ use Rattle.store_core.specs.New.{kept_anew}
 use Rattle.store_core.specs.State.{state_with}
 
 -- a store is made once one of its logs is current
-abbrev pub IsMade : Files → Type 0
-IsMade files = current_number files ≡ None → ⊥
+abbrev pub StoreIsMade : Files → Type 0
+StoreIsMade files = current_number files ≡ None → ⊥
 
 -- the state of a new store of a flow: its queues are empty, and nothing has happened
-abbrev pub new_state : Flow → (lot : ℕ) → State
-new_state flow lot = state_with (λ at. []) [] (kept_anew flow lot)
+abbrev pub state_anew : Flow → (lot : ℕ) → State
+state_anew flow lot = state_with (λ at. []) [] (kept_anew flow lot)

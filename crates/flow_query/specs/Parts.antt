@@ -34,8 +34,8 @@ IsPrinted text before after (Err Sink) = HasFront text before after
 IsPrinted text before after (Err Memory) = HasFront text before after
 
 -- the errors of a call that writes nothing
-abbrev pub IsUnread : QueryError → Type 0
-IsUnread error = (error ≡ Disk) ⊎ (error ≡ Memory) ⊎ ((damage : Damage) × (error ≡ Damaged damage))
+abbrev pub IsReadingError : QueryError → Type 0
+IsReadingError error = (error ≡ Disk) ⊎ (error ≡ Memory) ⊎ ((damage : Damage) × (error ≡ Damaged damage))
 
 -- ---- contents
 
@@ -58,17 +58,17 @@ IsFoundBy store id test (Some n) = (identifier store n ≡ id) × (test n ≡ tr
 IsFoundBy store id test None = (n : ℕ) → identifier store n ≡ id → test n ≡ true → ⊥
 
 -- The lineage of a file was written, or after a failure of the sink a front of it. Without memory for it, nothing was.
-abbrev pub IsTold : (store : ℕ) → List Event → (file : ℕ) → (before after : List ℕ) → Result (Unit {0}) QueryError
-    → Type 0
-IsTold store events file before after (Ok _) =
+abbrev pub LineageIsPrinted : (store : ℕ) → List Event → (file : ℕ) → (before after : List ℕ)
+    → Result (Unit {0}) QueryError → Type 0
+LineageIsPrinted store events file before after (Ok _) =
     (lineage : Lineage) × IsLineage events file lineage × (after ≡ before ++ lineage_text store events file lineage)
-IsTold store events file before after (Err Sink) =
+LineageIsPrinted store events file before after (Err Sink) =
     (lineage : Lineage) × IsLineage events file lineage
     × HasFront (lineage_text store events file lineage) before after
-IsTold store events file before after (Err Memory) = after ≡ before
-IsTold store events file before after (Err Absent) = ⊥
-IsTold store events file before after (Err Disk) = ⊥
-IsTold store events file before after (Err (Damaged _)) = ⊥
+LineageIsPrinted store events file before after (Err Memory) = after ≡ before
+LineageIsPrinted store events file before after (Err Absent) = ⊥
+LineageIsPrinted store events file before after (Err Disk) = ⊥
+LineageIsPrinted store events file before after (Err (Damaged _)) = ⊥
 
 -- the events of these numbers, one behind the other
 abbrev pub events_at : List Event → (numbers : List ℕ) → List Event
@@ -80,8 +80,8 @@ events_at events numbers = filter_map (event_of events) numbers
 abbrev pub IsSinkOrMemory : QueryError → Type 0
 IsSinkOrMemory error = (error ≡ Sink) ⊎ (error ≡ Memory)
 
-abbrev pub arrival_of : Waiting → ℕ
-arrival_of w = w.arrival
+abbrev pub waiting_arrival : Waiting → ℕ
+waiting_arrival w = w.arrival
 
 -- what a queue's lines say of a live file
 abbrev pub waiting_of : ActiveFile → Waiting
@@ -92,15 +92,15 @@ abbrev pub waiting_in : List ActiveFile → (place : ℕ) → List Waiting
 waiting_in files place = map waiting_of (filter (λ a. a.connection == place) files)
 
 -- what is listed at a place of lists
-abbrev pub listed_at : List (Vec Waiting) → (place : ℕ) → List Waiting
-listed_at lists place = slice_index_or (map (λ list. list.items) lists) place []
+abbrev pub listed_waiting : List (Vec Waiting) → (place : ℕ) → List Waiting
+listed_waiting lists place = slice_index_or (map (λ list. list.items) lists) place []
 
 -- .. and by arrival
 abbrev pub waiting_at : List ActiveFile → (place : ℕ) → List Waiting
-waiting_at files place = with_items arrival_of (waiting_in files place) []
+waiting_at files place = with_items waiting_arrival (waiting_in files place) []
 
-abbrev pub size_of : Waiting → ℕ
-size_of w = w.size
+abbrev pub waiting_size : Waiting → ℕ
+waiting_size w = w.size
 
 abbrev pub waiting_text : ℕ → Waiting → List ℕ
 waiting_text store w = text_of (line.Queued (identifier store w.number) w.size)
@@ -108,7 +108,7 @@ waiting_text store w = text_of (line.Queued (identifier store w.number) w.size)
 -- a connection's line, and behind it those of its files
 abbrev pub line_text : ℕ → (id : List ℕ) → List Waiting → List ℕ
 line_text store id queue =
-    connection_text id (length queue) (sum_by size_of queue) ++ flat_map (waiting_text store) queue
+    connection_text id (length queue) (sum_by waiting_size queue) ++ flat_map (waiting_text store) queue
 
 -- all of them, in the order of the connections
 abbrev pub lines_text : Kept → List ℕ

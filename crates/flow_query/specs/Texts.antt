@@ -8,8 +8,8 @@ use Rattle.machine_model.specs.Files.{content_bytes, is_number_among}
 use Rattle.machine_model.specs.Lineage.{Lineage}
 use Rattle.machine_model.specs.State.{QueuedFile, State}
 use Rattle.flow_report.specs.Events.{event_data}
-use Rattle.flow_report.specs.Texts.{line_feed, line_of, connection_text, kin_word}
-use Rattle.flow_report.specs.Words.{uuid_text}
+use Rattle.flow_report.specs.Texts.{line_end, line_of, connection_text, kin_word}
+use Rattle.flow_report.specs.Words.{identifier_text}
 use Rattle.flow_report.specs.declared.line.KinWord.{KinWord}
 use Rattle.flow_report.specs.declared.line.KinWord.TheVariants.{File, Ancestor, Descendant}
 
@@ -17,7 +17,7 @@ use Rattle.flow_report.specs.declared.line.KinWord.TheVariants.{File, Ancestor, 
 
 -- the line of an event of a store
 abbrev pub event_text : ℕ → Event → List ℕ
-event_text store event = compact_text (event_data store event) ++ line_feed
+event_text store event = compact_text (event_data store event) ++ line_end
 
 abbrev pub events_text : State → List ℕ
 events_text state = flat_map (event_text state.store) state.events
@@ -27,7 +27,7 @@ events_text state = flat_map (event_text state.store) state.events
 -- the line of a file of a queue: its identifier, and how many bytes its content has
 abbrev pub queued_text : ℕ → QueuedFile → List ℕ
 queued_text store file = line_of
-    (codes "file " ∷ uuid_text (identifier store file.number) ∷ codes " " ∷ decimal (length file.bytes) ∷ [])
+    (codes "file " ∷ identifier_text (identifier store file.number) ∷ codes " " ∷ decimal (length file.bytes) ∷ [])
 
 -- the line of a connection, and behind it those of its files by arrival
 abbrev pub queue_text : ℕ → List ℕ × List QueuedFile → List ℕ
@@ -52,7 +52,7 @@ sound_text state = line_of
 
 -- the line of a file of a lineage
 abbrev pub kin_text : KinWord → (store file : ℕ) → List ℕ
-kin_text word store file = line_of (kin_word word ∷ codes " " ∷ uuid_text (identifier store file) ∷ [])
+kin_text word store file = line_of (kin_word word ∷ codes " " ∷ identifier_text (identifier store file) ∷ [])
 
 -- the events of these numbers
 abbrev pub told_in : List Event → (numbers : List ℕ) → List Event

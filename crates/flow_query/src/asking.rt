@@ -8,8 +8,8 @@ ghost use Rattle.machine_model.specs.State.{State};
 ghost use Rattle.store_core.specs.Kept.{kept_in};
 ghost use Rattle.store_core.specs.Seen.{IsSeenOn, no_flow};
 ghost use Rattle.store_core.specs.State.{stands_for};
-ghost use Rattle.flow_query.specs.Answers.{IsAnswer, IsSoundAnswer, TellsAbsence};
-ghost use Rattle.flow_query.specs.Asked.{Answers, IsRightOnAbsence};
+ghost use Rattle.flow_query.specs.Answers.{IsQueryAnswer, IsSoundAnswer, TellsAbsence};
+ghost use Rattle.flow_query.specs.Asked.{AnswersQuery, IsRightOnAbsence};
 
 use crate::QueryError;
 use crate::check::show_check;
@@ -47,7 +47,7 @@ pub fn answer<D: Disk, S: Sink>(
 ) -> Result<(), QueryError>
     ensures printed { IsTrue D.tells → IsTrue S.tells → (kept : Kept) → kept_in no_flow 0 (D.held disk.old) ≡ Ok kept
         → (state : State) → stands_for no_flow 0 (D.held disk.old) ≡ Ok state
-        → IsAnswer query kept.connections state (S.written sink.old) (S.written sink.new) result }
+        → IsQueryAnswer query kept.connections state (S.written sink.old) (S.written sink.new) result }
     // An answer comes only of a store that is sound. A damage is the first that its files have, and nothing is printed.
     ensures sound { IsTrue D.tells → IsSoundAnswer (D.held disk.old) sink.old sink.new result }
     // .. and whatever the sink tells, an absence is told exactly where it is one.
@@ -69,7 +69,7 @@ fn show<D: Disk, S: Sink>(
     disk: &mut D,
     sink: &mut S,
 ) -> Result<(), QueryError>
-    ensures printed { Answers D.tells S.tells (D.held disk.old) seen.now query (S.written sink.old)
+    ensures printed { AnswersQuery D.tells S.tells (D.held disk.old) seen.now query (S.written sink.old)
         (S.written sink.new) result }
     ensures absence { IsRightOnAbsence D.tells (D.held disk.old) seen.now query result }
     ensures undamaged { (damage : Damage) → IsErrOf result (QueryError.Damaged damage) → IsTrue D.tells

@@ -3,7 +3,7 @@ ghost use Rattle.std.specs.Prelude.{◌≡◌, ◌<◌, true, length, All, IfErr
 ghost use Rattle.disk_trait.specs.Faults.{CountsFaults};
 ghost use Rattle.disk_trait.specs.Files.{Files};
 ghost use Rattle.store_core.specs.Seen.{kept_seen};
-ghost use Rattle.flow_query.specs.Asked.{Answers};
+ghost use Rattle.flow_query.specs.Asked.{AnswersQuery};
 ghost use Rattle.flow_query.specs.declared.asking.Query.TheVariants as query;
 
 use crate::QueryError;
@@ -14,7 +14,7 @@ use world_io::Sink;
 
 /// Says that the store is sound, and how many files and events it has.
 pub(crate) fn show_check<S: Sink>(seen: &Seen, sink: &mut S) -> Result<(), QueryError>
-    ensures printed { (files : Files) → Answers true S.tells files seen.now query.Check (S.written sink.old)
+    ensures printed { (files : Files) → AnswersQuery true S.tells files seen.now query.Check (S.written sink.old)
         (S.written sink.new) result }
     ensures refusal { IfErr result (λ error. error ≡ QueryError.Sink) }
     ensures sink { CountsFaults (S.faults sink.old) (S.faults sink.new) (IsErrOf result QueryError.Sink) }

@@ -5,7 +5,7 @@ ghost use Rattle.disk_trait.specs.Images.{Stays};
 ghost use Rattle.disk_trait.specs.declared.damage.Damage.{Damage};
 ghost use Rattle.flowfile_record.specs.Stored.{kept_of};
 ghost use Rattle.store_core.specs.Seen.{IsSeenOn, kept_seen};
-ghost use Rattle.flow_query.specs.Asked.{Answers, IsRightOnAbsence};
+ghost use Rattle.flow_query.specs.Asked.{AnswersQuery, IsRightOnAbsence};
 ghost use Rattle.flow_query.specs.Parts.{IsFileOfId, HasNoFile};
 ghost use Rattle.flow_query.specs.declared.asking.Query.TheVariants as query;
 
@@ -26,7 +26,7 @@ pub(crate) fn show_content<D: Disk, S: Sink>(
     disk: &mut D,
     sink: &mut S,
 ) -> Result<(), QueryError>
-    ensures printed { Answers D.tells S.tells (D.held disk.old) seen.now (query.Content id) (S.written sink.old)
+    ensures printed { AnswersQuery D.tells S.tells (D.held disk.old) seen.now (query.Content id) (S.written sink.old)
         (S.written sink.new) result }
     ensures absence { IsRightOnAbsence D.tells (D.held disk.old) seen.now (query.Content id) result }
     ensures undamaged { (damage : Damage) → IsErrOf result (QueryError.Damaged damage) → IsTrue D.tells

@@ -4,7 +4,7 @@ ghost use Rattle.disk_trait.specs.Faults.{CountsFaults};
 ghost use Rattle.disk_trait.specs.Images.{Stays};
 ghost use Rattle.disk_trait.specs.declared.damage.Damage.{Damage};
 ghost use Rattle.store_core.specs.Seen.{IsSeenOn};
-ghost use Rattle.flow_query.specs.Asked.{Answers};
+ghost use Rattle.flow_query.specs.Asked.{AnswersQuery};
 ghost use Rattle.flow_query.specs.declared.asking.Query.TheVariants as query;
 
 use crate::QueryError;
@@ -25,7 +25,7 @@ pub(crate) fn show_events<D: Disk, S: Sink>(
     disk: &mut D,
     sink: &mut S,
 ) -> Result<(), QueryError>
-    ensures printed { Answers D.tells S.tells (D.held disk.old) seen.now query.Events (S.written sink.old)
+    ensures printed { AnswersQuery D.tells S.tells (D.held disk.old) seen.now query.Events (S.written sink.old)
         (S.written sink.new) result }
     ensures present { IsErrOf result QueryError.Absent → ⊥ }
     ensures undamaged { (damage : Damage) → IsErrOf result (QueryError.Damaged damage) → IsTrue D.tells

@@ -5,10 +5,10 @@ ghost use Rattle.disk_trait.specs.Images.{Stays};
 ghost use Rattle.disk_trait.specs.declared.damage.Damage.{Damage};
 ghost use Rattle.flowfile_record.specs.NumberedItems.{AscendsByNumber};
 ghost use Rattle.machine_model.specs.Lineage.{is_named};
-ghost use Rattle.prov_index.specs.Index.{number_of};
+ghost use Rattle.prov_index.specs.Index.{event_number};
 ghost use Rattle.store_core.specs.Seen.{IsSeenOn, OfTheState, kept_seen};
-ghost use Rattle.flow_query.specs.Asked.{Answers, IsRightOnAbsence};
-ghost use Rattle.flow_query.specs.Parts.{IsFoundBy, IsUnread};
+ghost use Rattle.flow_query.specs.Asked.{AnswersQuery, IsRightOnAbsence};
+ghost use Rattle.flow_query.specs.Parts.{IsFoundBy, IsReadingError};
 ghost use Rattle.flow_query.specs.declared.asking.Query.TheVariants as query;
 
 use crate::QueryError;
@@ -33,7 +33,7 @@ pub(crate) fn show_lineage<D: Disk, S: Sink>(
     disk: &mut D,
     sink: &mut S,
 ) -> Result<(), QueryError>
-    ensures printed { Answers D.tells S.tells (D.held disk.old) seen.now (query.Lineage id) (S.written sink.old)
+    ensures printed { AnswersQuery D.tells S.tells (D.held disk.old) seen.now (query.Lineage id) (S.written sink.old)
         (S.written sink.new) result }
     ensures absence { IsRightOnAbsence D.tells (D.held disk.old) seen.now (query.Lineage id) result }
     ensures undamaged { (damage : Damage) → IsErrOf result (QueryError.Damaged damage) → IsTrue D.tells
@@ -72,11 +72,11 @@ fn read_events<D: Disk>(
 ) -> Result<Named, QueryError>
     ensures events { IfOk result (λ named. OfTheState D.tells (D.held disk.old) seen.now
         (λ state. named.events ≡ state.events)) }
-    ensures ascends { IfOk result (λ named. AscendsByNumber number_of named.events) }
+    ensures ascends { IfOk result (λ named. AscendsByNumber event_number named.events) }
     ensures file { IfOk result (λ named. IsFoundBy (kept_seen seen.now).store id (is_named named.events) named.file) }
     ensures undamaged { (damage : Damage) → IsErrOf result (QueryError.Damaged damage) → IsTrue D.tells
         → IsSeenOn (D.held disk.old) seen.now → ⊥ }
-    ensures refusal { IfErr result IsUnread }
+    ensures refusal { IfErr result IsReadingError }
     ensures stays { Stays D.held D.moment D.images disk.old disk.new }
     ensures disk { CountsFaults (D.faults disk.old) (D.faults disk.new) (IsErrOf result QueryError.Disk) }
 {

@@ -4,7 +4,7 @@ ghost use Rattle.disk_trait.specs.Faults.{CountsFaults};
 ghost use Rattle.disk_trait.specs.Files.{Files};
 ghost use Rattle.flowfile_record.specs.Stored.{kept_of};
 ghost use Rattle.checkpoint_store.specs.Consistent.{IsConsistent};
-ghost use Rattle.flow_query.specs.Asked.{Answers};
+ghost use Rattle.flow_query.specs.Asked.{AnswersQuery};
 ghost use Rattle.flow_query.specs.Parts.{IsPrinted, IsSinkOrMemory, lines_text};
 ghost use Rattle.flow_query.specs.declared.asking.Query.TheVariants as query;
 
@@ -21,7 +21,7 @@ pub(crate) fn show_queues<S: Sink>(
     seen: &Seen,
     sink: &mut S,
 ) -> Result<(), QueryError>
-    ensures printed { (files : Files) → Answers true S.tells files seen.now query.Queues (S.written sink.old)
+    ensures printed { (files : Files) → AnswersQuery true S.tells files seen.now query.Queues (S.written sink.old)
         (S.written sink.new) result }
     ensures refusal { IfErr result IsSinkOrMemory }
     ensures sink { CountsFaults (S.faults sink.old) (S.faults sink.new) (IsErrOf result QueryError.Sink) }

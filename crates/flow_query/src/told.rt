@@ -4,10 +4,10 @@ ghost use Rattle.std.specs.List.{flat_map};
 ghost use Rattle.disk_trait.specs.Faults.{CountsFaults};
 ghost use Rattle.flowfile_record.specs.NumberedItems.{AscendsByNumber};
 ghost use Rattle.flow_report.specs.Writing.{Writes};
-ghost use Rattle.lineage_query.specs.Told.{seen as told_by};
+ghost use Rattle.lineage_query.specs.Told.{lineage_seen as told_by};
 ghost use Rattle.machine_model.specs.Lineage.{IsLineage, is_named};
-ghost use Rattle.prov_index.specs.Index.{event_of, number_of};
-ghost use Rattle.flow_query.specs.Parts.{IsSinkOrMemory, IsTold, events_at};
+ghost use Rattle.prov_index.specs.Index.{event_of, event_number};
+ghost use Rattle.flow_query.specs.Parts.{IsSinkOrMemory, LineageIsPrinted, events_at};
 ghost use Rattle.flow_query.specs.Texts.{event_text, lineage_text};
 
 use crate::QueryError;
@@ -23,7 +23,7 @@ use world_io::Sink;
 
 /// Moves events into an index.
 pub(crate) fn add_events(index: &mut Index, events: Vec<Event>) -> Result<(), AllocError>
-    requires { AscendsByNumber number_of (index.old ++ events.items) }
+    requires { AscendsByNumber event_number (index.old ++ events.items) }
     ensures { OnOk result (index.new ≡ index.old ++ events.items) }
 {
     for event in events {
@@ -44,10 +44,10 @@ pub(crate) fn tell<L: Ledger, S: Sink>(
     requires name { blank.name ≡ L.name }
     requires parts { blank.parts ≡ L.parts }
     requires one { blank.parts ≡ 1 }
-    requires ascends { AscendsByNumber number_of events.now }
+    requires ascends { AscendsByNumber event_number events.now }
     requires named { is_named events.now file ≡ true }
     ensures told { IsTrue S.tells
-        → IsTold store events.now file (S.written sink.old) (S.written sink.new) result }
+        → LineageIsPrinted store events.now file (S.written sink.old) (S.written sink.new) result }
     ensures refusal { IfErr result IsSinkOrMemory }
     ensures sink { CountsFaults (S.faults sink.old) (S.faults sink.new) (IsErrOf result QueryError.Sink) }
 {
@@ -64,7 +64,7 @@ fn write_lineage<L: Ledger, S: Sink>(
     told: &Lineage,
     steps: &mut Steps<L>,
 ) -> Result<(), Failed>
-    requires ascends { AscendsByNumber number_of events.now }
+    requires ascends { AscendsByNumber event_number events.now }
     requires lineage { IsLineage events.now told.now.file (told_by told.now) }
     ensures written { IsTrue S.tells → Writes (lineage_text store events.now told.now.file (told_by told.now))
         (S.written sink.old) (S.written sink.new) result }

@@ -5,7 +5,7 @@ ghost use Rattle.disk_trait.specs.Faults.{CountsFaults};
 ghost use Rattle.flowfile_record.specs.NumberedItems.{with_items};
 ghost use Rattle.checkpoint_store.specs.Consistent.{AreDistinctBy};
 ghost use Rattle.flow_report.specs.Writing.{Writes};
-ghost use Rattle.flow_query.specs.Parts.{arrival_of, line_text, listed_at, size_of, waiting_in, waiting_text};
+ghost use Rattle.flow_query.specs.Parts.{waiting_arrival, line_text, listed_waiting, waiting_size, waiting_in, waiting_text};
 
 use disk_trait::Failed;
 use flow_report::{Line, write_line};
@@ -37,7 +37,7 @@ pub(crate) fn lists_of(
 ) -> Result<Vec<Vec<Waiting>>, AllocError>
     ensures len { IfOk result (λ lists. vec_len lists ≡ connections) }
     ensures lists { IfOk result (λ lists. (place : ℕ) → place < connections
-        → listed_at lists.items place ≡ waiting_in files.now.items place) }
+        → listed_waiting lists.items place ≡ waiting_in files.now.items place) }
 {
     let mut lists = empty_lists(alloc, connections)?;
     for active in files.iter() {
@@ -49,8 +49,8 @@ pub(crate) fn lists_of(
 // Adds a file to the list of its connection.
 fn list_file(lists: &mut Vec<Vec<Waiting>>, active: &ActiveFile) -> Result<(), AllocError>
     ensures len { vec_len lists.new ≡ vec_len lists.old }
-    ensures lists { OnOk result ((place : ℕ) → place < vec_len lists.old → listed_at lists.new.items place
-        ≡ listed_at lists.old.items place ++ waiting_in (active.now ∷ []) place) }
+    ensures lists { OnOk result ((place : ℕ) → place < vec_len lists.old → listed_waiting lists.new.items place
+        ≡ listed_waiting lists.old.items place ++ waiting_in (active.now ∷ []) place) }
 {
     let place = usize::from(active.connection);
     if place < lists.len() {
@@ -65,7 +65,7 @@ fn list_file(lists: &mut Vec<Vec<Waiting>>, active: &ActiveFile) -> Result<(), A
 
 fn empty_lists(alloc: Global, count: usize) -> Result<Vec<Vec<Waiting>>, AllocError>
     ensures len { IfOk result (λ lists. vec_len lists ≡ count) }
-    ensures empty { IfOk result (λ lists. (place : ℕ) → listed_at lists.items place ≡ []) }
+    ensures empty { IfOk result (λ lists. (place : ℕ) → listed_waiting lists.items place ≡ []) }
 {
     let mut lists = Vec::new(alloc);
     for _ in 0..count {
@@ -77,8 +77,9 @@ fn empty_lists(alloc: Global, count: usize) -> Result<Vec<Vec<Waiting>>, AllocEr
 /// Takes the list of a connection out, which leaves an empty one.
 pub(crate) fn take_list(alloc: Global, lists: &mut Vec<Vec<Waiting>>, place: usize) -> Vec<Waiting>
     requires { place < vec_len lists.old }
-    ensures list { result.items ≡ listed_at lists.old.items place }
-    ensures others { (at : ℕ) → (at ≡ place → ⊥) → listed_at lists.new.items at ≡ listed_at lists.old.items at }
+    ensures list { result.items ≡ listed_waiting lists.old.items place }
+    ensures others { (at : ℕ) → (at ≡ place → ⊥)
+        → listed_waiting lists.new.items at ≡ listed_waiting lists.old.items at }
     ensures len { vec_len lists.new ≡ vec_len lists.old }
 {
     std::mem::replace(&mut lists[place], Vec::new(alloc))
@@ -89,8 +90,8 @@ pub(crate) fn queue_of(
     alloc: Global,
     waiting: Vec<Waiting>,
 ) -> Result<NumberedList<Waiting>, AllocError>
-    requires { AreDistinctBy arrival_of waiting.items }
-    ensures { IfOk result (λ queue. queue.items ≡ with_items arrival_of waiting.items []) }
+    requires { AreDistinctBy waiting_arrival waiting.items }
+    ensures { IfOk result (λ queue. queue.items ≡ with_items waiting_arrival waiting.items []) }
 {
     let mut queue = NumberedList::new(alloc);
     queue.reserve(waiting.len() as u64)?;
@@ -105,7 +106,7 @@ pub(crate) fn write_queue<S: Sink>(
     id: &str,
     queue: &NumberedList<Waiting>,
 ) -> Result<(), Failed>
-    requires { sum_by size_of queue.now.items < 2 ^ 64 }
+    requires { sum_by waiting_size queue.now.items < 2 ^ 64 }
     ensures written { IsTrue S.tells → Writes (line_text store id.now queue.now.items) (S.written sink.old)
         (S.written sink.new) result }
     ensures cause { CountsFaults (S.faults sink.old) (S.faults sink.new) (IsErr result) }
@@ -140,8 +141,8 @@ fn write_files<S: Sink>(
 
 // How many bytes the contents of a queue have together.
 fn bytes_of(queue: &NumberedList<Waiting>) -> u64
-    requires { sum_by size_of queue.now.items < 2 ^ 64 }
-    ensures { result ≡ sum_by size_of queue.now.items }
+    requires { sum_by waiting_size queue.now.items < 2 ^ 64 }
+    ensures { result ≡ sum_by waiting_size queue.now.items }
 {
     let mut bytes = 0;
     for waiting in queue.iter() {

@@ -9,7 +9,7 @@ use Rattle.machine_model.specs.Taking.{filling, next_would_pass, bin_of}
 use Rattle.machine_model.specs.View.{FileView}
 use Rattle.flow_queue.specs.declared.held.Held.{Held}
 use Rattle.flow_queue.specs.Picking.{size_by, views_at}
-use Rattle.flow_queue.specs.Queue.{view_of}
+use Rattle.flow_queue.specs.Queue.{held_view}
 use denote.Ref.{Bor}
 
 -- the size of a bin that has so many files already, and this room
@@ -88,8 +88,8 @@ some-bin min max files bin is none = absurd_some (is ∙ ap (bin_of min max) non
 
 -- ---- at a place
 
-pub view-at : (files : List (Bor Held)) (i : ℕ) (held : Bor Held) → i < length files → held ≡ get_or files i held → get_or (views_at files) i (view_of held.now) ≡ view_of held.now
-view-at files i held lt is = get_or-map (λ (h : Bor Held). view_of h.now) files i held (view_of held.now) lt ∙ ap (λ (h : Bor Held). view_of h.now) (sym is)
+pub view-at : (files : List (Bor Held)) (i : ℕ) (held : Bor Held) → i < length files → held ≡ get_or files i held → get_or (views_at files) i (held_view held.now) ≡ held_view held.now
+view-at files i held lt is = get_or-map (λ (h : Bor Held). held_view h.now) files i held (held_view held.now) lt ∙ ap (λ (h : Bor Held). held_view h.now) (sym is)
 
 module _ (min max size room i : ℕ) (files : List FileView) where
   module _ (file : FileView) (lt : i < length files) (is : get_or files i file ≡ file) where

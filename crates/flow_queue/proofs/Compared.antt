@@ -12,7 +12,7 @@ use Rattle.std.proofs.lemmas.Map.Text.{is_eq-slice_cmp}
 use Rattle.std.proofs.lemmas.Slice.Eq.{bytes_eq-Decides}
 use Rattle.machine_model.specs.declared.fragment.Whole.{Whole}
 use Rattle.machine_model.specs.declared.fragment.Fragment.{Fragment as Part}
-use Rattle.flow_queue.specs.Fragments.{whole_cmp, part_cmp, number_at}
+use Rattle.flow_queue.specs.Fragments.{whole_cmp, part_cmp, part_number}
 
 pub whole_cmp-total : IsTotalOrder whole_cmp
 whole_cmp-total = then_total (on_total (λ (whole : Whole). whole.identifier.now) nat_list_cmp_total) (on_total (λ (whole : Whole). whole.count) nat_cmp_total)
@@ -56,7 +56,7 @@ one-whole one other h =
     ((bytes_eq-Decides one.identifier.now other.identifier.now).0 parts.0, eqb-true one.count other.count parts.1)
 
 -- one part has one number
-pub one-number : (numbers : BTreeMap Part ℕ) (one other : Part) → is_eq (part_cmp one other) ≡ true → number_at one numbers ≡ number_at other numbers
+pub one-number : (numbers : BTreeMap Part ℕ) (one other : Part) → is_eq (part_cmp one other) ≡ true → part_number one numbers ≡ part_number other numbers
 one-number numbers one other h =
     let same = equal_from (part_cmp one other) h in
     λ j. lookup (λ part. is_eq (part_cmp-total.congr one other part same j)) numbers.entries

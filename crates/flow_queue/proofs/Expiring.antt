@@ -11,7 +11,7 @@ use Rattle.machine_model.specs.View.{FileView, is_expired, at_rest}
 use Rattle.machine_model.proofs.Among.{Among, among_contained, contains_among, kept_by}
 use Rattle.flow_queue.specs.declared.held.Held.{Held}
 use Rattle.flow_queue.specs.Picking.{expiring}
-use Rattle.flow_queue.specs.Queue.{number_of, view_of, views_of, flight_of}
+use Rattle.flow_queue.specs.Queue.{held_number, held_view, views_of, flight_of}
 use Rattle.flow_queue.proofs.AtRest.{seen-at}
 use Rattle.flow_queue.proofs.Numbered.{ascends-filter, ascends-map}
 
@@ -60,23 +60,23 @@ ascending-same : (numbers : List ℕ) → AscendsByNumber (λ n. n) numbers → 
 ascending-same [] up = refl
 ascending-same (n ∷ numbers) up = ap (put_ascending n) (ascending-same numbers up.1) ∙ put-first n numbers up.0
 
-pub expiring-ascends : (limits : QueueLimits) (moment : ℕ) (files : List Held) → AscendsByNumber number_of files → ascending (expiring limits moment (views_of files)) ≡ expiring limits moment (views_of files)
+pub expiring-ascends : (limits : QueueLimits) (moment : ℕ) (files : List Held) → AscendsByNumber held_number files → ascending (expiring limits moment (views_of files)) ≡ expiring limits moment (views_of files)
 expiring-ascends limits moment files up =
     let number = λ (file : FileView). file.number in
     let test = is_expired limits.expiration moment in
     let rests : FileView → Bool = λ other. not other.in_flight in
-    let views = ascends-map number_of number view_of (λ _. refl) files up in
+    let views = ascends-map held_number number held_view (λ _. refl) files up in
     let kept = ascends-filter number test (filter rests (views_of files)) (ascends-filter number rests (views_of files) views) in
     ascending-same _ (ascends-map number (λ n. n) number (λ _. refl) _ kept)
 
-resting : (files : List Held) → AscendsByNumber number_of files → (view : FileView) → Among view (views_of files) × (not view.in_flight ≡ true) → flight_of view.number files ≡ Some false
+resting : (files : List Held) → AscendsByNumber held_number files → (view : FileView) → Among view (views_of files) × (not view.in_flight ≡ true) → flight_of view.number files ≡ Some false
 resting files up view is = seen-at files view up (contains_among view (views_of files) is.0) ∙ ap (λ (b : Bool). Some b) (is_false view.in_flight is.1)
   where
     is_false : (b : Bool) → not b ≡ true → b ≡ false
     is_false true h = absurd (true≢false (sym h))
     is_false false h = refl
 
-pub expiring-rests : (limits : QueueLimits) (moment : ℕ) (files : List Held) → AscendsByNumber number_of files → All (λ n. flight_of n files ≡ Some false) (expiring limits moment (views_of files))
+pub expiring-rests : (limits : QueueLimits) (moment : ℕ) (files : List Held) → AscendsByNumber held_number files → All (λ n. flight_of n files ≡ Some false) (expiring limits moment (views_of files))
 expiring-rests limits moment files up =
     let test = is_expired limits.expiration moment in
     let rests : FileView → Bool = λ other. not other.in_flight in

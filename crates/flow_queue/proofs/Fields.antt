@@ -17,12 +17,12 @@ use Rattle.machine_model.proofs.Ordered.{pairs_head, pairs_tail, pairs_nil}
 use Rattle.machine_model.proofs.OnlyOrder.{differ-permuted}
 use Rattle.flow_queue.specs.declared.held.Held.{Held}
 use Rattle.flow_queue.specs.Inside.{AreSound}
-use Rattle.flow_queue.specs.Queue.{QueueState, number_of, size_of, view_of, views_of, IsApart, with_file, without_file, with_flight}
+use Rattle.flow_queue.specs.Queue.{QueueState, held_number, held_bytes, held_view, views_of, IsApart, queue_with_file, without_file, with_flight}
 use Rattle.flow_queue.proofs.InOrder.{Differ, filter-mapped}
 use Rattle.flow_queue.proofs.Numbered.{ascends-filter, ascends-map}
 
 abbrev Fits64 : Held → Type 0
-Fits64 held = size_of held < 2 ^ 64
+Fits64 held = held_bytes held < 2 ^ 64
 
 pub same_state : (one other : QueueState) → one.order ≡ other.order → one.limits ≡ other.limits → one.files ≡ other.files → one.spare ≡ other.spare → one ≡ other
 same_state one other order limits files spare = λ i. record { order = order i; limits = limits i; files = files i; spare = spare i }
@@ -33,84 +33,84 @@ on-err (Err error) P h = h
 
 pub sum_fits : (files : List Held) (bytes : ℕ) → AreSound files bytes → bytes ≤ length files * (2 ^ 64 - 1)
 sum_fits files bytes are =
-    let le = sum_by-le size_of (2 ^ 64 - 1) files (All-weaker Fits64 (λ held. size_of held ≤ 2 ^ 64 - 1) (λ held lt. omega arith) files are.sizes) in
+    let le = sum_by-le held_bytes (2 ^ 64 - 1) files (All-weaker Fits64 (λ held. held_bytes held ≤ 2 ^ 64 - 1) (λ held lt. omega arith) files are.sizes) in
     let is = are.sum in
     omega arith
 
 -- ---- a file comes in
 
-pub with-permutes : (new : Held) (files : List Held) → IsPermutation (new ∷ files) (with_item number_of new files)
+pub with-permutes : (new : Held) (files : List Held) → IsPermutation (new ∷ files) (with_item held_number new files)
 with-permutes new [] = IsPermutation-refl (new ∷ [])
 with-permutes new (held ∷ files) =
-    elim (nat_lt (number_of held) (number_of new)) as (λ b. IsPermutation (new ∷ held ∷ files) (cond b (held ∷ with_item number_of new files) (new ∷ held ∷ files))) [
-      | true ↦ IsPermutation-trans _ _ _ (IsPermutation-middle (new ∷ []) held files) (IsPermutation-cons held (new ∷ files) (with_item number_of new files) (with-permutes new files))
+    elim (nat_lt (held_number held) (held_number new)) as (λ b. IsPermutation (new ∷ held ∷ files) (cond b (held ∷ with_item held_number new files) (new ∷ held ∷ files))) [
+      | true ↦ IsPermutation-trans _ _ _ (IsPermutation-middle (new ∷ []) held files) (IsPermutation-cons held (new ∷ files) (with_item held_number new files) (with-permutes new files))
       | false ↦ IsPermutation-refl (new ∷ held ∷ files)
     ]
 
-pub new-number : (file : FlowFile) (files : List Held) → IsApart file files → item_of number_of file.number files ≡ None
+pub new-number : (file : FlowFile) (files : List Held) → IsApart file files → item_of held_number file.number files ≡ None
 new-number file [] apart = refl
 new-number file (held ∷ files) apart =
     let Apart = λ (other : Held). (other.file.number ≢ file.number) × (other.file.arrival ≢ file.arrival) in
     let here = All-head Apart held files apart in
-    elim (cases_Bool (number_of held == file.number)) [
-      | inl is ↦ absurd (here.0 (eqb-true (number_of held) file.number is))
-      | inr other ↦ ap (λ b. cond b (Some held) (item_of number_of file.number files)) other ∙ new-number file files (All-tail Apart held files apart)
+    elim (cases_Bool (held_number held == file.number)) [
+      | inl is ↦ absurd (here.0 (eqb-true (held_number held) file.number is))
+      | inr other ↦ ap (λ b. cond b (Some held) (item_of held_number file.number files)) other ∙ new-number file files (All-tail Apart held files apart)
     ]
 
 module _ (file : FlowFile) (files : List Held) (apart : IsApart file files) where
   abbrev new : Held
   new = record { file = file; in_flight = false }
 
-  pub arrives_apart : All (Differ (view_of new)) (views_of files)
-  arrives_apart = All-map (Differ (view_of new)) view_of files
-      (All-weaker (λ (held : Held). (held.file.number ≢ file.number) × (held.file.arrival ≢ file.arrival)) (λ held. Differ (view_of new) (view_of held)) (λ held h e. h.1 (sym e)) files apart)
+  pub arrives_apart : All (Differ (held_view new)) (views_of files)
+  arrives_apart = All-map (Differ (held_view new)) held_view files
+      (All-weaker (λ (held : Held). (held.file.number ≢ file.number) × (held.file.arrival ≢ file.arrival)) (λ held. Differ (held_view new) (held_view held)) (λ held h e. h.1 (sym e)) files apart)
 
-  pub differ-with : ArrivalsDiffer (views_of files) → ArrivalsDiffer (view_of new ∷ views_of files)
-  differ-with differ = AllPairs-cons Differ (view_of new) (views_of files) arrives_apart differ
+  pub differ-with : ArrivalsDiffer (views_of files) → ArrivalsDiffer (held_view new ∷ views_of files)
+  differ-with differ = AllPairs-cons Differ (held_view new) (views_of files) arrives_apart differ
 
-  pub sound-put : (bytes total : ℕ) → AreSound files bytes → total ≡ bytes + file.content.size → file.content.size < 2 ^ 64 → AreSound (with_file file files) total
+  pub sound-put : (bytes total : ℕ) → AreSound files bytes → total ≡ bytes + file.content.size → file.content.size < 2 ^ 64 → AreSound (queue_with_file file files) total
   sound-put bytes total are is lt = record {
     apart = record {
-      numbers = ascends-with number_of new files (new-number file files apart) are.apart.numbers;
-      arrivals = differ-permuted (view_of new ∷ views_of files) (views_of (with_file file files)) (differ-with are.apart.arrivals)
-          (IsPermutation-map view_of (new ∷ files) (with_file file files) (with-permutes new files));
+      numbers = ascends-with held_number new files (new-number file files apart) are.apart.numbers;
+      arrivals = differ-permuted (held_view new ∷ views_of files) (views_of (queue_with_file file files)) (differ-with are.apart.arrivals)
+          (IsPermutation-map held_view (new ∷ files) (queue_with_file file files) (with-permutes new files));
     };
-    sizes = All-permutation Fits64 (new ∷ files) (with_file file files) (with-permutes new files) (All-cons Fits64 new files lt are.sizes);
+    sizes = All-permutation Fits64 (new ∷ files) (queue_with_file file files) (with-permutes new files) (All-cons Fits64 new files lt are.sizes);
     sum =
-        let sum = sum_by-IsPermutation size_of (new ∷ files) (with_file file files) (with-permutes new files) in
-        let first = sum_by-cons size_of new files in
+        let sum = sum_by-IsPermutation held_bytes (new ∷ files) (queue_with_file file files) (with-permutes new files) in
+        let first = sum_by-cons held_bytes new files in
         let was = are.sum in
         omega arith;
   }
 
 -- ---- a file leaves
 
-one_gone : (n : ℕ) (held : Held) (files : List Held) → AscendsByNumber number_of files → item_of number_of n files ≡ Some held → sum_by size_of files ≡ size_of held + sum_by size_of (without_file n files)
+one_gone : (n : ℕ) (held : Held) (files : List Held) → AscendsByNumber held_number files → item_of held_number n files ≡ Some held → sum_by held_bytes files ≡ held_bytes held + sum_by held_bytes (without_file n files)
 one_gone n held [] up is = cc
 one_gone n held (first ∷ files) up is =
-    elim (cases_Bool (number_of first == n)) [
+    elim (cases_Bool (held_number first == n)) [
       | inl it ↦
           let found : Some first ≡ Some held = rw it at is in
           let same : first ≡ held = cc in
-          let above : All (λ later. n < number_of later) files = rw (eqb-true (number_of first) n it) at up.0 in
-          sum_by-cons size_of first files ∙ (λ j. size_of (same j) + sum_by size_of files)
-          ∙ ap (λ l. size_of held + sum_by size_of l) (sym (ap (λ b. cond (not b) (first ∷ without_file n files) (without_file n files)) it ∙ none_above number_of n files above))
+          let above : All (λ later. n < held_number later) files = rw (eqb-true (held_number first) n it) at up.0 in
+          sum_by-cons held_bytes first files ∙ (λ j. held_bytes (same j) + sum_by held_bytes files)
+          ∙ ap (λ l. held_bytes held + sum_by held_bytes l) (sym (ap (λ b. cond (not b) (first ∷ without_file n files) (without_file n files)) it ∙ none_above held_number n files above))
       | inr other ↦
-          let later : item_of number_of n files ≡ Some held = rw other at is in
+          let later : item_of held_number n files ≡ Some held = rw other at is in
           let rest = one_gone n held files up.1 later in
-          let left = ap (λ b. sum_by size_of (cond (not b) (first ∷ without_file n files) (without_file n files))) other in
-          let first_of = sum_by-cons size_of first files in
-          let first_left = sum_by-cons size_of first (without_file n files) in
+          let left = ap (λ b. sum_by held_bytes (cond (not b) (first ∷ without_file n files) (without_file n files))) other in
+          let first_of = sum_by-cons held_bytes first files in
+          let first_left = sum_by-cons held_bytes first (without_file n files) in
           omega arith
     ]
 
-pub sound-leave : (n : ℕ) (held : Held) (files : List Held) (bytes total : ℕ) → item_of number_of n files ≡ Some held → AreSound files bytes → total ≡ bytes - size_of held → AreSound (without_file n files) total
+pub sound-leave : (n : ℕ) (held : Held) (files : List Held) (bytes total : ℕ) → item_of held_number n files ≡ Some held → AreSound files bytes → total ≡ bytes - held_bytes held → AreSound (without_file n files) total
 sound-leave n held files bytes total there are is =
     let stays : FileView → Bool = λ view. not (view.number == n) in
     record {
       apart = record {
-        numbers = ascends-filter number_of _ files are.apart.numbers;
-        arrivals = subst ArrivalsDiffer (filter-mapped view_of stays files) (AllPairs-filter Differ stays (views_of files) are.apart.arrivals);
+        numbers = ascends-filter held_number _ files are.apart.numbers;
+        arrivals = subst ArrivalsDiffer (filter-mapped held_view stays files) (AllPairs-filter Differ stays (views_of files) are.apart.arrivals);
       };
       sizes = All-filter _ Fits64 files are.sizes;
       sum =
@@ -119,7 +119,7 @@ sound-leave n held files bytes total there are is =
           omega arith;
     }
 
-pub size-within : (n : ℕ) (held : Held) (files : List Held) (bytes : ℕ) → item_of number_of n files ≡ Some held → AreSound files bytes → size_of held ≤ bytes
+pub size-within : (n : ℕ) (held : Held) (files : List Held) (bytes : ℕ) → item_of held_number n files ≡ Some held → AreSound files bytes → held_bytes held ≤ bytes
 size-within n held files bytes there are =
     let sum = one_gone n held files are.apart.numbers there in
     let was = are.sum in
@@ -128,31 +128,31 @@ size-within n held files bytes there are =
 -- ---- a file is marked
 
 abbrev pub marks : ℕ → Bool → Held → Held
-marks number in_flight held = cond (number_of held == number) (record { file = held.file; in_flight = in_flight }) held
+marks number in_flight held = cond (held_number held == number) (record { file = held.file; in_flight = in_flight }) held
 
 pub same_file : (number : ℕ) (in_flight : Bool) (held : Held) → (marks number in_flight held).file ≡ held.file
 same_file number in_flight held =
-    elim (number_of held == number) as (λ b. (cond b (record { file = held.file; in_flight = in_flight }) held).file ≡ held.file) [ true ↦ refl | false ↦ refl ]
+    elim (held_number held == number) as (λ b. (cond b (record { file = held.file; in_flight = in_flight }) held).file ≡ held.file) [ true ↦ refl | false ↦ refl ]
 
 differ-marked : (number : ℕ) (in_flight : Bool) (files : List Held) → ArrivalsDiffer (views_of files) → ArrivalsDiffer (views_of (map (marks number in_flight) files))
 differ-marked number in_flight [] differ = pairs_nil Differ
 differ-marked number in_flight (held ∷ files) differ =
-    AllPairs-cons Differ (view_of (marks number in_flight held)) (views_of (map (marks number in_flight) files))
-    (behind files (pairs_head Differ (view_of held) (views_of files) differ))
-    (differ-marked number in_flight files (pairs_tail Differ (view_of held) (views_of files) differ))
+    AllPairs-cons Differ (held_view (marks number in_flight held)) (views_of (map (marks number in_flight) files))
+    (behind files (pairs_head Differ (held_view held) (views_of files) differ))
+    (differ-marked number in_flight files (pairs_tail Differ (held_view held) (views_of files) differ))
   where
-    behind : (others : List Held) → All (Differ (view_of held)) (views_of others) → All (Differ (view_of (marks number in_flight held))) (views_of (map (marks number in_flight) others))
-    behind [] h = All-nil (Differ (view_of (marks number in_flight held)))
+    behind : (others : List Held) → All (Differ (held_view held)) (views_of others) → All (Differ (held_view (marks number in_flight held))) (views_of (map (marks number in_flight) others))
+    behind [] h = All-nil (Differ (held_view (marks number in_flight held)))
     behind (other ∷ others) h =
-        All-cons (Differ (view_of (marks number in_flight held))) (view_of (marks number in_flight other)) (views_of (map (marks number in_flight) others))
-        (λ e. All-head (Differ (view_of held)) (view_of other) (views_of others) h (sym (ap (λ (f : FlowFile). f.arrival) (same_file number in_flight held)) ∙ e ∙ ap (λ (f : FlowFile). f.arrival) (same_file number in_flight other)))
-        (behind others (All-tail (Differ (view_of held)) (view_of other) (views_of others) h))
+        All-cons (Differ (held_view (marks number in_flight held))) (held_view (marks number in_flight other)) (views_of (map (marks number in_flight) others))
+        (λ e. All-head (Differ (held_view held)) (held_view other) (views_of others) h (sym (ap (λ (f : FlowFile). f.arrival) (same_file number in_flight held)) ∙ e ∙ ap (λ (f : FlowFile). f.arrival) (same_file number in_flight other)))
+        (behind others (All-tail (Differ (held_view held)) (held_view other) (views_of others) h))
 
-sum-marked : (number : ℕ) (in_flight : Bool) (files : List Held) → sum_by size_of (map (marks number in_flight) files) ≡ sum_by size_of files
+sum-marked : (number : ℕ) (in_flight : Bool) (files : List Held) → sum_by held_bytes (map (marks number in_flight) files) ≡ sum_by held_bytes files
 sum-marked number in_flight [] = refl
 sum-marked number in_flight (held ∷ files) =
-    let one = sum_by-cons size_of (marks number in_flight held) (map (marks number in_flight) files) in
-    let other = sum_by-cons size_of held files in
+    let one = sum_by-cons held_bytes (marks number in_flight held) (map (marks number in_flight) files) in
+    let other = sum_by-cons held_bytes held files in
     let same = ap (λ (f : FlowFile). f.content.size) (same_file number in_flight held) in
     let rest = sum-marked number in_flight files in
     omega arith
@@ -160,7 +160,7 @@ sum-marked number in_flight (held ∷ files) =
 pub sound-mark : (number : ℕ) (in_flight : Bool) (files : List Held) (bytes : ℕ) → AreSound files bytes → AreSound (with_flight number in_flight files) bytes
 sound-mark number in_flight files bytes are = record {
   apart = record {
-    numbers = ascends-map number_of number_of (marks number in_flight) (λ held. ap (λ (f : FlowFile). f.number) (same_file number in_flight held)) files are.apart.numbers;
+    numbers = ascends-map held_number held_number (marks number in_flight) (λ held. ap (λ (f : FlowFile). f.number) (same_file number in_flight held)) files are.apart.numbers;
     arrivals = differ-marked number in_flight files are.apart.arrivals;
   };
   sizes = All-map Fits64 (marks number in_flight) files

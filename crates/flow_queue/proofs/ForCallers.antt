@@ -16,20 +16,20 @@ use Rattle.machine_model.specs.Order.{goes_before, is_eligible, best}
 use Rattle.machine_model.proofs.Ordered.{best-first}
 use Rattle.machine_model.proofs.OnlyOrder.{best-only}
 use Rattle.flow_queue.specs.declared.held.Held.{Held}
-use Rattle.flow_queue.specs.Queue.{number_of, with_file, without_file, with_flight, flight_of}
+use Rattle.flow_queue.specs.Queue.{held_number, queue_with_file, without_file, with_flight, flight_of}
 
 -- ---- of each file
 
-All-with_item : (P : Held → Type 0) (new : Held) (files : List Held) → P new → All P files → All P (with_item number_of new files)
+All-with_item : (P : Held → Type 0) (new : Held) (files : List Held) → P new → All P files → All P (with_item held_number new files)
 All-with_item P new [] here all = All-cons P new [] here (All-nil P)
 All-with_item P new (held ∷ files) here all =
-    elim (nat_lt (number_of held) (number_of new)) as (λ b. All P (cond b (held ∷ with_item number_of new files) (new ∷ held ∷ files))) [
-      | true ↦ All-cons P held (with_item number_of new files) (All-head P held files all) (All-with_item P new files here (All-tail P held files all))
+    elim (nat_lt (held_number held) (held_number new)) as (λ b. All P (cond b (held ∷ with_item held_number new files) (new ∷ held ∷ files))) [
+      | true ↦ All-cons P held (with_item held_number new files) (All-head P held files all) (All-with_item P new files here (All-tail P held files all))
       | false ↦ All-cons P new (held ∷ files) here all
     ]
 
 -- what holds of each file and of one that is put holds of each file then
-pub All-with_file : (P : Held → Type 0) (file : FlowFile) (files : List Held) → P (record { file = file; in_flight = false }) → All P files → All P (with_file file files)
+pub All-with_file : (P : Held → Type 0) (file : FlowFile) (files : List Held) → P (record { file = file; in_flight = false }) → All P files → All P (queue_with_file file files)
 All-with_file P file files here all = All-with_item P (record { file = file; in_flight = false }) files here all
 
 -- ---- by its number
@@ -39,52 +39,52 @@ swapped true true x y z apart = absurd (apart refl refl)
 swapped true false x y z apart = refl
 swapped false b x y z apart = refl
 
-pub item_of-with : (n : ℕ) (new : Held) (files : List Held) → item_of number_of n (with_item number_of new files) ≡ cond (number_of new == n) (Some new) (item_of number_of n files)
+pub item_of-with : (n : ℕ) (new : Held) (files : List Held) → item_of held_number n (with_item held_number new files) ≡ cond (held_number new == n) (Some new) (item_of held_number n files)
 item_of-with n new [] = refl
 item_of-with n new (held ∷ files) =
-    elim (cases_lt (number_of held) (number_of new)) [
+    elim (cases_lt (held_number held) (held_number new)) [
       | inl lt ↦
-          let yes : nat_lt (number_of held) (number_of new) ≡ true = lt-ltb (number_of held) (number_of new) lt in
-          rw yes (ap (cond (number_of held == n) (Some held)) (item_of-with n new files)
-          ∙ swapped (number_of held == n) (number_of new == n) (Some held) (Some new) (item_of number_of n files)
-          (λ a b. let is = eqb-true (number_of held) n a in let also = eqb-true (number_of new) n b in omega arith))
-      | inr ge ↦ let no : nat_lt (number_of held) (number_of new) ≡ false = le-ltb (number_of held) (number_of new) ge in rw no refl
+          let yes : nat_lt (held_number held) (held_number new) ≡ true = lt-ltb (held_number held) (held_number new) lt in
+          rw yes (ap (cond (held_number held == n) (Some held)) (item_of-with n new files)
+          ∙ swapped (held_number held == n) (held_number new == n) (Some held) (Some new) (item_of held_number n files)
+          (λ a b. let is = eqb-true (held_number held) n a in let also = eqb-true (held_number new) n b in omega arith))
+      | inr ge ↦ let no : nat_lt (held_number held) (held_number new) ≡ false = le-ltb (held_number held) (held_number new) ge in rw no refl
     ]
 
-pub item_of-without : (n m : ℕ) (files : List Held) → item_of number_of n (without_item number_of m files) ≡ cond (m == n) None (item_of number_of n files)
+pub item_of-without : (n m : ℕ) (files : List Held) → item_of held_number n (without_item held_number m files) ≡ cond (m == n) None (item_of held_number n files)
 item_of-without n m [] = let none : Option Held = None in elim (m == n) as (λ b. none ≡ cond b none none) [ true ↦ refl | false ↦ refl ]
 item_of-without n m (held ∷ files) =
-    elim (cases_eq (number_of held) m) [
+    elim (cases_eq (held_number held) m) [
       | inl is ↦
-          let yes : (number_of held == m) ≡ true = eq-eqb (number_of held) m is in
+          let yes : (held_number held == m) ≡ true = eq-eqb (held_number held) m is in
           rw yes (item_of-without n m files ∙ elim (cases_eq m n) [
             | inl same ↦ let one : (m == n) ≡ true = eq-eqb m n same in rw one refl
             | inr differ ↦
                 let two : (m == n) ≡ false = ne_eqb m n differ in
-                let away : (number_of held == n) ≡ false = ne_eqb (number_of held) n (λ e. differ (sym is ∙ e)) in
+                let away : (held_number held == n) ≡ false = ne_eqb (held_number held) n (λ e. differ (sym is ∙ e)) in
                 rw (two, away) refl
           ])
       | inr ne ↦
-          let no : (number_of held == m) ≡ false = ne_eqb (number_of held) m ne in
-          rw no (ap (cond (number_of held == n) (Some held)) (item_of-without n m files)
-          ∙ swapped (number_of held == n) (m == n) (Some held) None (item_of number_of n files) (λ a b. ne (eqb-true (number_of held) n a ∙ sym (eqb-true m n b))))
+          let no : (held_number held == m) ≡ false = ne_eqb (held_number held) m ne in
+          rw no (ap (cond (held_number held == n) (Some held)) (item_of-without n m files)
+          ∙ swapped (held_number held == n) (m == n) (Some held) None (item_of held_number n files) (λ a b. ne (eqb-true (held_number held) n a ∙ sym (eqb-true m n b))))
     ]
 
-pub none-left : (n : ℕ) (files : List Held) → item_of number_of n (without_item number_of n files) ≡ None
-none-left n files = item_of-without n n files ∙ ap (λ b. cond b None (item_of number_of n files)) (eq-eqb n n refl)
+pub none-left : (n : ℕ) (files : List Held) → item_of held_number n (without_item held_number n files) ≡ None
+none-left n files = item_of-without n n files ∙ ap (λ b. cond b None (item_of held_number n files)) (eq-eqb n n refl)
 
-pub its-number : (n : ℕ) (held : Held) (files : List Held) → item_of number_of n files ≡ Some held → number_of held ≡ n
+pub its-number : (n : ℕ) (held : Held) (files : List Held) → item_of held_number n files ≡ Some held → held_number held ≡ n
 its-number n held [] is = cc
 its-number n held (first ∷ files) is =
-    elim (cases_eq (number_of first) n) [
+    elim (cases_eq (held_number first) n) [
       | inl same ↦
-          let here : (number_of first == n) ≡ true = eq-eqb (number_of first) n same in
+          let here : (held_number first == n) ≡ true = eq-eqb (held_number first) n same in
           let found : Some first ≡ Some held = rw here at is in
           let it : first ≡ held = cc in
-          ap number_of (sym it) ∙ same
+          ap held_number (sym it) ∙ same
       | inr other ↦
-          let away : (number_of first == n) ≡ false = ne_eqb (number_of first) n other in
-          let later : item_of number_of n files ≡ Some held = rw away at is in
+          let away : (held_number first == n) ≡ false = ne_eqb (held_number first) n other in
+          let later : item_of held_number n files ≡ Some held = rw away at is in
           its-number n held files later
     ]
 
@@ -98,14 +98,14 @@ after_none : {X Y : Type 0} (f : X → Y) (b : Bool) (o : Option X) → option_m
 after_none f true o = refl
 after_none f false o = refl
 
-pub flight_of-with_file : (n : ℕ) (file : FlowFile) (files : List Held) → flight_of n (with_file file files) ≡ cond (file.number == n) (Some false) (flight_of n files)
+pub flight_of-with_file : (n : ℕ) (file : FlowFile) (files : List Held) → flight_of n (queue_with_file file files) ≡ cond (file.number == n) (Some false) (flight_of n files)
 flight_of-with_file n file files =
     let new : Held = record { file = file; in_flight = false } in
-    ap (option_map (λ (held : Held). held.in_flight)) (item_of-with n new files) ∙ after (λ (held : Held). held.in_flight) (file.number == n) new (item_of number_of n files)
+    ap (option_map (λ (held : Held). held.in_flight)) (item_of-with n new files) ∙ after (λ (held : Held). held.in_flight) (file.number == n) new (item_of held_number n files)
 
 pub flight_of-without_file : (n m : ℕ) (files : List Held) → flight_of n (without_file m files) ≡ cond (m == n) None (flight_of n files)
 flight_of-without_file n m files =
-    ap (option_map (λ (held : Held). held.in_flight)) (item_of-without n m files) ∙ after_none (λ (held : Held). held.in_flight) (m == n) (item_of number_of n files)
+    ap (option_map (λ (held : Held). held.in_flight)) (item_of-without n m files) ∙ after_none (λ (held : Held). held.in_flight) (m == n) (item_of held_number n files)
 
 -- in the place of an answer, where there is one
 abbrev pub in_place : Bool → Option Bool → Option Bool
@@ -114,24 +114,24 @@ in_place in_flight known = option_map (λ _. in_flight) known
 pub flight_of-with_flight : (n m : ℕ) (in_flight : Bool) (files : List Held) → flight_of n (with_flight m in_flight files) ≡ cond (m == n) (in_place in_flight (flight_of n files)) (flight_of n files)
 flight_of-with_flight n m in_flight [] = let none : Option Bool = None in elim (m == n) as (λ b. none ≡ cond b none none) [ true ↦ refl | false ↦ refl ]
 flight_of-with_flight n m in_flight (held ∷ files) =
-    elim (cases_eq (number_of held) n) [
+    elim (cases_eq (held_number held) n) [
       | inl is ↦
-          let here : (number_of held == n) ≡ true = eq-eqb (number_of held) n is in
+          let here : (held_number held == n) ≡ true = eq-eqb (held_number held) n is in
           elim (cases_eq m n) [
             | inl same ↦
                 let one : (m == n) ≡ true = eq-eqb m n same in
-                let marked : (number_of held == m) ≡ true = eq-eqb (number_of held) m (is ∙ sym same) in
+                let marked : (held_number held == m) ≡ true = eq-eqb (held_number held) m (is ∙ sym same) in
                 rw (marked, here, one) refl
             | inr differ ↦
                 let two : (m == n) ≡ false = ne_eqb m n differ in
-                let left : (number_of held == m) ≡ false = ne_eqb (number_of held) m (λ e. differ (sym e ∙ is)) in
+                let left : (held_number held == m) ≡ false = ne_eqb (held_number held) m (λ e. differ (sym e ∙ is)) in
                 rw (left, here, two) refl
           ]
       | inr ne ↦
-          let away : (number_of held == n) ≡ false = ne_eqb (number_of held) n ne in
-          elim (cases_eq (number_of held) m) [
-            | inl e ↦ let marked : (number_of held == m) ≡ true = eq-eqb (number_of held) m e in rw (marked, away) (flight_of-with_flight n m in_flight files)
-            | inr f ↦ let left : (number_of held == m) ≡ false = ne_eqb (number_of held) m f in rw (left, away) (flight_of-with_flight n m in_flight files)
+          let away : (held_number held == n) ≡ false = ne_eqb (held_number held) n ne in
+          elim (cases_eq (held_number held) m) [
+            | inl e ↦ let marked : (held_number held == m) ≡ true = eq-eqb (held_number held) m e in rw (marked, away) (flight_of-with_flight n m in_flight files)
+            | inr f ↦ let left : (held_number held == m) ≡ false = ne_eqb (held_number held) m f in rw (left, away) (flight_of-with_flight n m in_flight files)
           ]
     ]
 

@@ -14,7 +14,7 @@ use Rattle.machine_model.specs.View.{FileView}
 use Rattle.machine_model.specs.declared.fragment.Whole.{Whole}
 use Rattle.machine_model.specs.declared.fragment.Fragment.{Fragment as Part}
 use Rattle.machine_model.specs.Fragments.{fragment_seen}
-use Rattle.flow_queue.specs.Fragments.{whole_cmp, part_cmp, number_at, AreFirst, IsNoted, added, numbers_from, files_of_whole, AreMissing}
+use Rattle.flow_queue.specs.Fragments.{whole_cmp, part_cmp, part_number, AreFirst, IsNoted, added, part_numbers_from, files_of_whole, AreMissing}
 use Rattle.flow_queue.specs.Picking.{Picks}
 use Rattle.flow_queue.proofs.Compared.{same-parts, one-number, one-whole}
 
@@ -63,24 +63,24 @@ first-other numbers files file is first part =
     ∙ ap (λ b. option_or (option_map number_of (fragment_at (fragment_seen part) part.index files)) (cond b (Some file.number) None)) (sym no)
     ∙ sym (more part files file)
 
-pub noted-new : (noted : Part) (number : ℕ) (before after : BTreeMap Part ℕ) → is_some (number_at noted before) ≡ false
-    → ((part : Part) → number_at part after ≡ cond (is_eq (part_cmp noted part)) (Some number) (number_at part before)) → IsNoted noted number before after
+pub noted-new : (noted : Part) (number : ℕ) (before after : BTreeMap Part ℕ) → is_some (part_number noted before) ≡ false
+    → ((part : Part) → part_number part after ≡ cond (is_eq (part_cmp noted part)) (Some number) (part_number part before)) → IsNoted noted number before after
 noted-new noted number before after none changed part =
     changed part ∙ (elim (is_eq (part_cmp noted part)) as (λ b. is_eq (part_cmp noted part) ≡ b
-    → cond b (Some number) (number_at part before) ≡ option_or (number_at part before) (cond b (Some number) None)) [
-      | true ↦ λ same. was_none (number_at part before) (ap is_some (sym (one-number before noted part same)) ∙ none)
-      | false ↦ λ other. sym (or_none (number_at part before))
+    → cond b (Some number) (part_number part before) ≡ option_or (part_number part before) (cond b (Some number) None)) [
+      | true ↦ λ same. was_none (part_number part before) (ap is_some (sym (one-number before noted part same)) ∙ none)
+      | false ↦ λ other. sym (or_none (part_number part before))
     ] refl)
   where
     was_none : (o : Option ℕ) → is_some o ≡ false → Some number ≡ option_or o (Some number)
     was_none None h = refl
     was_none (Some n) h = absurd (true≢false h)
 
-pub noted-kept : (noted : Part) (number : ℕ) (before : BTreeMap Part ℕ) → is_some (number_at noted before) ≡ true → IsNoted noted number before before
+pub noted-kept : (noted : Part) (number : ℕ) (before : BTreeMap Part ℕ) → is_some (part_number noted before) ≡ true → IsNoted noted number before before
 noted-kept noted number before some part =
-    elim (is_eq (part_cmp noted part)) as (λ b. is_eq (part_cmp noted part) ≡ b → number_at part before ≡ option_or (number_at part before) (cond b (Some number) None)) [
-      | true ↦ λ same. was_some (number_at part before) (ap is_some (sym (one-number before noted part same)) ∙ some)
-      | false ↦ λ other. sym (or_none (number_at part before))
+    elim (is_eq (part_cmp noted part)) as (λ b. is_eq (part_cmp noted part) ≡ b → part_number part before ≡ option_or (part_number part before) (cond b (Some number) None)) [
+      | true ↦ λ same. was_some (part_number part before) (ap is_some (sym (one-number before noted part same)) ∙ some)
+      | false ↦ λ other. sym (or_none (part_number part before))
     ] refl
   where
     was_some : (o : Option ℕ) → is_some o ≡ true → o ≡ option_or o (Some number)
@@ -112,17 +112,17 @@ joined (Some file) None = refl
 joined None rest = refl
 
 numbers-are : (numbers : BTreeMap Part ℕ) (whole : Whole) (files : List FileView) (place left : ℕ) → AreFirst numbers files
-    → numbers_from numbers whole place left ≡ option_map numbers_of (fragments_from (any_of whole) (place + 1) left files)
+    → part_numbers_from numbers whole place left ≡ option_map numbers_of (fragments_from (any_of whole) (place + 1) left files)
 numbers-are numbers whole files place zero first = refl
 numbers-are numbers whole files place (suc left) first =
     let part : Part = record { whole = whole; index = place + 1 } in
-    let here : number_at part numbers ≡ option_map number_of (fragment_at (any_of whole) (place + 1) files)
+    let here : part_number part numbers ≡ option_map number_of (fragment_at (any_of whole) (place + 1) files)
     = first part ∙ ap (option_map number_of) (same_there (fragment_seen part) (any_of whole) (place + 1) files refl refl) in
     (λ j. added (here j) (numbers-are numbers whole files (place + 1) left first j))
     ∙ joined (fragment_at (any_of whole) (place + 1) files) (fragments_from (any_of whole) (place + 1 + 1) left files)
 
 pub whole-numbers : (numbers : BTreeMap Part ℕ) (whole : Whole) (files : List FileView) → AreFirst numbers files
-    → numbers_from numbers whole 0 whole.count ≡ option_map numbers_of (files_of_whole whole files)
+    → part_numbers_from numbers whole 0 whole.count ≡ option_map numbers_of (files_of_whole whole files)
 whole-numbers numbers whole files first = numbers-are numbers whole files 0 whole.count first
 
 -- what a fragment is picked with is its whole
@@ -135,7 +135,7 @@ part-whole part file files is =
 
 -- the numbers so far, and those of the other parts
 abbrev pub gone_on : BTreeMap Part ℕ → Whole → ℕ → List ℕ → Option (List ℕ)
-gone_on numbers whole place list = option_map (λ rest. list ++ rest) (numbers_from numbers whole place (whole.count - place))
+gone_on numbers whole place list = option_map (λ rest. list ++ rest) (part_numbers_from numbers whole place (whole.count - place))
 
 pushed : (list : List ℕ) (number : ℕ) (rest : Option (List ℕ)) → option_map (λ l. list ++ l) (added (Some number) rest) ≡ option_map (λ l. (list ++ number ∷ []) ++ l) rest
 pushed list number None = refl
@@ -143,32 +143,32 @@ pushed list number (Some rest) = ap (λ l. Some l) (sym (append_assoc list (numb
 
 one_less : (numbers : BTreeMap Part ℕ) (whole : Whole) (place : ℕ) (list : List ℕ) → place < whole.count
     → gone_on numbers whole place list
-    ≡ option_map (λ rest. list ++ rest) (added (number_at (record { whole = whole; index = place + 1 }) numbers) (numbers_from numbers whole (place + 1) (whole.count - (place + 1))))
+    ≡ option_map (λ rest. list ++ rest) (added (part_number (record { whole = whole; index = place + 1 }) numbers) (part_numbers_from numbers whole (place + 1) (whole.count - (place + 1))))
 one_less numbers whole place list lt =
     let is : whole.count - place ≡ suc (whole.count - (place + 1)) = omega arith in
-    ap (λ left. option_map (λ rest. list ++ rest) (numbers_from numbers whole place left)) is
+    ap (λ left. option_map (λ rest. list ++ rest) (part_numbers_from numbers whole place left)) is
 
-pub gone-more : (numbers : BTreeMap Part ℕ) (whole : Whole) (place number : ℕ) (list : List ℕ) → place < whole.count → Some number ≡ number_at (record { whole = whole; index = place + 1 }) numbers
+pub gone-more : (numbers : BTreeMap Part ℕ) (whole : Whole) (place number : ℕ) (list : List ℕ) → place < whole.count → Some number ≡ part_number (record { whole = whole; index = place + 1 }) numbers
     → gone_on numbers whole (place + 1) (list ++ number ∷ []) ≡ gone_on numbers whole place list
 gone-more numbers whole place number list lt is =
-    let rest = numbers_from numbers whole (place + 1) (whole.count - (place + 1)) in
+    let rest = part_numbers_from numbers whole (place + 1) (whole.count - (place + 1)) in
     sym (pushed list number rest) ∙ ap (λ found. option_map (λ l. list ++ l) (added found rest)) is ∙ sym (one_less numbers whole place list lt)
 
-pub gone-missing : (numbers : BTreeMap Part ℕ) (whole : Whole) (place : ℕ) (list : List ℕ) → place < whole.count → None ≡ number_at (record { whole = whole; index = place + 1 }) numbers
+pub gone-missing : (numbers : BTreeMap Part ℕ) (whole : Whole) (place : ℕ) (list : List ℕ) → place < whole.count → None ≡ part_number (record { whole = whole; index = place + 1 }) numbers
     → None ≡ gone_on numbers whole place list
 gone-missing numbers whole place list lt is =
-    let rest = numbers_from numbers whole (place + 1) (whole.count - (place + 1)) in
+    let rest = part_numbers_from numbers whole (place + 1) (whole.count - (place + 1)) in
     ap (λ found. option_map (λ l. list ++ l) (added found rest)) is ∙ sym (one_less numbers whole place list lt)
 
 pub gone-all : (numbers : BTreeMap Part ℕ) (whole : Whole) (place : ℕ) (list : List ℕ) → whole.count ≤ place → Some list ≡ gone_on numbers whole place list
 gone-all numbers whole place list le =
     let is : whole.count - place ≡ 0 = omega arith in
-    ap (λ l. Some l) (sym (append-nil list)) ∙ ap (λ left. option_map (λ rest. list ++ rest) (numbers_from numbers whole place left)) (sym is)
+    ap (λ l. Some l) (sym (append-nil list)) ∙ ap (λ left. option_map (λ rest. list ++ rest) (part_numbers_from numbers whole place left)) (sym is)
 
-pub gone-none : (numbers : BTreeMap Part ℕ) (whole : Whole) → gone_on numbers whole 0 [] ≡ numbers_from numbers whole 0 whole.count
+pub gone-none : (numbers : BTreeMap Part ℕ) (whole : Whole) → gone_on numbers whole 0 [] ≡ part_numbers_from numbers whole 0 whole.count
 gone-none numbers whole =
     let is : whole.count - 0 ≡ whole.count = omega arith in
-    same (numbers_from numbers whole 0 (whole.count - 0)) ∙ ap (numbers_from numbers whole 0) is
+    same (part_numbers_from numbers whole 0 (whole.count - 0)) ∙ ap (part_numbers_from numbers whole 0) is
   where
     same : (o : Option (List ℕ)) → option_map (λ rest. [] ++ rest) o ≡ o
     same None = refl

@@ -14,8 +14,8 @@ use Rattle.machine_model.specs.Taking.{Fragment, fragment_of, is_fragment_at, fr
 use Rattle.machine_model.specs.View.{FileView}
 use Rattle.machine_model.proofs.Among.{Among, among_contained, contains_among, kept_by}
 use Rattle.machine_model.proofs.Ordered.{in_order-permutes}
-use Rattle.flow_queue.specs.Picking.{Picks, Lists}
-use Rattle.flow_queue.specs.Queue.{QueueState, number_of, views_of, IsAtRest, eligible_in, picked, picked_numbers}
+use Rattle.flow_queue.specs.Picking.{Picks, PicksAll}
+use Rattle.flow_queue.specs.Queue.{QueueState, held_number, views_of, IsAtRest, eligible_in, picked, picked_numbers}
 use Rattle.flow_queue.proofs.AtRest.{seen-at, resting}
 
 -- ---- the clauses of what is answered
@@ -41,11 +41,11 @@ picks-failed found (Ok answer) list h = tt
 picks-failed found (Err error) list h = h
 
 -- the same of a list of numbers
-pub lists-numbers : {E : Type 0} (numbers other : List ℕ) (result : Result (Unit {0}) E) (list : List ℕ) → Lists numbers result list → numbers ≡ other → OnOk result (list ≡ other)
+pub lists-numbers : {E : Type 0} (numbers other : List ℕ) (result : Result (Unit {0}) E) (list : List ℕ) → PicksAll numbers result list → numbers ≡ other → OnOk result (list ≡ other)
 lists-numbers numbers other (Ok done) list h is = h ∙ is
 lists-numbers numbers other (Err error) list h is = tt
 
-pub lists-all : {E : Type 0} (P : ℕ → Type 0) (numbers : List ℕ) (result : Result (Unit {0}) E) (list : List ℕ) → Lists numbers result list → All P numbers → All P list
+pub lists-all : {E : Type 0} (P : ℕ → Type 0) (numbers : List ℕ) (result : Result (Unit {0}) E) (list : List ℕ) → PicksAll numbers result list → All P numbers → All P list
 lists-all P numbers (Ok done) list h all = subst (All P) (sym h) all
 lists-all P numbers (Err error) list h all = subst (All P) (sym h) (All-nil P)
 
@@ -115,7 +115,7 @@ picks-within Defragment files = first-within files files (λ view h. h)
 
 -- ---- no session works on what is picked
 
-eligible-rests : (moment : ℕ) (queue : QueueState) (view : FileView) → AscendsByNumber number_of queue.files → Among view (eligible_in moment queue) → IsAtRest queue view.number
+eligible-rests : (moment : ℕ) (queue : QueueState) (view : FileView) → AscendsByNumber held_number queue.files → Among view (eligible_in moment queue) → IsAtRest queue view.number
 eligible-rests moment queue view up there =
     let test = is_eligible queue.limits moment in
     let eligible = filter test (views_of queue.files) in
@@ -124,17 +124,17 @@ eligible-rests moment queue view up there =
     (among_contained view eligible (Contains-permutation ordered eligible view (IsPermutation-sym eligible ordered (in_order-permutes queue.order eligible)) (contains_among view ordered there))) in
     seen-at queue.files view up (contains_among view (views_of queue.files) kept.0) ∙ ap (λ (b : Bool). Some b) (resting view.in_flight _ _ kept.1)
 
-numbers-rest : (moment : ℕ) (queue : QueueState) (taken : List FileView) → AscendsByNumber number_of queue.files → Within (eligible_in moment queue) taken → All (IsAtRest queue) (numbers_of taken)
+numbers-rest : (moment : ℕ) (queue : QueueState) (taken : List FileView) → AscendsByNumber held_number queue.files → Within (eligible_in moment queue) taken → All (IsAtRest queue) (numbers_of taken)
 numbers-rest moment queue [] up within = All-nil (IsAtRest queue)
 numbers-rest moment queue (view ∷ taken) up within =
     All-cons (IsAtRest queue) view.number (numbers_of taken) (eligible-rests moment queue view up (within view (inl refl)))
     (numbers-rest moment queue taken up (λ v h. within v (inr h)))
 
-picked-rest : (moment : ℕ) (queue : QueueState) (found : Option (List FileView)) → AscendsByNumber number_of queue.files → IfSome found (Within (eligible_in moment queue)) → All (IsAtRest queue) (picked_numbers found)
+picked-rest : (moment : ℕ) (queue : QueueState) (found : Option (List FileView)) → AscendsByNumber held_number queue.files → IfSome found (Within (eligible_in moment queue)) → All (IsAtRest queue) (picked_numbers found)
 picked-rest moment queue None up within = All-nil (IsAtRest queue)
 picked-rest moment queue (Some taken) up within = numbers-rest moment queue taken up within
 
-pub picks-rest : {E : Type 0} (rule : TakeRule) (moment : ℕ) (queue : QueueState) (result : Result Bool E) (list : List ℕ) → AscendsByNumber number_of queue.files
+pub picks-rest : {E : Type 0} (rule : TakeRule) (moment : ℕ) (queue : QueueState) (result : Result Bool E) (list : List ℕ) → AscendsByNumber held_number queue.files
     → Picks (option_map numbers_of (picked rule moment queue)) result list → All (IsAtRest queue) list
 picks-rest rule moment queue (Ok answer) list up h =
     subst (All (IsAtRest queue)) (sym (h.1 ∙ picked-list (picked rule moment queue)))

@@ -14,15 +14,15 @@ use Rattle.machine_model.specs.declared.fragment.Whole.{Whole}
 use Rattle.machine_model.specs.declared.fragment.Fragment.{Fragment as Part}
 use Rattle.flow_queue.specs.declared.queue.wholes.Candidate.{Candidate}
 use Rattle.flow_queue.specs.Picking.{Picks}
-use Rattle.flow_queue.specs.Queue.{view_of}
+use Rattle.flow_queue.specs.Queue.{held_view}
 
 -- ---- files whose fragments are read
 
-abbrev pub files_of : List Candidate → List FileView
-files_of candidates = map (λ candidate. view_of candidate.held.now) candidates
+abbrev pub candidate_views : List Candidate → List FileView
+candidate_views candidates = map (λ candidate. held_view candidate.held.now) candidates
 
-abbrev pub IsRead : Candidate → Type 0
-IsRead candidate = option_map fragment_seen candidate.fragment ≡ fragment_of candidate.held.now.file.attributes
+abbrev pub HasItsFragment : Candidate → Type 0
+HasItsFragment candidate = option_map fragment_seen candidate.fragment ≡ fragment_of candidate.held.now.file.attributes
 
 -- ---- the numbers of the first file of each fragment
 
@@ -33,17 +33,17 @@ whole_cmp one other =
 abbrev pub part_cmp : Part → Part → Ordering
 part_cmp one other = ordering_then (whole_cmp one.whole other.whole) (nat_cmp one.index other.index)
 
-abbrev pub number_at : Part → BTreeMap Part ℕ → Option ℕ
-number_at part numbers = get_by (part_cmp part) numbers
+abbrev pub part_number : Part → BTreeMap Part ℕ → Option ℕ
+part_number part numbers = get_by (part_cmp part) numbers
 
 abbrev pub AreFirst : BTreeMap Part ℕ → List FileView → Type 0
-AreFirst numbers files = (part : Part) → number_at part numbers
+AreFirst numbers files = (part : Part) → part_number part numbers
     ≡ option_map (λ file. file.number) (fragment_at (fragment_seen part) part.index files)
 
 -- the number is noted for a part that had none
 abbrev pub IsNoted : Part → ℕ → BTreeMap Part ℕ → BTreeMap Part ℕ → Type 0
-IsNoted noted number before after = (part : Part) → number_at part after
-    ≡ option_or (number_at part before) (if is_eq (part_cmp noted part) then Some number else None)
+IsNoted noted number before after = (part : Part) → part_number part after
+    ≡ option_or (part_number part before) (if is_eq (part_cmp noted part) then Some number else None)
 
 -- ---- wholes
 
@@ -52,11 +52,11 @@ added (Some number) (Some numbers) = Some (number ∷ numbers)
 added _ _ = None
 
 -- the numbers of so many parts from a place on, if they are all there
-abbrev pub numbers_from : BTreeMap Part ℕ → Whole → (place left : ℕ) → Option (List ℕ)
-numbers_from numbers whole place zero = Some []
-numbers_from numbers whole place (suc left) =
-    added (number_at (record { whole = whole; index = place + 1 }) numbers)
-    (numbers_from numbers whole (place + 1) left)
+abbrev pub part_numbers_from : BTreeMap Part ℕ → Whole → (place left : ℕ) → Option (List ℕ)
+part_numbers_from numbers whole place zero = Some []
+part_numbers_from numbers whole place (suc left) =
+    added (part_number (record { whole = whole; index = place + 1 }) numbers)
+    (part_numbers_from numbers whole (place + 1) left)
 
 -- the files of a whole
 abbrev pub files_of_whole : Whole → List FileView → Option (List FileView)
@@ -66,7 +66,7 @@ files_of_whole whole files =
 -- what a file is picked with
 abbrev pub whole_at : Candidate → List FileView → Option (List FileView)
 whole_at candidate files =
-    whole_of files (view_of candidate.held.now) (fragment_of candidate.held.now.file.attributes)
+    whole_of files (held_view candidate.held.now) (fragment_of candidate.held.now.file.attributes)
 
 -- none of these is all there
 abbrev pub AreMissing : BTreeSet Whole → List FileView → Type 0

@@ -3,11 +3,11 @@ use Rattle.std.specs.Prelude.{◌≡◌, ℕ, ◌+◌, ◌<◌, ◌≤◌, ◌^�
 use Rattle.std.specs.VecDeque.{deque_capacity}
 use Rattle.flow_queue.specs.declared.held.Held.{Held}
 use Rattle.flow_queue.specs.declared.queue.Queue.TheInside.{Inside}
-use Rattle.flow_queue.specs.Queue.{QueueState, AreApart, size_of}
+use Rattle.flow_queue.specs.Queue.{QueueState, AreApart, held_bytes}
 use Rattle.flow_queue.specs.Ranked.{IsRanked}
 
-abbrev pub state_in : Inside → QueueState
-state_in queue = record {
+abbrev pub queue_in : Inside → QueueState
+queue_in queue = record {
   order = queue.order;
   limits = queue.limits;
   files = queue.files.items;
@@ -17,11 +17,11 @@ state_in queue = record {
 -- what holds of the files: the sum of the sizes is kept
 pub record AreSound (files : List Held) (bytes : ℕ) : Type 0 where
   pub apart : AreApart files
-  pub sizes : All (λ held. size_of held < 2 ^ 64) files
-  pub sum : bytes ≡ sum_by size_of files
+  pub sizes : All (λ held. held_bytes held < 2 ^ 64) files
+  pub sum : bytes ≡ sum_by held_bytes files
 
 -- the numbers stand in the order of the queue, and those of as many more files as there is room for have capacity
-pub record IsSoundInside (queue : Inside) : Type 0 where
+pub record IsSoundQueue (queue : Inside) : Type 0 where
   pub files : AreSound queue.files.items queue.bytes
   pub ranked : IsRanked queue.order queue.files.items queue.by_rank.items
   pub room : length queue.files.items + queue.files.room ≤ deque_capacity queue.by_rank

@@ -7,11 +7,11 @@ use Rattle.machine_model.specs.Due.{numbers_of}
 use Rattle.machine_model.specs.Taking.{picks}
 use Rattle.machine_model.specs.View.{FileView, is_expired, at_rest}
 use Rattle.flow_queue.specs.declared.held.Held.{Held}
-use Rattle.flow_queue.specs.Queue.{view_of}
+use Rattle.flow_queue.specs.Queue.{held_view}
 use denote.Ref.{Bor}
 
 abbrev pub views_at : List (Bor Held) → List FileView
-views_at files = map (λ held. view_of held.now) files
+views_at files = map (λ held. held_view held.now) files
 
 -- the numbers of the files that a rule picks
 abbrev pub numbers_picked : TakeRule → List FileView → Option (List ℕ)
@@ -23,9 +23,9 @@ Picks found (Ok answer) list = (answer ≡ is_some found) × (list ≡ unwrap_or
 Picks found (Err error) list = list ≡ []
 
 -- the same where there are files
-abbrev pub Lists : {E : Type 0} → List ℕ → Result (Unit {0}) E → List ℕ → Type 0
-Lists numbers (Ok done) list = list ≡ numbers
-Lists numbers (Err error) list = list ≡ []
+abbrev pub PicksAll : {E : Type 0} → List ℕ → Result (Unit {0}) E → List ℕ → Type 0
+PicksAll numbers (Ok done) list = list ≡ numbers
+PicksAll numbers (Err error) list = list ≡ []
 
 -- so many files, if they are at least `min`, or the next one has no room
 abbrev pub size_by : (size min : ℕ) → (is_filled : Bool) → Option ℕ

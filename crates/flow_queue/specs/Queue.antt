@@ -25,15 +25,15 @@ pub record QueueState : Type 0 where
 
 -- ---- how it is seen
 
-abbrev pub number_of : Held → ℕ
-number_of held = held.file.number
+abbrev pub held_number : Held → ℕ
+held_number held = held.file.number
 
 -- how many bytes its content has
-abbrev pub size_of : Held → ℕ
-size_of held = held.file.content.size
+abbrev pub held_bytes : Held → ℕ
+held_bytes held = held.file.content.size
 
-abbrev pub view_of : Held → FileView
-view_of held = record {
+abbrev pub held_view : Held → FileView
+held_view held = record {
   number = held.file.number;
   attributes = held.file.attributes;
   size = held.file.content.size;
@@ -44,15 +44,15 @@ view_of held = record {
 }
 
 abbrev pub views_of : List Held → List FileView
-views_of files = map view_of files
+views_of files = map held_view files
 
 -- no file of it is swapped out
-abbrev pub seen : QueueState → QueueView
-seen queue = record { active = views_of queue.files; batches = [] }
+abbrev pub queue_as_seen : QueueState → QueueView
+queue_as_seen queue = record { active = views_of queue.files; batches = [] }
 
 -- what holds of the files of every queue: no two have one number or one arrival
 pub record AreApart (files : List Held) : Type 0 where
-  pub numbers : AscendsByNumber number_of files
+  pub numbers : AscendsByNumber held_number files
   pub arrivals : ArrivalsDiffer (views_of files)
 
 -- ---- how it changes
@@ -62,18 +62,18 @@ abbrev pub IsApart : FlowFile → List Held → Type 0
 IsApart file files = All (λ held. (held.file.number ≢ file.number) × (held.file.arrival ≢ file.arrival)) files
 
 -- these and one more, which no session works on
-abbrev pub with_file : FlowFile → List Held → List Held
-with_file file files = with_item number_of (record { file = file; in_flight = false }) files
+abbrev pub queue_with_file : FlowFile → List Held → List Held
+queue_with_file file files = with_item held_number (record { file = file; in_flight = false }) files
 
-abbrev pub file_of : ℕ → List Held → Option FlowFile
-file_of number files = option_map (λ held. held.file) (item_of number_of number files)
+abbrev pub held_file : ℕ → List Held → Option FlowFile
+held_file number files = option_map (λ held. held.file) (item_of held_number number files)
 
 abbrev pub without_file : ℕ → List Held → List Held
-without_file number files = without_item number_of number files
+without_file number files = without_item held_number number files
 
 -- whether a session works on the file of a number, where there is such a file
 abbrev pub flight_of : ℕ → List Held → Option Bool
-flight_of number files = option_map (λ held. held.in_flight) (item_of number_of number files)
+flight_of number files = option_map (λ held. held.in_flight) (item_of held_number number files)
 
 -- a file of the queue that no session works on, and one that a session works on
 abbrev pub IsAtRest : QueueState → ℕ → Type 0
@@ -84,13 +84,13 @@ IsInFlight queue number = flight_of number queue.files ≡ Some true
 
 abbrev pub with_flight : ℕ → Bool → List Held → List Held
 with_flight number in_flight files =
-    map (λ held. if number_of held == number then record held { in_flight = in_flight } else held) files
+    map (λ held. if held_number held == number then record held { in_flight = in_flight } else held) files
 
 -- ---- what is taken of it
 
 -- the files that a session may take at a moment, in their order
 abbrev pub eligible_in : ℕ → QueueState → List FileView
-eligible_in moment queue = eligible_files queue.order queue.limits moment (seen queue).active
+eligible_in moment queue = eligible_files queue.order queue.limits moment (queue_as_seen queue).active
 
 -- those that a rule picks from
 abbrev pub offered_by : TakeRule → List FileView → List FileView

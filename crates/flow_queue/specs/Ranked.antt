@@ -9,7 +9,7 @@ use Rattle.machine_model.specs.Due.{numbers_of}
 use Rattle.machine_model.specs.Order.{goes_before, in_order, is_eligible}
 use Rattle.machine_model.specs.View.{FileView}
 use Rattle.flow_queue.specs.declared.held.Held.{Held}
-use Rattle.flow_queue.specs.Queue.{number_of, view_of, views_of}
+use Rattle.flow_queue.specs.Queue.{held_number, held_view, views_of}
 
 -- the numbers of all files, the first that goes first
 abbrev pub IsRanked : List Prioritizer → List Held → List ℕ → Type 0
@@ -23,17 +23,17 @@ pub record IsRankOf (order : List Prioritizer) (file : FileView) (files : List F
 -- whether the file of a number goes before one
 abbrev pub goes_ahead : List Prioritizer → FileView → List Held → ℕ → Bool
 goes_ahead order file files number =
-    option_map_or (λ held. goes_before order (view_of held) file) (item_of number_of number files) false
+    option_map_or (λ held. goes_before order (held_view held) file) (item_of held_number number files) false
 
 -- a file, where a session may take it at a moment
 abbrev pub if_eligible : QueueLimits → ℕ → Option Held → Option FileView
 if_eligible limits moment None = None
 if_eligible limits moment (Some held) =
-    if is_eligible limits moment (view_of held) then Some (view_of held) else None
+    if is_eligible limits moment (held_view held) then Some (held_view held) else None
 
 -- the file of a number, where a session may take it
 abbrev pub eligible_at : QueueLimits → ℕ → List Held → ℕ → Option FileView
-eligible_at limits moment files number = if_eligible limits moment (item_of number_of number files)
+eligible_at limits moment files number = if_eligible limits moment (item_of held_number number files)
 
 -- the files of some numbers that a session may take
 abbrev pub eligible_among : QueueLimits → ℕ → List Held → List ℕ → List FileView

@@ -4,7 +4,7 @@ ghost use Rattle.prioritizer.specs.Order.{order_cmp};
 ghost use Rattle.prioritizer.specs.Standing.{standing_of as standing};
 ghost use Rattle.machine_model.specs.Order.{standing_of, goes_before, is_eligible};
 ghost use Rattle.machine_model.specs.View.{is_penalised, is_expired};
-ghost use Rattle.flow_queue.specs.Queue.{view_of, size_of};
+ghost use Rattle.flow_queue.specs.Queue.{held_view, held_bytes};
 
 use flowfile_record::{FlowFile, Numbered};
 use machine_model::QueueLimits;
@@ -29,13 +29,13 @@ impl Numbered for Held {
 impl Held {
     // How many bytes its content has.
     pub(crate) fn size(&self) -> u64
-        ensures { result ≡ size_of self.now }
+        ensures { result ≡ held_bytes self.now }
     {
         self.file.content.size
     }
 
     fn rank(&self) -> Rank<'_>
-        ensures { standing result ≡ standing_of (view_of self.now) }
+        ensures { standing result ≡ standing_of (held_view self.now) }
     {
         Rank {
             priority: self.file.attributes.get("priority"),
@@ -47,31 +47,31 @@ impl Held {
     // Which of two files goes first: `Less` where this one does.
     pub(crate) fn compare(&self, other: &Held, order: &Order) -> Ordering
         ensures { result
-            ≡ order_cmp order.now (standing_of (view_of self.now)) (standing_of (view_of other.now)) }
+            ≡ order_cmp order.now (standing_of (held_view self.now)) (standing_of (held_view other.now)) }
     {
         order.compare(&self.rank(), &other.rank())
     }
 
     pub(crate) fn goes_before(&self, other: &Held, order: &Order) -> bool
-        ensures { result ≡ goes_before order.now (view_of self.now) (view_of other.now) }
+        ensures { result ≡ goes_before order.now (held_view self.now) (held_view other.now) }
     {
         self.compare(other, order).is_lt()
     }
 
     pub(crate) fn is_penalised(&self, moment: u64) -> bool
-        ensures { result ≡ is_penalised moment (view_of self.now) }
+        ensures { result ≡ is_penalised moment (held_view self.now) }
     {
         moment < self.file.penalty_end
     }
 
     pub(crate) fn is_expired(&self, limits: &QueueLimits, moment: u64) -> bool
-        ensures { result ≡ is_expired limits.now.expiration moment (view_of self.now) }
+        ensures { result ≡ is_expired limits.now.expiration moment (held_view self.now) }
     {
         limits.expiration > 0 && limits.expiration <= moment.saturating_sub(self.file.entered)
     }
 
     pub(crate) fn is_eligible(&self, limits: &QueueLimits, moment: u64) -> bool
-        ensures { result ≡ is_eligible limits.now moment (view_of self.now) }
+        ensures { result ≡ is_eligible limits.now moment (held_view self.now) }
     {
         !self.in_flight && !self.is_penalised(moment) && !self.is_expired(limits, moment)
     }

@@ -1,6 +1,6 @@
 //! A queue, and how it changes.
 ghost use Rattle.std.specs.Prelude.{◌≡◌, ◌+◌, ◌-◌, ◌<◌, ◌≤◌, [], Some, false, true, IsSome, OnOk, OnErr};
-ghost use Rattle.flow_queue.specs.Queue.{IsApart, AreApart, with_file, without_file, file_of, flight_of, with_flight, IsAtRest, IsInFlight};
+ghost use Rattle.flow_queue.specs.Queue.{IsApart, AreApart, queue_with_file, without_file, held_file, flight_of, with_flight, IsAtRest, IsInFlight};
 
 mod bins;
 mod choosing;
@@ -37,11 +37,11 @@ impl Model for Queue {
 
     ghost coded = { Prim.hlevel (codes, attributes.the_row.coded) };
 
-    ghost use Rattle.flow_queue.specs.Inside.{state_in, IsSoundInside};
+    ghost use Rattle.flow_queue.specs.Inside.{queue_in, IsSoundQueue};
 
-    ghost view = { state_in };
+    ghost view = { queue_in };
 
-    ghost invariant = { IsSoundInside };
+    ghost invariant = { IsSoundQueue };
 }
 
 impl Queue {
@@ -75,7 +75,7 @@ impl Queue {
         requires room { 0 < self.old.spare }
         requires apart { IsApart file self.old.files }
         ensures { self.new
-            ≡ record self.old { files = with_file file self.old.files; spare = self.old.spare - 1 } }
+            ≡ record self.old { files = queue_with_file file self.old.files; spare = self.old.spare - 1 } }
     {
         let held = Held {
             file,
@@ -122,7 +122,7 @@ impl Queue {
     /// Takes a file out of the queue.
     pub fn leave(&mut self, number: u64) -> FlowFile
         requires { IsSome (flight_of number self.old.files) }
-        ensures file { file_of number self.old.files ≡ Some result }
+        ensures file { held_file number self.old.files ≡ Some result }
         ensures left { self.new
             ≡ record self.old { files = without_file number self.old.files; spare = self.old.spare + 1 } }
     {

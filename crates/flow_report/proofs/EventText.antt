@@ -10,7 +10,7 @@ use Rattle.hex.specs.Hex.{encode_lower}
 use Rattle.flowfile_record.specs.Identifier.{identifier}
 use Rattle.flowfile_record.specs.declared.event.Event.{Event}
 use Rattle.flow_report.specs.Events.{event_data, file_items}
-use Rattle.flow_report.specs.Words.{event_word, uuid_text}
+use Rattle.flow_report.specs.Words.{event_word, identifier_text}
 
 -- the parts of the line are the compact text of the object
 pub event-text : (children parents : Items) (component detail digest kind uuid : List ℕ) (event moment size : ℕ) →
@@ -51,10 +51,10 @@ pub event-line : (store : ℕ) (event : Event) (children component detail kind p
     ((44 ∷ 34 ∷ 109 ∷ 111 ∷ 109 ∷ 101 ∷ 110 ∷ 116 ∷ 34 ∷ 58 ∷ []) ++ (decimal event.moment ++
     ((44 ∷ 34 ∷ 112 ∷ 97 ∷ 114 ∷ 101 ∷ 110 ∷ 116 ∷ 115 ∷ 34 ∷ 58 ∷ []) ++ (compact_text (array (file_items store parents)) ++
     ((44 ∷ 34 ∷ 115 ∷ 105 ∷ 122 ∷ 101 ∷ 34 ∷ 58 ∷ []) ++ (decimal event.size ++
-    ((44 ∷ 34 ∷ 117 ∷ 117 ∷ 105 ∷ 100 ∷ 34 ∷ 58 ∷ []) ++ (quoted (uuid_text (identifier store event.file)) ++
+    ((44 ∷ 34 ∷ 117 ∷ 117 ∷ 105 ∷ 100 ∷ 34 ∷ 58 ∷ []) ++ (quoted (identifier_text (identifier store event.file)) ++
     ((125 ∷ []) ++ []))))))))))))))))))))
     ≡ compact_text (event_data store event)
 event-line store event children component detail kind parents c m d k p =
     rw (c, m, d, k, p)
     (event-text (file_items store event.children) (file_items store event.parents) event.component event.detail (encode_lower event.digest) (event_word event.kind)
-    (uuid_text (identifier store event.file)) event.number event.moment event.size)
+    (identifier_text (identifier store event.file)) event.number event.moment event.size)

@@ -4,11 +4,11 @@ use Rattle.hex.specs.Hex.{encode_lower}
 use Rattle.serde_json.specs.Data.{Data, number, unsigned, string, array, object, Items, no_items, item, no_members, member}
 use Rattle.flowfile_record.specs.Identifier.{identifier}
 use Rattle.flowfile_record.specs.declared.event.Event.{Event}
-use Rattle.flow_report.specs.Words.{event_word, uuid_text}
+use Rattle.flow_report.specs.Words.{event_word, identifier_text}
 
 -- the identifier of a file of a store
 abbrev pub file_data : (store file : ℕ) → Data
-file_data store file = string (uuid_text (identifier store file))
+file_data store file = string (identifier_text (identifier store file))
 
 abbrev pub file_items : ℕ → List ℕ → Items
 file_items store [] = no_items

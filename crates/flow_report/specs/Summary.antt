@@ -17,22 +17,24 @@ use Rattle.flow_report.specs.Words.{event_word}
 abbrev pub active_in : ℕ → Kept → List ActiveFile
 active_in place kept = filter (λ active. active.connection == place) kept.files
 
-abbrev pub batches_in : ℕ → Kept → List SwapBatch
-batches_in place kept = filter (λ batch. batch.connection == place) kept.batches
+abbrev pub connection_batches : ℕ → Kept → List SwapBatch
+connection_batches place kept = filter (λ batch. batch.connection == place) kept.batches
 
 -- how many live files it has, those that are swapped out too, and the sum of their contents' sizes
-abbrev pub files_in : ℕ → Kept → ℕ
-files_in place kept = length (active_in place kept) + sum_by (λ batch. batch.files) (batches_in place kept)
+abbrev pub connection_files : ℕ → Kept → ℕ
+connection_files place kept =
+    length (active_in place kept) + sum_by (λ batch. batch.files) (connection_batches place kept)
 
-abbrev pub bytes_in : ℕ → Kept → ℕ
-bytes_in place kept =
+abbrev pub connection_bytes : ℕ → Kept → ℕ
+connection_bytes place kept =
     sum_by (λ active. active.file.content.size) (active_in place kept)
-    + sum_by (λ batch. batch.bytes) (batches_in place kept)
+    + sum_by (λ batch. batch.bytes) (connection_batches place kept)
 
 -- a line for each connection, in the flow's order
 abbrev pub connections_text : List Connection → Kept → List ℕ
 connections_text connections kept =
-    flat_map (λ at. connection_text at.1.id (files_in at.0 kept) (bytes_in at.0 kept)) (enumerate_from 0 connections)
+    flat_map (λ at. connection_text at.1.id (connection_files at.0 kept) (connection_bytes at.0 kept))
+    (enumerate_from 0 connections)
 
 -- the kinds of events by their codes
 abbrev pub kinds : List EventKind
@@ -44,10 +46,10 @@ abbrev pub count_text : EventKind → ℕ → List ℕ
 count_text kind count =
     if count == 0 then [] else line_of (codes "event " ∷ event_word kind ∷ codes " " ∷ decimal count ∷ [])
 
-abbrev pub events_text : EventCounts → List ℕ
-events_text events = flat_map (λ kind. count_text kind (slice_index events.counts (code_of kind - 1))) kinds
+abbrev pub event_counts_text : EventCounts → List ℕ
+event_counts_text events = flat_map (λ kind. count_text kind (slice_index events.counts (code_of kind - 1))) kinds
 
 abbrev pub summary : Flow → Kept → (left : ℕ) → EventCounts → List ℕ
 summary flow kept left events =
     connections_text flow.connections kept
-    ++ (line_of (codes "inbox " ∷ decimal left ∷ []) ++ events_text events)
+    ++ (line_of (codes "inbox " ∷ decimal left ∷ []) ++ event_counts_text events)

@@ -7,18 +7,18 @@ use Rattle.disk_trait.specs.declared.damage.Damage.{Damage}
 use Rattle.disk_trait.specs.declared.damage.Damage.TheVariants.{Digest, Short, Form}
 use Rattle.disk_trait.specs.declared.file_name.FileName.{FileName}
 use Rattle.flow_report.specs.Events.{event_data}
-use Rattle.flow_report.specs.Words.{kind_word, uuid_text}
+use Rattle.flow_report.specs.Words.{kind_word, identifier_text}
 use Rattle.flow_report.specs.declared.line.KinWord.{KinWord}
 use Rattle.flow_report.specs.declared.line.KinWord.TheVariants.{File, Ancestor, Descendant}
 use Rattle.flow_report.specs.declared.line.Line.{Line}
 use Rattle.flow_report.specs.declared.line.Line.TheVariants as line
 
-abbrev pub line_feed : List ℕ
-line_feed = 10 ∷ []
+abbrev pub line_end : List ℕ
+line_end = 10 ∷ []
 
 -- these, one behind the other, and a line feed
 abbrev pub line_of : List (List ℕ) → List ℕ
-line_of parts = flat_map (λ part. part) parts ++ line_feed
+line_of parts = flat_map (λ part. part) parts ++ line_end
 
 -- a connection's: how many live files it has, and the sum of their contents' sizes
 abbrev pub connection_text : List ℕ → (files bytes : ℕ) → List ℕ
@@ -43,9 +43,9 @@ damage_text (Form file at) = damage_at file at (codes " form" ∷ [])
 
 abbrev pub text_of : Line → List ℕ
 text_of (line.Connection id files bytes) = connection_text id.now files bytes
-text_of (line.Queued file size) = line_of (codes "file " ∷ uuid_text file ∷ codes " " ∷ decimal size ∷ [])
-text_of (line.Kin word file) = line_of (kin_word word ∷ codes " " ∷ uuid_text file ∷ [])
-text_of (line.Happened store event) = compact_text (event_data store event.now) ++ line_feed
+text_of (line.Queued file size) = line_of (codes "file " ∷ identifier_text file ∷ codes " " ∷ decimal size ∷ [])
+text_of (line.Kin word file) = line_of (kin_word word ∷ codes " " ∷ identifier_text file ∷ [])
+text_of (line.Happened store event) = compact_text (event_data store event.now) ++ line_end
 text_of (line.Blocked id) = line_of (codes "blocked: " ∷ id.now ∷ [])
 text_of (line.Limit name number) = line_of (codes "limit: " ∷ name.now ∷ codes " " ∷ decimal number ∷ [])
 text_of (line.Sound files events) =
@@ -61,4 +61,4 @@ text_of line.InboxFault = line_of (codes "inbox fault" ∷ [])
 text_of line.OutboxFault = line_of (codes "outbox fault" ∷ [])
 text_of line.SourceFault = line_of (codes "source fault" ∷ [])
 text_of line.OutOfMemory = line_of (codes "out of memory" ∷ [])
-text_of (line.Absent id) = line_of (codes "absent: " ∷ uuid_text id ∷ [])
+text_of (line.Absent id) = line_of (codes "absent: " ∷ identifier_text id ∷ [])

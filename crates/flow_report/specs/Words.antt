@@ -7,8 +7,8 @@ use Rattle.flowfile_record.specs.declared.event.EventKind.{EventKind}
 use Rattle.flowfile_record.specs.declared.event.EventKind.TheVariants.{Create, Receive, Fork, Join, Clone, ContentModified, AttributesModified, Route, Send, Drop, Expire, Replay}
 
 -- an identifier, hyphenated and in lower case
-abbrev pub uuid_text : List ℕ → List ℕ
-uuid_text id = hyphenated_text lower id
+abbrev pub identifier_text : List ℕ → List ℕ
+identifier_text id = hyphenated_text lower id
 
 abbrev pub kind_word : FileKind → List ℕ
 kind_word Log = codes "log"

@@ -1,7 +1,7 @@
 //! How many files the connections have, and how many bytes these have together.
 ghost use Rattle.std.specs.Prelude.{◌≡◌, ℕ, ◌==◌, ◌+◌, ◌<◌, ◌^◌, filter, length, if◌then◌else◌};
 ghost use Rattle.std.specs.List.{sum_by};
-ghost use Rattle.flow_report.specs.Counts.{bytes_at, files_at};
+ghost use Rattle.flow_report.specs.Counts.{counted_bytes, files_at};
 
 use flowfile_record::{ActiveList, BatchList};
 
@@ -26,7 +26,7 @@ pub(crate) struct Counts {
 pub(crate) fn count_active(files: &ActiveList, first: usize) -> Counts
     ensures files { (at : ℕ) → at < COUNTED → files_at result at
         ≡ length (filter (λ active. active.connection == first + at) files.now.items) }
-    ensures bytes { (at : ℕ) → at < COUNTED → bytes_at result at ≡ sum_by (λ active. active.file.content.size)
+    ensures bytes { (at : ℕ) → at < COUNTED → counted_bytes result at ≡ sum_by (λ active. active.file.content.size)
         (filter (λ active. active.connection == first + at) files.now.items) }
 {
     // There are fewer than 2^64, so that the sums fit.
@@ -42,7 +42,7 @@ pub(crate) fn count_active(files: &ActiveList, first: usize) -> Counts
 pub(crate) fn count_swapped(batches: &BatchList, first: usize) -> Counts
     ensures files { (at : ℕ) → at < COUNTED → files_at result at
         ≡ sum_by (λ batch. batch.files) (filter (λ batch. batch.connection == first + at) batches.now.items) }
-    ensures bytes { (at : ℕ) → at < COUNTED → bytes_at result at
+    ensures bytes { (at : ℕ) → at < COUNTED → counted_bytes result at
         ≡ sum_by (λ batch. batch.bytes) (filter (λ batch. batch.connection == first + at) batches.now.items) }
 {
     let _length = batches.len();
@@ -58,7 +58,7 @@ impl Counts {
     fn new(first: usize) -> Counts
         ensures first { result.first ≡ first }
         ensures files { (at : ℕ) → at < COUNTED → files_at result at ≡ 0 }
-        ensures bytes { (at : ℕ) → at < COUNTED → bytes_at result at ≡ 0 }
+        ensures bytes { (at : ℕ) → at < COUNTED → counted_bytes result at ≡ 0 }
     {
         Counts {
             first,
@@ -69,12 +69,13 @@ impl Counts {
     // Counts so many files and bytes more of a connection, unless it stands before or behind those that are counted.
     fn add(&mut self, connection: u16, files: u64, bytes: u64)
         requires files { (at : ℕ) → at < COUNTED → files_at self.old at + files < 2 ^ 128 }
-        requires bytes { (at : ℕ) → at < COUNTED → bytes_at self.old at + bytes < 2 ^ 128 }
+        requires bytes { (at : ℕ) → at < COUNTED → counted_bytes self.old at + bytes < 2 ^ 128 }
         ensures first { self.new.first ≡ self.old.first }
         ensures files { (at : ℕ) → at < COUNTED → files_at self.new at
             ≡ (if connection == self.old.first + at then files_at self.old at + files else files_at self.old at) }
-        ensures bytes { (at : ℕ) → at < COUNTED → bytes_at self.new at
-            ≡ (if connection == self.old.first + at then bytes_at self.old at + bytes else bytes_at self.old at) }
+        ensures bytes { (at : ℕ) → at < COUNTED → counted_bytes self.new at
+            ≡ (if connection == self.old.first + at then counted_bytes self.old at + bytes else counted_bytes self.old
+            at) }
     {
         let Some(at) = usize::from(connection).checked_sub(self.first) else {
             return;
@@ -90,7 +91,7 @@ impl Counts {
     pub(crate) fn at(&self, at: usize) -> Count
         requires { at < COUNTED }
         ensures files { result.files ≡ files_at self.now at }
-        ensures bytes { result.bytes ≡ bytes_at self.now at }
+        ensures bytes { result.bytes ≡ counted_bytes self.now at }
     {
         self.counts[at]
     }

@@ -3,7 +3,7 @@ ghost use Rattle.std.specs.Prelude.{◌≡◌, ◌++◌, IsTrue, IsErr};
 ghost use Rattle.disk_trait.specs.Faults.{CountsFaults};
 ghost use Rattle.serde_json.specs.Written.{compact_text};
 ghost use Rattle.flow_report.specs.Events.{event_data};
-ghost use Rattle.flow_report.specs.Texts.{line_feed};
+ghost use Rattle.flow_report.specs.Texts.{line_end};
 ghost use Rattle.flow_report.specs.Writing.{Writes};
 
 use crate::part::{Part, write_parts};
@@ -14,7 +14,7 @@ use world_io::Sink;
 
 /// Writes the line of an event in the store of an id: a JSON object, its keys in the order of their bytes.
 pub(crate) fn write_event<S: Sink>(sink: &mut S, store: u64, event: &Event) -> Result<(), Failed>
-    ensures written { IsTrue S.tells → Writes (compact_text (event_data store event.now) ++ line_feed)
+    ensures written { IsTrue S.tells → Writes (compact_text (event_data store event.now) ++ line_end)
         (S.written sink.old) (S.written sink.new) result }
     ensures cause { CountsFaults (S.faults sink.old) (S.faults sink.new) (IsErr result) }
 {

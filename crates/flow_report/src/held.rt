@@ -1,7 +1,7 @@
 //! Bytes of a line that are gathered before they go to a sink.
 ghost use Rattle.std.specs.Prelude.{◌≡◌, ◌+◌, [], decimal, IsTrue, IsErr, OnOk};
 ghost use Rattle.disk_trait.specs.Faults.{CountsFaults};
-ghost use Rattle.flow_report.specs.Words.{uuid_text};
+ghost use Rattle.flow_report.specs.Words.{identifier_text};
 ghost use Rattle.flow_report.specs.Writing.{Puts};
 
 use crate::write_bytes;
@@ -78,7 +78,8 @@ impl Held {
 
     /// Puts an identifier, hyphenated and in lower case.
     pub(crate) fn put_uuid<S: Sink>(&mut self, sink: &mut S, id: &Uuid) -> Result<(), Failed>
-        ensures put { IsTrue S.tells → Puts (uuid_text id.now) (S.written sink.old) self.old.bytes.items (S.written sink.new)
+        ensures put { IsTrue S.tells
+            → Puts (identifier_text id.now) (S.written sink.old) self.old.bytes.items (S.written sink.new)
             self.new.bytes.items result }
         ensures cause { CountsFaults (S.faults sink.old) (S.faults sink.new) (IsErr result) }
     {

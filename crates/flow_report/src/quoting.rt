@@ -6,7 +6,7 @@ ghost use Rattle.json.specs.Print.{escape, escape_byte, escape_letter, quoted};
 ghost use Rattle.serde_json.specs.Data.{array};
 ghost use Rattle.serde_json.specs.Written.{comma_if, compact_text};
 ghost use Rattle.flow_report.specs.Events.{file_items};
-ghost use Rattle.flow_report.specs.Words.{uuid_text};
+ghost use Rattle.flow_report.specs.Words.{identifier_text};
 ghost use Rattle.flow_report.specs.Writing.{Puts};
 
 use crate::held::Held;
@@ -50,7 +50,7 @@ impl Held {
 
     /// Puts an identifier in quotation marks.
     pub(crate) fn put_quoted_uuid<S: Sink>(&mut self, sink: &mut S, id: &Uuid) -> Result<(), Failed>
-        ensures put { IsTrue S.tells → Puts (quoted (uuid_text id.now)) (S.written sink.old) self.old.bytes.items
+        ensures put { IsTrue S.tells → Puts (quoted (identifier_text id.now)) (S.written sink.old) self.old.bytes.items
             (S.written sink.new) self.new.bytes.items result }
         ensures cause { CountsFaults (S.faults sink.old) (S.faults sink.new) (IsErr result) }
     {
@@ -80,7 +80,7 @@ impl Held {
     }
 
     fn put_item<S: Sink>(&mut self, sink: &mut S, is_later: bool, id: &Uuid) -> Result<(), Failed>
-        ensures put { IsTrue S.tells → Puts (comma_if is_later ++ quoted (uuid_text id.now)) (S.written sink.old)
+        ensures put { IsTrue S.tells → Puts (comma_if is_later ++ quoted (identifier_text id.now)) (S.written sink.old)
             self.old.bytes.items (S.written sink.new) self.new.bytes.items result }
         ensures cause { CountsFaults (S.faults sink.old) (S.faults sink.new) (IsErr result) }
     {

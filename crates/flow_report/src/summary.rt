@@ -3,7 +3,7 @@ ghost use Rattle.std.specs.Prelude.{◌≡◌, ◌+◌, ◌≤◌, length, IsTru
 ghost use Rattle.disk_trait.specs.Faults.{CountsFaults};
 ghost use Rattle.flowfile_record.specs.Stored.{kept_of};
 ghost use Rattle.flow_report.specs.Counts.{lines_from};
-ghost use Rattle.flow_report.specs.Summary.{connections_text, count_text, events_text, summary};
+ghost use Rattle.flow_report.specs.Summary.{connections_text, count_text, event_counts_text, summary};
 ghost use Rattle.flow_report.specs.Texts.{connection_text};
 ghost use Rattle.flow_report.specs.Writing.{Writes};
 
@@ -115,7 +115,8 @@ fn write_connection<S: Sink>(
 
 // Writes a line for each kind of events that there are.
 fn write_counts<S: Sink>(sink: &mut S, events: &EventCounts) -> Result<(), Failed>
-    ensures written { IsTrue S.tells → Writes (events_text events.now) (S.written sink.old) (S.written sink.new) result }
+    ensures written { IsTrue S.tells
+        → Writes (event_counts_text events.now) (S.written sink.old) (S.written sink.new) result }
     ensures cause { CountsFaults (S.faults sink.old) (S.faults sink.new) (IsErr result) }
 {
     for kind in &KINDS {

@@ -18,7 +18,7 @@ use Rattle.machine_model.specs.State.{Machine}
 use Rattle.machine_model.specs.Stepping.{step, replay}
 use Rattle.flowfile_wal.specs.Calls.{InEach}
 use Rattle.flow_run.specs.Going.{IsBetween}
-use Rattle.flow_run.specs.Journal.{IsAcknowledged, Takes, WasGot}
+use Rattle.flow_run.specs.Journal.{AreAcknowledged, TakesFromInbox, WasGot}
 use Rattle.flow_run.specs.Run.{IsPrefix, Replays, StandsFor}
 
 -- a journal and one entry more
@@ -55,7 +55,7 @@ counts : (low high k : ℕ) (acked : Option ℕ) (rest : List Entry) → IsSome 
 counts low high k None rest some order le = absurd (cc)
 counts low high k (Some moment) rest some order le = (grind (arith, nat_tests, order.1), (moment, order.2))
 
-pub acknowledged-all : (journal : List Entry) (low high k : ℕ) → IsAcknowledged journal → IsInOrder low high journal → high ≤ k → acknowledged journal k ≡ length journal
+pub acknowledged-all : (journal : List Entry) (low high k : ℕ) → AreAcknowledged journal → IsInOrder low high journal → high ≤ k → acknowledged journal k ≡ length journal
 acknowledged-all [] low high k all order le = refl
 acknowledged-all (entry ∷ journal) low high k all order le =
     let here = counts low high k entry.acked journal all.0 order le in
@@ -63,7 +63,7 @@ acknowledged-all (entry ∷ journal) low high k all order le =
     omega (arith, one, acknowledged-cons entry journal k, acknowledged-all journal here.1.0 high k all.1 here.1.1 le)
 
 -- a journal whose last entry alone isn't acknowledged
-pub acknowledged-open : (journal : List Entry) (s : Step) (low high k : ℕ) → IsAcknowledged journal → IsInOrder low high journal → high ≤ k
+pub acknowledged-open : (journal : List Entry) (s : Step) (low high k : ℕ) → AreAcknowledged journal → IsInOrder low high journal → high ≤ k
     → acknowledged (journal ++ record { step = s; acked = None } ∷ []) k + 1 ≡ length (journal ++ record { step = s; acked = None } ∷ [])
 acknowledged-open journal s low high k all order le =
     let entry : Entry = record { step = s; acked = None } in
@@ -76,18 +76,18 @@ orders low high later None rest more some le order to = absurd (cc)
 orders low high later (Some moment) rest more some le order to = (order.0, omega (arith, order.1), to moment order.1 order.2)
 
 -- one entry more, acknowledged now or not at all
-in_order-append : (journal : List Entry) (entry : Entry) (low high later : ℕ) → low ≤ high → high ≤ later → IsAcknowledged journal → IsInOrder low high journal
+in_order-append : (journal : List Entry) (entry : Entry) (low high later : ℕ) → low ≤ high → high ≤ later → AreAcknowledged journal → IsInOrder low high journal
     → ((m : ℕ) → m ≤ high → IsInOrder m later (entry ∷ [])) → IsInOrder low later (journal ++ entry ∷ [])
 in_order-append [] entry low high later begun le all order last = last low begun
 in_order-append (e ∷ journal) entry low high later begun le all order last =
     orders low high later e.acked journal (journal ++ entry ∷ []) all.0 le order (λ m up rest. in_order-append journal entry m high later up le all.1 rest last)
 
 -- the same entries, at a later end
-in_order-later : (journal : List Entry) (low high later : ℕ) → IsAcknowledged journal → IsInOrder low high journal → high ≤ later → IsInOrder low later journal
+in_order-later : (journal : List Entry) (low high later : ℕ) → AreAcknowledged journal → IsInOrder low high journal → high ≤ later → IsInOrder low later journal
 in_order-later [] low high later all order le = tt
 in_order-later (e ∷ journal) low high later all order le = orders low high later e.acked journal journal all.0 le order (λ m up rest. in_order-later journal m high later all.1 rest le)
 
-pub all-append : (journal : List Entry) (entry : Entry) → IsAcknowledged journal → IsSome entry.acked → IsAcknowledged (journal ++ entry ∷ [])
+pub all-append : (journal : List Entry) (entry : Entry) → AreAcknowledged journal → IsSome entry.acked → AreAcknowledged (journal ++ entry ∷ [])
 all-append [] entry all some = (some, tt)
 all-append (e ∷ journal) entry all some = (all.0, all-append journal entry all.1 some)
 
@@ -96,7 +96,7 @@ was_got-before flow name [] entry was = absurd was
 was_got-before flow name (e ∷ journal) entry (inl here) = inl here
 was_got-before flow name (e ∷ journal) entry (inr there) = inr (was_got-before flow name journal entry there)
 
-pub was_got-last : (flow : Flow) (name : List ℕ) (journal : List Entry) (entry : Entry) → Takes flow entry.step name → IsSome entry.acked → WasGot flow name (journal ++ entry ∷ [])
+pub was_got-last : (flow : Flow) (name : List ℕ) (journal : List Entry) (entry : Entry) → TakesFromInbox flow entry.step name → IsSome entry.acked → WasGot flow name (journal ++ entry ∷ [])
 was_got-last flow name [] entry takes some = inl (takes, some)
 was_got-last flow name (e ∷ journal) entry takes some = inr (was_got-last flow name journal entry takes some)
 
@@ -140,7 +140,7 @@ module _ (law : ReplayOfOneMore) (flow : Flow) {D : Type 0} (moment : D → ℕ)
       either
 
   -- a step that wasn't acknowledged
-  pub step_open : (s : Step) → Replays flow moment images lot opened journal reached first old → IsAcknowledged journal → step flow reached s ≡ Some next → IsBetween flow moment images lot reached next old new
+  pub step_open : (s : Step) → Replays flow moment images lot opened journal reached first old → AreAcknowledged journal → step flow reached s ≡ Some next → IsBetween flow moment images lot reached next old new
       → Replays flow moment images lot opened (journal ++ record { step = s; acked = None } ∷ []) next first new
   step_open s ran all goes since =
       let entry : Entry = record { step = s; acked = None } in
@@ -153,7 +153,7 @@ module _ (law : ReplayOfOneMore) (flow : Flow) {D : Type 0} (moment : D → ℕ)
       }
 
   -- a step that was acknowledged at the end
-  pub step_acked : (s : Step) → Replays flow moment images lot opened journal reached first old → IsAcknowledged journal → step flow reached s ≡ Some next → IsBetween flow moment images lot reached next old new
+  pub step_acked : (s : Step) → Replays flow moment images lot opened journal reached first old → AreAcknowledged journal → step flow reached s ≡ Some next → IsBetween flow moment images lot reached next old new
       → InEach (images new (moment new)) (StandsFor flow lot next)
       → Replays flow moment images lot opened (journal ++ record { step = s; acked = Some (moment new) } ∷ []) next first new
   step_acked s ran all goes since now_stands =
@@ -172,7 +172,7 @@ module _ (law : ReplayOfOneMore) (flow : Flow) {D : Type 0} (moment : D → ℕ)
       }
 
   -- calls that leave the state as it was
-  pub step_none : Replays flow moment images lot opened journal reached first old → IsAcknowledged journal → Since moment images old new (StandsFor flow lot reached)
+  pub step_none : Replays flow moment images lot opened journal reached first old → AreAcknowledged journal → Since moment images old new (StandsFor flow lot reached)
       → Replays flow moment images lot opened journal reached first new
   step_none ran all since = record {
     replays = ran.replays;

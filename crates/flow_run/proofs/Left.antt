@@ -18,7 +18,7 @@ use Rattle.machine_model.specs.Placing.{EndedSession}
 use Rattle.machine_model.specs.State.{Machine, World}
 use Rattle.machine_model.specs.Stepping.{step, without_name, world_after}
 use Rattle.machine_model.proofs.Among.{Among, among_contained}
-use Rattle.flow_run.specs.Journal.{Takes, files_left}
+use Rattle.flow_run.specs.Journal.{TakesFromInbox, inbox_left}
 use Rattle.flow_run.specs.Laws.{OtherSessionsLoseNone, OtherStepsLoseNone, ReceivingSessionsLoseAFile, TakingStepsLoseAFile}
 
 bool_cases : (b : Bool) → (b ≡ true) ⊎ (b ≡ false)
@@ -94,10 +94,10 @@ left_list names name (file ∷ files) =
     stays apart same false = same
 
 -- one name less, one file less
-left_without : (before after : World) (name : List ℕ) → after.left ≡ without_name before.left name → after.inbox ≡ before.inbox → files_left after ≡ without name (files_left before)
+left_without : (before after : World) (name : List ℕ) → after.left ≡ without_name before.left name → after.inbox ≡ before.inbox → inbox_left after ≡ without name (inbox_left before)
 left_without before after name fewer same = (λ i. filter (among (fewer i)) (same i)) ∙ left_list before.left name before.inbox
 
-left_same : (before after : World) → after.left ≡ before.left → after.inbox ≡ before.inbox → files_left after ≡ files_left before
+left_same : (before after : World) → after.left ≡ before.left → after.inbox ≡ before.inbox → inbox_left after ≡ inbox_left before
 left_same before after names same = λ i. filter (among (names i)) (same i)
 
 -- ---- what a step takes: nothing, or one file
@@ -117,10 +117,10 @@ takes_cases flow (entry.SwapOut connection numbers batch) = inl refl
 takes_cases flow (entry.SwapIn connection batch) = inl refl
 takes_cases flow (entry.Age line) = inl refl
 
-pub takes_one : (flow : Flow) (one : Step) (name : List ℕ) → names_of_step flow one ≡ name ∷ [] → Takes flow one name
+pub takes_one : (flow : Flow) (one : Step) (name : List ℕ) → names_of_step flow one ≡ name ∷ [] → TakesFromInbox flow one name
 takes_one flow one name is = subst (λ (l : List (List ℕ)). Contains l name) (sym is) (0, omega arith, refl)
 
-pub one_taken : (flow : Flow) (one : Step) (name : List ℕ) → Takes flow one name → names_of_step flow one ≡ name ∷ []
+pub one_taken : (flow : Flow) (one : Step) (name : List ℕ) → TakesFromInbox flow one name → names_of_step flow one ≡ name ∷ []
 one_taken flow one name takes = ⊎_elim
     (λ (none : names_of_step flow one ≡ []). absurd (among_contained name [] (subst (λ (l : List (List ℕ)). Contains l name) none takes)))
     (λ (some : (other : List ℕ) × (names_of_step flow one ≡ other ∷ [])).
@@ -144,7 +144,7 @@ none_lost (name ∷ names) = ap (λ (l : List (List ℕ)). name ∷ l) (none_los
 one_lost : (name : List ℕ) (names : List (List ℕ)) → filter (λ n. not (is_among n (name ∷ []))) names ≡ without_name names name
 one_lost name names = λ i. filter (λ n. not (or_false (bytes_eq n name) i)) names
 
-pub step_takes : StepsLoseNames → (flow : Flow) (before after : Machine) (one : Step) (name : List ℕ) → step flow before one ≡ Some after → names_of_step flow one ≡ name ∷ [] → files_left after.world ≡ without name (files_left before.world)
+pub step_takes : StepsLoseNames → (flow : Flow) (before after : Machine) (one : Step) (name : List ℕ) → step flow before one ≡ Some after → names_of_step flow one ≡ name ∷ [] → inbox_left after.world ≡ without name (inbox_left before.world)
 step_takes law flow before after one name goes is =
     let lost = lost_at law flow before after one goes in
     left_without before.world after.world name

@@ -11,7 +11,7 @@ use Rattle.prov_store.specs.Events.{events_in}
 use Rattle.prov_store.specs.State.{AreNumberedFrom, counts_of}
 use Rattle.store_core.specs.Flow.{Flow, flow_in}
 use Rattle.store_core.specs.State.{stands_for, state_with}
-use Rattle.store_core.specs.Store.{Holds, StoreState, kept_by}
+use Rattle.store_core.specs.Store.{FilesHold, StoreState, kept_by}
 use Rattle.store_core.specs.Valid.{HeldFilesStandForKept}
 use Rattle.engine_core.specs.Committing.{AreEventsUpTo, identity_of}
 use Rattle.flow_run.specs.Run.{StandsFor}
@@ -25,7 +25,7 @@ abbrev pub AreInRows : Type 0
 AreInRows = (files : Files) (last : ℕ) (events : List Event) → events_in files last ≡ Ok events → AreNumberedFrom 1 events × (length events ≡ last)
 
 -- the state is what is kept, with the events that the files have
-state_kept : HeldFilesStandForKept → (flow : TheFlow) (s : StoreState) (files : Files) (m : Machine) → flow_in (kept_by s) ≡ identity_of flow → (kept_by s).last_event ≡ s.events.end → (holds : Holds s files) → StandsFor flow s.lot m files
+state_kept : HeldFilesStandForKept → (flow : TheFlow) (s : StoreState) (files : Files) (m : Machine) → flow_in (kept_by s) ≡ identity_of flow → (kept_by s).last_event ≡ s.events.end → (holds : FilesHold s files) → StandsFor flow s.lot m files
     → m.state ≡ state_with (content_in files) holds.events.events (kept_by s)
 state_kept law flow s files m is last holds stands =
     let told : events_in files (kept_by s).last_event ≡ Ok holds.events.events = ap (events_in files) last ∙ holds.events.says in

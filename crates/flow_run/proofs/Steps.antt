@@ -12,11 +12,11 @@ use Rattle.machine_model.specs.Stepping.{step}
 use Rattle.machine_model.specs.Valid.{IsValid}
 use Rattle.flow_run.specs.Going.{IsBetween, IsRunningAt, IsStepped}
 use Rattle.machine_model.specs.Acknowledged.{steps}
-use Rattle.flow_run.specs.Journal.{files_left}
+use Rattle.flow_run.specs.Journal.{inbox_left}
 use Rattle.flow_run.specs.Laws.{DiskFaultsEnd, FaultsEnd, InboxFaultsEnd, NextStepsAreInTurn, OutboxFaultsEnd, SparedRunsGoOn, SteppedRunsGoOn}
 use Rattle.flow_run.specs.Puts.{IsPutBy, Outgoing, Start, puts_of_step}
 use Rattle.flow_run.specs.Run.{HasPut, HasRun, IsGoneByEntry, IsLeftOver, Replays}
-use Rattle.flow_run.specs.Turns.{ComeInTurn, ComesNext, last_worker, moment_of}
+use Rattle.flow_run.specs.Turns.{ComeInTurn, ComesNext, last_worker, step_moment}
 use Rattle.flow_run.specs.declared.ended.Ended.TheVariants as ending
 use Rattle.flow_run.specs.declared.ended.Fault.TheVariants as fault
 use Rattle.flow_run.proofs.Gone.{gone_without, still_gone}
@@ -44,13 +44,13 @@ module _ (law : ReplayOfOneMore) (stays : StepsStayValid) (loses : StepsLoseName
   }
 
   module _ (flow : Flow) (start : Start) (time lot : ℕ) (opened reached after : Machine) (first old new : D) (journal : List Entry) (one : Step) (left : List NamedFile) (out : Outgoing)
-      (run : IsRunningAt flow start time moment images lot opened first old journal reached left out) (le : time ≤ moment_of one) (comes : ComesNext flow (last_worker None (steps journal)) reached one)
+      (run : IsRunningAt flow start time moment images lot opened first old journal reached left out) (le : time ≤ step_moment one) (comes : ComesNext flow (last_worker None (steps journal)) reached one)
       (goes : step flow reached one ≡ Some after) where
-    turns_now : (acked : Option ℕ) → ComeInTurn flow None start.time (moment_of one) opened (steps (journal ++ record { step = one; acked = acked } ∷ []))
+    turns_now : (acked : Option ℕ) → ComeInTurn flow None start.time (step_moment one) opened (steps (journal ++ record { step = one; acked = acked } ∷ []))
     turns_now acked = one_more_turn flow None start.time time opened reached journal (record { step = one; acked = acked }) run.turns run.ran.replays le comes
 
-    turns_by : (acked : Option ℕ) (later : ℕ) → moment_of one ≤ later → ComeInTurn flow None start.time later opened (steps (journal ++ record { step = one; acked = acked } ∷ []))
-    turns_by acked later by = turns_later flow None start.time (moment_of one) later opened (steps (journal ++ record { step = one; acked = acked } ∷ [])) by (turns_now acked)
+    turns_by : (acked : Option ℕ) (later : ℕ) → step_moment one ≤ later → ComeInTurn flow None start.time later opened (steps (journal ++ record { step = one; acked = acked } ∷ []))
+    turns_by acked later by = turns_later flow None start.time (step_moment one) later opened (steps (journal ++ record { step = one; acked = acked } ∷ [])) by (turns_now acked)
 
     -- the outbox behind it
     put_now : (acked : Option ℕ) (now_out : Outgoing) → IsPutBy flow reached one after out now_out → HasPut flow start opened (journal ++ record { step = one; acked = acked } ∷ []) after now_out
@@ -72,7 +72,7 @@ module _ (law : ReplayOfOneMore) (stays : StepsStayValid) (loses : StepsLoseName
       acked_ran = step_acked law flow moment images lot first old new opened reached after journal one run.ran run.all goes stepped.since stepped.done
 
       -- its file is gone, where it took one
-      acked_gone : (now_left : List NamedFile) → now_left ≡ files_left after.world → IsGoneByEntry flow opened.world.inbox now_left (journal ++ entry_acked ∷ [])
+      acked_gone : (now_left : List NamedFile) → now_left ≡ inbox_left after.world → IsGoneByEntry flow opened.world.inbox now_left (journal ++ entry_acked ∷ [])
       acked_gone now_left lies = ⊎_elim
           (λ (none : names_of_step flow one ≡ []).
           subst (λ (l : List NamedFile). IsGoneByEntry flow opened.world.inbox l (journal ++ entry_acked ∷ []))
@@ -83,8 +83,8 @@ module _ (law : ReplayOfOneMore) (stays : StepsStayValid) (loses : StepsLoseName
           (gone_without flow opened.world.inbox left some.0 journal entry_acked run.gone some.1 refl))
           (takes_cases flow one)
 
-      stepped_on : (now_left : List NamedFile) (now_out : Outgoing) → now_left ≡ files_left after.world → IsPutBy flow reached one after out now_out
-          → IsRunningAt flow start (moment_of one) moment images lot opened first new (journal ++ entry_acked ∷ []) after now_left now_out
+      stepped_on : (now_left : List NamedFile) (now_out : Outgoing) → now_left ≡ inbox_left after.world → IsPutBy flow reached one after out now_out
+          → IsRunningAt flow start (step_moment one) moment images lot opened first new (journal ++ entry_acked ∷ []) after now_left now_out
       stepped_on now_left now_out lies stands = record {
         ran = acked_ran;
         all = all-append journal entry_acked run.all refl;
@@ -98,8 +98,8 @@ module _ (law : ReplayOfOneMore) (stays : StepsStayValid) (loses : StepsLoseName
 
       -- ---- the file's removal failed: it may be there
 
-      module _ (tells : Bool) (held : D → Files) (later : ℕ) (by : moment_of one ≤ later) (name : List ℕ) (takes : names_of_step flow one ≡ name ∷ []) where
-        removed_is : (now_left : List NamedFile) → now_left ≡ without name left → now_left ≡ files_left after.world
+      module _ (tells : Bool) (held : D → Files) (later : ℕ) (by : step_moment one ≤ later) (name : List ℕ) (takes : names_of_step flow one ≡ name ∷ []) where
+        removed_is : (now_left : List NamedFile) → now_left ≡ without name left → now_left ≡ inbox_left after.world
         removed_is now_left removed = removed ∙ ap (without name) run.lies ∙ sym (step_takes loses flow reached after one name goes takes)
 
         left_over : (now_left : List NamedFile) → now_left ≡ left → IsLeftOver flow (ending.Fault fault.Inbox) opened (journal ++ entry_acked ∷ []) now_left
@@ -144,7 +144,7 @@ module _ (law : ReplayOfOneMore) (stays : StepsStayValid) (loses : StepsLoseName
       open_ran = step_open law flow moment images lot first old new opened reached after journal one run.ran run.all goes since
 
       -- the inbox is that of the step, unless it took a file, which is still there
-      open_inbox : (left ≡ files_left after.world) ⊎ IsLeftOver flow (ending.Fault fault.Disk) opened (journal ++ entry_open ∷ []) left
+      open_inbox : (left ≡ inbox_left after.world) ⊎ IsLeftOver flow (ending.Fault fault.Disk) opened (journal ++ entry_open ∷ []) left
       open_inbox = ⊎_elim
           (λ (none : names_of_step flow one ≡ []). inl (run.lies ∙ sym (other_steps loses flow reached after one goes none)))
           (λ (some : (name : List ℕ) × (names_of_step flow one ≡ name ∷ [])). inr (record {
@@ -160,7 +160,7 @@ module _ (law : ReplayOfOneMore) (stays : StepsStayValid) (loses : StepsLoseName
           }))
           (takes_cases flow one)
 
-      stopped_within : (tells : Bool) (held : D → Files) (later : ℕ) → moment_of one ≤ later → (now_out : Outgoing) → IsPutBy flow reached one after out now_out
+      stopped_within : (tells : Bool) (held : D → Files) (later : ℕ) → step_moment one ≤ later → (now_out : Outgoing) → IsPutBy flow reached one after out now_out
           → HasRun flow (ending.Fault fault.Disk) start later tells held moment images lot opened first new left now_out (journal ++ entry_open ∷ [])
       stopped_within tells held later by now_out stands = record {
         reached = after;

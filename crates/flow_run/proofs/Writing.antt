@@ -9,7 +9,7 @@ use Rattle.disk_trait.proofs.Moments.{nothing, only_read, step_after_step, wider
 use Rattle.store_core.specs.Checkpoint.{Checkpoints, IsOfNumber}
 use Rattle.store_core.specs.Touched.{MayTouch, TouchesOnly}
 use Rattle.store_core.proofs.Cutting.{shortened_as, shortened_in_turn, shortened_same}
-use Rattle.flow_run.specs.Work.{IsFrom, IsNoEarlier, IsPast, MayWriteFrom, WritesFrom, WritesLog}
+use Rattle.flow_run.specs.Work.{IsFrom, IsNoEarlier, IsLaterLog, MayWriteFrom, WritesFrom, WritesLog}
 
 -- ---- the log's number
 
@@ -34,7 +34,7 @@ module _ (log other : Option ℕ) (no_earlier : IsNoEarlier log other) where
   from_before : (n : ℕ) → IsFrom other n → IsFrom log n
   from_before n is = let begun = no_earlier is.0 is.1 in (begun.0, begun.1, omega (arith, begun.2, is.2))
 
-  past_before : (n : ℕ) → IsPast other n → IsPast log n
+  past_before : (n : ℕ) → IsLaterLog other n → IsLaterLog log n
   past_before n is = let begun = no_earlier is.0 is.1 in (begun.0, begun.1, omega (arith, begun.2, is.2))
 
   written_before : (f : FileName) → MayWriteFrom other f → MayWriteFrom log f

@@ -27,13 +27,13 @@ IsLimitMet flow tells held moment images lot start most limit new =
     IsEndedByLimit flow tells held moment images lot start limit new ⊎ (limit ≡ journal_full most)
 
 -- nothing was left to do, or all of it was held back
-abbrev pub IsAtRest : Ended → Type 0
-IsAtRest ended = (ended ≡ ending.Quiet) ⊎ ((place : ℕ) × (ended ≡ ending.Blocked place))
+abbrev pub IsQuietOrBlocked : Ended → Type 0
+IsQuietOrBlocked ended = (ended ≡ ending.Quiet) ⊎ ((place : ℕ) × (ended ≡ ending.Blocked place))
 
 -- there the log is short: checkpoints were made
 abbrev pub EndsShort : {D : Type 0} → (D → ℕ) → (D → ℕ → Files → Type 0) → (checkpoint : ℕ) → Ended → (new : D)
     → Type 0
-EndsShort moment images checkpoint ended new = IsAtRest ended → IsShortOn moment images checkpoint new
+EndsShort moment images checkpoint ended new = IsQuietOrBlocked ended → IsShortOn moment images checkpoint new
 
 -- A device's fault count never falls, and its fault ends a run only where the count rose, or stands at its type's end.
 pub record EndsOnFaults (ended : Ended) (disk_old disk_new inbox_old inbox_new outbox_old outbox_new : ℕ) : Type 0 where

@@ -9,7 +9,7 @@ use Rattle.machine_model.specs.declared.journal.Entry.{Entry}
 use Rattle.machine_model.specs.State.{Machine}
 use Rattle.machine_model.specs.Valid.{IsValid}
 use Rattle.machine_model.specs.Acknowledged.{steps}
-use Rattle.flow_run.specs.Journal.{files_left, IsAcknowledged}
+use Rattle.flow_run.specs.Journal.{inbox_left, AreAcknowledged}
 use Rattle.flow_run.specs.Puts.{Outgoing, Start}
 use Rattle.flow_run.specs.Run.{HasPut, IsGoneByEntry, Replays, StandsFor}
 use Rattle.flow_run.specs.Turns.{ComeInTurn}
@@ -20,12 +20,12 @@ pub record IsRunningAt {D : Type 0} (flow : Flow) (start : Start) (time : ℕ) (
     (images : D → ℕ → Files → Type 0) (lot : ℕ) (opened : Machine) (old now : D) (journal : List Entry)
     (reached : Machine) (left : List NamedFile) (out : Outgoing) : Type 0 where
   pub ran : Replays flow moment images lot opened journal reached old now
-  pub all : IsAcknowledged journal
+  pub all : AreAcknowledged journal
   pub turns : ComeInTurn flow None start.time time opened (steps journal)
   pub gone : IsGoneByEntry flow opened.world.inbox left journal
   pub valid : IsValid flow reached.state
   pub holds : InEach (images now (moment now)) (StandsFor flow lot reached)
-  pub lies : left ≡ files_left reached.world
+  pub lies : left ≡ inbox_left reached.world
   pub stands : HasPut flow start opened journal reached out
 
 -- Within a step whatever a stop leaves stands for the state before it or for that behind it, ..

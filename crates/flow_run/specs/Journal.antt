@@ -10,18 +10,19 @@ use Rattle.machine_model.specs.Laws.{names_of_step}
 use Rattle.machine_model.specs.State.{World}
 
 -- a step takes the file of this name from the inbox
-abbrev pub Takes : Flow → Step → List ℕ → Type 0
-Takes flow one name = Contains (names_of_step flow one) name
+abbrev pub TakesFromInbox : Flow → Step → List ℕ → Type 0
+TakesFromInbox flow one name = Contains (names_of_step flow one) name
 
 -- each entry was acknowledged
-abbrev pub IsAcknowledged : List Entry → Type 0
-IsAcknowledged journal = AllByRecursion (λ entry. IsSome entry.acked) journal
+abbrev pub AreAcknowledged : List Entry → Type 0
+AreAcknowledged journal = AllByRecursion (λ entry. IsSome entry.acked) journal
 
 -- an acknowledged session took this name
 abbrev pub WasGot : Flow → List ℕ → List Entry → Type 0
 WasGot flow name [] = ⊥
-WasGot flow name (entry ∷ journal) = (Takes flow entry.step name × IsSome entry.acked) ⊎ WasGot flow name journal
+WasGot flow name (entry ∷ journal) = (TakesFromInbox flow entry.step name × IsSome entry.acked)
+    ⊎ WasGot flow name journal
 
 -- the files of the inbox whose names are left
-abbrev pub files_left : World → List NamedFile
-files_left world = filter (λ file. is_among file.name world.left) world.inbox
+abbrev pub inbox_left : World → List NamedFile
+inbox_left world = filter (λ file. is_among file.name world.left) world.inbox

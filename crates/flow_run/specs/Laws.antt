@@ -25,13 +25,13 @@ use Rattle.store_core.specs.Calls.{SinceSync}
 use Rattle.store_core.specs.Flow.{flow_in}
 use Rattle.store_core.specs.Opened.{SameMeaning}
 use Rattle.store_core.specs.State.{stands_for}
-use Rattle.store_core.specs.Store.{Holds, StoreState, kept_by}
+use Rattle.store_core.specs.Store.{FilesHold, StoreState, kept_by}
 use Rattle.engine_core.specs.Committing.{identity_of}
 use Rattle.flow_run.specs.Going.{IsBetween, IsRunningAt, IsSpared, IsStepped}
-use Rattle.flow_run.specs.Journal.{files_left, Takes}
+use Rattle.flow_run.specs.Journal.{inbox_left, TakesFromInbox}
 use Rattle.flow_run.specs.Puts.{IsPutBy, Outgoing, Start, files_sent, puts_of_step}
-use Rattle.flow_run.specs.Run.{HasRun, IsAtLimit, IsPut, IsStateOf, IsTidied, StandsFor, machine_at}
-use Rattle.flow_run.specs.Turns.{ComeInTurn, ComesNext, last_worker, moment_of}
+use Rattle.flow_run.specs.Run.{HasRun, IsAtLimit, IsPutStep, IsStateOf, IsTidied, StandsFor, machine_at}
+use Rattle.flow_run.specs.Turns.{ComeInTurn, ComesNext, last_worker, step_moment}
 use Rattle.flow_run.specs.declared.ended.Ended.TheVariants as ending
 use Rattle.flow_run.specs.declared.ended.Fault.{Fault}
 use Rattle.flow_run.specs.declared.ended.Fault.TheVariants as fault
@@ -76,11 +76,11 @@ SteppedRunsGoOn {D} moment images = (flow : Flow) (start : Start) (time lot : �
     (first old new : D) (journal : List Entry) (one : Step) (left now_left : List NamedFile)
     (out now_out : Outgoing)
     → IsRunningAt flow start time moment images lot opened first old journal reached left out
-    → time ≤ moment_of one → ComesNext flow (last_worker None (steps journal)) reached one
+    → time ≤ step_moment one → ComesNext flow (last_worker None (steps journal)) reached one
     → step flow reached one ≡ Some after
     → IsStepped flow moment images lot reached after old new
-    → now_left ≡ files_left after.world → IsPutBy flow reached one after out now_out
-    → IsRunningAt flow start (moment_of one) moment images lot opened first new
+    → now_left ≡ inbox_left after.world → IsPutBy flow reached one after out now_out
+    → IsRunningAt flow start (step_moment one) moment images lot opened first new
     (journal ++ record { step = one; acked = Some (moment new) } ∷ [])
     after now_left now_out
 
@@ -109,7 +109,7 @@ DiskFaultsEnd {D} tells held moment images = (flow : Flow) (start : Start) (time
     (opened reached after : Machine) (first old new : D) (journal : List Entry) (one : Step) (left : List NamedFile)
     (out now_out : Outgoing)
     → IsRunningAt flow start time moment images lot opened first old journal reached left out
-    → time ≤ moment_of one → moment_of one ≤ later
+    → time ≤ step_moment one → step_moment one ≤ later
     → ComesNext flow (last_worker None (steps journal)) reached one → step flow reached one ≡ Some after
     → IsBetween flow moment images lot reached after old new
     → IsPutBy flow reached one after out now_out
@@ -124,9 +124,9 @@ OutboxFaultsEnd {D} tells held moment images = (flow : Flow) (start : Start) (ti
     (out now_out : Outgoing) (name bytes : List ℕ)
     → IsRunningAt flow start time moment images lot opened first old journal reached left out
     → IsSpared flow moment images lot reached old new
-    → time ≤ moment_of one → moment_of one ≤ later
+    → time ≤ step_moment one → step_moment one ≤ later
     → ComesNext flow (last_worker None (steps journal)) reached one → step flow reached one ≡ Some after
-    → IsPut flow reached one name → after.world.outbox ≡ with_file reached.world.outbox name bytes
+    → IsPutStep flow reached one name → after.world.outbox ≡ with_file reached.world.outbox name bytes
     → ((other : List ℕ) → other ≢ name → now_out.standing other ≡ out.standing other)
     → now_out.puts ≡ out.puts ++ puts_of_step flow reached one
     → HasRun flow (ending.Fault fault.Outbox) start later tells held moment images lot opened first new left
@@ -139,9 +139,9 @@ InboxFaultsEnd {D} tells held moment images = (flow : Flow) (start : Start) (tim
     (opened reached after : Machine) (first old new : D) (journal : List Entry) (one : Step) (name : List ℕ)
     (left now_left : List NamedFile) (out now_out : Outgoing)
     → IsRunningAt flow start time moment images lot opened first old journal reached left out
-    → time ≤ moment_of one → moment_of one ≤ later
+    → time ≤ step_moment one → step_moment one ≤ later
     → ComesNext flow (last_worker None (steps journal)) reached one → step flow reached one ≡ Some after
-    → IsStepped flow moment images lot reached after old new → Takes flow one name
+    → IsStepped flow moment images lot reached after old new → TakesFromInbox flow one name
     → (now_left ≡ left) ⊎ (now_left ≡ without name left)
     → IsPutBy flow reached one after out now_out
     → HasRun flow (ending.Fault fault.Inbox) start later tells held moment images lot opened first new now_left
@@ -193,7 +193,7 @@ NextStepsAreInTurn {D} moment images = (flow : Flow) (start : Start) (time later
     (first now : D) (journal : List Entry) (one : Step) (left : List NamedFile)
     (out : Outgoing)
     → IsRunningAt flow start time moment images lot opened first now journal reached left out
-    → time ≤ moment_of one → moment_of one ≤ later
+    → time ≤ step_moment one → step_moment one ≤ later
     → ComesNext flow (last_worker None (steps journal)) reached one
     → ComeInTurn flow None start.time later opened (steps journal ++ one ∷ [])
 
@@ -203,27 +203,27 @@ NextStepsAreInTurn {D} moment images = (flow : Flow) (start : Start) (time later
 abbrev pub MemoryIsTheState : Type 0
 MemoryIsTheState = (flow : Flow) (s : StoreState) (files : Files) (m : Machine)
     → flow_in (kept_by s) ≡ identity_of flow → (kept_by s).last_event ≡ s.events.end
-    → Holds s files → StandsFor flow s.lot m files → IsStateOf m (content_in files) (kept_by s)
+    → FilesHold s files → StandsFor flow s.lot m files → IsStateOf m (content_in files) (kept_by s)
 
 -- .. and it knows how many events of each kind the machine has
 abbrev pub MemoryCountsEvents : Type 0
 MemoryCountsEvents = (flow : Flow) (s : StoreState) (files : Files) (m : Machine)
     → flow_in (kept_by s) ≡ identity_of flow → (kept_by s).last_event ≡ s.events.end
-    → Holds s files → StandsFor flow s.lot m files → s.events.counts ≡ counts_of m.state.events
+    → FilesHold s files → StandsFor flow s.lot m files → s.events.counts ≡ counts_of m.state.events
 
 -- ---- what steps do to the world
 
 -- a step that takes a file from the inbox leaves the others
 abbrev pub TakingStepsLoseAFile : Type 0
 TakingStepsLoseAFile = (flow : Flow) (before after : Machine) (one : Step) (name : List ℕ)
-    → step flow before one ≡ Some after → Takes flow one name
-    → files_left after.world ≡ without name (files_left before.world)
+    → step flow before one ≡ Some after → TakesFromInbox flow one name
+    → inbox_left after.world ≡ without name (inbox_left before.world)
 
 -- each other step leaves all files of the inbox
 abbrev pub OtherStepsLoseNone : Type 0
 OtherStepsLoseNone = (flow : Flow) (before after : Machine) (one : Step)
     → step flow before one ≡ Some after → names_of_step flow one ≡ []
-    → files_left after.world ≡ files_left before.world
+    → inbox_left after.world ≡ inbox_left before.world
 
 -- a step of a queue alone, or an aging
 abbrev pub IsOfQueue : Step → Type 0
@@ -239,12 +239,12 @@ QueuesLeaveTheWorld = (flow : Flow) (before after : Machine) (one : Step)
 abbrev pub ReceivingSessionsLoseAFile : Type 0
 ReceivingSessionsLoseAFile = (machine : Machine) (session : EndedSession) (outcome : Outcome) (name : List ℕ)
     → received_name session.processor.kind session.given.file ≡ name ∷ []
-    → files_left (session_after machine session outcome).world ≡ without name (files_left machine.world)
+    → inbox_left (session_after machine session outcome).world ≡ without name (inbox_left machine.world)
 
 abbrev pub OtherSessionsLoseNone : Type 0
 OtherSessionsLoseNone = (machine : Machine) (session : EndedSession) (outcome : Outcome)
     → received_name session.processor.kind session.given.file ≡ []
-    → files_left (session_after machine session outcome).world ≡ files_left machine.world
+    → inbox_left (session_after machine session outcome).world ≡ inbox_left machine.world
 
 -- the outbox has the bytes of the file that a session sends, under the name that it sends it by
 abbrev pub SendingSessionsPutAFile : Type 0

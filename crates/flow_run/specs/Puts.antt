@@ -28,8 +28,8 @@ files_sent session outcome (Some sent) =
     ∷ []
 
 -- the session that a processor has by its step
-abbrev pub session_at : Flow → Machine → (place : ℕ) → List ℕ → ℕ → Given → Processor → Option EndedSession
-session_at flow machine place numbers moment given processor =
+abbrev pub session_of_step : Flow → Machine → (place : ℕ) → List ℕ → ℕ → Given → Processor → Option EndedSession
+session_of_step flow machine place numbers moment given processor =
     option_and_then (λ taken.
     option_map (session_of flow machine place processor taken)
     (option_and_then (given_in processor.kind place machine.state machine.world taken) (given_at moment given)))
@@ -45,7 +45,7 @@ session_puts machine session =
 abbrev pub puts_of_step : Flow → Machine → Step → List NamedFile
 puts_of_step flow machine (Session place numbers moment given) =
     option_map_or (session_puts machine)
-    (option_and_then (session_at flow machine place numbers moment given) (slice_get flow.processors place)) []
+    (option_and_then (session_of_step flow machine place numbers moment given) (slice_get flow.processors place)) []
 puts_of_step flow machine _ = []
 
 -- what steps put, one after the other

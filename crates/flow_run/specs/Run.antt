@@ -30,7 +30,7 @@ use Rattle.store_core.specs.Kept.{kept_in}
 use Rattle.store_core.specs.State.{stands_for, state_with}
 use Rattle.store_core.specs.Store.{StoreState, kept_by, IsKeptOn, IsTidy}
 use Rattle.engine_core.specs.Committing.{AreEventsUpTo, identity_of}
-use Rattle.flow_run.specs.Journal.{files_left, Takes, WasGot}
+use Rattle.flow_run.specs.Journal.{inbox_left, TakesFromInbox, WasGot}
 use Rattle.flow_run.specs.Puts.{Outgoing, Start, puts_of, puts_of_step}
 use Rattle.flow_run.specs.Turns.{ComeInTurn}
 use Rattle.flow_run.specs.declared.ended.Ended.{Ended}
@@ -98,13 +98,13 @@ pub record IsLeftOver (flow : Flow) (ended : Ended) (opened : Machine) (journal 
   pub last : Entry
   pub parts : before ++ last ∷ [] ≡ journal
   pub name : List ℕ
-  pub took : Takes flow last.step name
+  pub took : TakesFromInbox flow last.step name
   pub reached : Machine
   pub replays : replay flow opened (steps before) ≡ Some reached
-  pub still : left ≡ files_left reached.world
+  pub still : left ≡ inbox_left reached.world
 
 -- The step is the session of a PutFile that takes one file, of this name.
-pub record IsPut (flow : Flow) (before : Machine) (one : Step) (name : List ℕ) : Type 0 where
+pub record IsPutStep (flow : Flow) (before : Machine) (one : Step) (name : List ℕ) : Type 0 where
   pub place : ℕ
   pub numbers : List ℕ
   pub moment : ℕ
@@ -129,7 +129,7 @@ pub record IsStoppedAtPut (flow : Flow) (ended : Ended) (start : Start) (time : 
   pub after : Machine
   pub goes : step flow reached next ≡ Some after
   pub name : List ℕ
-  pub put : IsPut flow reached next name
+  pub put : IsPutStep flow reached next name
   pub bytes : List ℕ
   pub puts : after.world.outbox ≡ with_file reached.world.outbox name bytes
   pub others : (other : List ℕ) → other ≢ name → out.standing other ≡ reached.world.outbox other
@@ -187,7 +187,7 @@ pub record IsClosed (flow : Flow) (lot : ℕ) (reached : Machine) (held : Files)
   pub tidied : IsTidied flow lot held
 
 -- At this time of the clock nothing was left to do, but for swaps.
-pub record IsDone (flow : Flow) (time lot : ℕ) (reached : Machine) (held : Files) : Type 0 where
+pub record RunIsDone (flow : Flow) (time lot : ℕ) (reached : Machine) (held : Files) : Type 0 where
   pub closed : IsClosed flow lot reached held
   pub is_quiet : quiet_but_for_swaps flow reached.state reached.world time ≡ true
 
@@ -210,7 +210,7 @@ pub record IsStoppedByLimit {D : Type 0} (flow : Flow) (start : Start) (time : �
 abbrev pub EndsSo : {D : Type 0} → Flow → Ended → (start : Start) (time : ℕ) → (tells : Bool) → (D → Files) → (D → ℕ)
     → (D → ℕ → Files → Type 0) → (lot : ℕ) → Machine → List Entry → Machine → (new : D) → Type 0
 EndsSo flow ending.Quiet start time tells held moment images lot opened journal reached new =
-    IsDone flow time lot reached (held new)
+    RunIsDone flow time lot reached (held new)
 EndsSo flow (ending.Blocked place) start time tells held moment images lot opened journal reached new =
     IsHeldBack flow time place lot reached (held new)
 EndsSo flow (ending.Limit limit) start time tells held moment images lot opened journal reached new =
@@ -229,7 +229,7 @@ pub record HasRun {D : Type 0} (flow : Flow) (ended : Ended) (start : Start) (ti
   pub acked : IsAckedBy (moment new) ended journal
   pub turns : ComeInTurn flow None start.time time opened (steps journal)
   pub gone : IsGoneByEntry flow opened.world.inbox left journal
-  pub inbox : (left ≡ files_left reached.world) ⊎ IsLeftOver flow ended opened journal left
+  pub inbox : (left ≡ inbox_left reached.world) ⊎ IsLeftOver flow ended opened journal left
   pub outbox : HasPut flow start opened journal reached out
       ⊎ IsStoppedAtPut flow ended start time opened journal reached out
   pub ends : EndsSo flow ended start time tells held moment images lot opened journal reached new

@@ -17,10 +17,10 @@ use Rattle.engine_choice.specs.Laws.{given_for, numbers_in}
 -- ---- of one step
 
 -- the moment at which a session begins or files expire; batches go and come, and events age, at none
-abbrev pub moment_of : Step → ℕ
-moment_of (Session place numbers moment given) = moment
-moment_of (Expire connection numbers moment) = moment
-moment_of _ = 0
+abbrev pub step_moment : Step → ℕ
+step_moment (Session place numbers moment given) = moment
+step_moment (Expire connection numbers moment) = moment
+step_moment _ = 0
 
 -- the processor that got the last session, behind one step more ..
 abbrev pub worker_behind : (last : Option ℕ) → Step → Option ℕ
@@ -59,10 +59,10 @@ ComesNext flow last before _ = ⊥
 abbrev pub ComeInTurn : Flow → (last : Option ℕ) → (since until : ℕ) → Machine → List Step → Type 0
 ComeInTurn flow last since until before [] = since ≤ until
 ComeInTurn flow last since until before (one ∷ later) =
-    (since ≤ moment_of one) × ComesNext flow last before one
+    (since ≤ step_moment one) × ComesNext flow last before one
     × ((after : Machine) → step flow before one ≡ Some after
-    → ComeInTurn flow (worker_behind last one) (moment_of one) until after later)
+    → ComeInTurn flow (worker_behind last one) (step_moment one) until after later)
 
 -- each step of the journal was made at a moment of which this holds
 abbrev pub AreMadeAt : (given : ℕ → Type 0) → List Entry → Type 0
-AreMadeAt given journal = AllByRecursion (λ entry. given (moment_of entry.step)) journal
+AreMadeAt given journal = AllByRecursion (λ entry. given (step_moment entry.step)) journal

@@ -31,8 +31,8 @@ abbrev pub IsFrom : (log : Option ℕ) → ℕ → Type 0
 IsFrom log n = (first : ℕ) × (log ≡ Some first) × (first ≤ n)
 
 -- .. or a later one
-abbrev pub IsPast : (log : Option ℕ) → ℕ → Type 0
-IsPast log n = (first : ℕ) × (log ≡ Some first) × (first < n)
+abbrev pub IsLaterLog : (log : Option ℕ) → ℕ → Type 0
+IsLaterLog log n = (first : ℕ) × (log ≡ Some first) × (first < n)
 
 -- the log's number is the same or a later one
 abbrev pub IsNoEarlier : (old new : Option ℕ) → Type 0
@@ -43,7 +43,7 @@ IsNoEarlier old new = (n : ℕ) → new ≡ Some n → IsFrom old n
 abbrev pub MayWriteFrom : (log : Option ℕ) → FileName → Type 0
 MayWriteFrom log f =
     (f.kind ≡ Claim) ⊎ (f.kind ≡ Events) ⊎ ((f.kind ≡ Log) × IsFrom log f.number)
-    ⊎ ((f.kind ≡ Snapshot) × IsPast log f.number)
+    ⊎ ((f.kind ≡ Snapshot) × IsLaterLog log f.number)
 
 -- Each other file is as it was or shorter, and the same but for this log's snapshot.
 pub record WritesFrom (log : Option ℕ) (old new : Files) : Type 0 where

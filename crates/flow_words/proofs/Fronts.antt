@@ -4,7 +4,7 @@ use Rattle.std.specs.Prelude.{◌||◌, not, option_map}
 use Rattle.std.specs.List.{list_any, position_or_len}
 use Rattle.std.specs.Str.Pattern.{FindsTextPrefix, StripsPrefix}
 use Rattle.std.proofs.lemmas.Str.Pattern.{IsSplitOnceResult, split_once_first}
-use Rattle.flow_words.specs.Arguments.{Argument, Named, Text, arguments_of, is_equals, joined, takes_next, whole, without_hyphens}
+use Rattle.flow_words.specs.Arguments.{Argument, Named, Text, arguments_of, is_equals, with_argument, takes_next, whole_argument, without_hyphens}
 
 -- ---- words
 
@@ -35,7 +35,7 @@ named word text strips splits =
 abbrev pub behind : Option Text → List Text → Option (List Argument)
 behind None words = arguments_of words
 behind (Some name) [] = None
-behind (Some name) (value ∷ words) = joined (Named name value) (arguments_of words)
+behind (Some name) (value ∷ words) = with_argument (Named name value) (arguments_of words)
 
 -- arguments in front of those that come
 abbrev pub after : List Argument → Option (List Argument) → Option (List Argument)
@@ -47,12 +47,12 @@ behind_option word [] h = rw h refl
 behind_option word (next ∷ words) h = rw h refl
 
 pub behind_whole : (word : Text) (words : List Text) → takes_next word ≡ false
-    → arguments_of (word ∷ words) ≡ joined (whole word) (arguments_of words)
+    → arguments_of (word ∷ words) ≡ with_argument (whole_argument word) (arguments_of words)
 behind_whole word [] h = rw h refl
 behind_whole word (next ∷ words) h = rw h refl
 
 pub after-joined : (front : List Argument) (argument : Argument) (rest : Option (List Argument))
-    → after front (joined argument rest) ≡ after (front ++ argument ∷ []) rest
+    → after front (with_argument argument rest) ≡ after (front ++ argument ∷ []) rest
 after-joined front argument None = refl
 after-joined front argument (Some rest) = ap Some (sym (append_assoc front (argument ∷ []) rest))
 
@@ -74,10 +74,10 @@ module _ (all : Option (List Argument)) (front new : List Argument) (option next
       ∙ sym (ap₂ (λ (a : List Argument) (o : Option Text). after a (behind o rest)) same waits)
 
   pub whole_met : (argument : Argument) → all ≡ after front (behind option words) → words ≡ word ∷ rest
-      → option ≡ None → takes_next word ≡ false → whole word ≡ argument → new ≡ front ++ argument ∷ [] → next ≡ None
+      → option ≡ None → takes_next word ≡ false → whole_argument word ≡ argument → new ≡ front ++ argument ∷ [] → next ≡ None
       → all ≡ after new (behind next rest)
   whole_met argument h first none takes is more still =
       h ∙ ap₂ (λ (o : Option Text) (ws : List Text). after front (behind o ws)) none first
-      ∙ ap (after front) (behind_whole word rest takes ∙ ap (λ (a : Argument). joined a (arguments_of rest)) is)
+      ∙ ap (after front) (behind_whole word rest takes ∙ ap (λ (a : Argument). with_argument a (arguments_of rest)) is)
       ∙ after-joined front argument (arguments_of rest)
       ∙ sym (ap₂ (λ (a : List Argument) (o : Option Text). after a (behind o rest)) more still)

@@ -31,18 +31,19 @@ abbrev pub with_value : Text → Argument
 with_value text = Named (before_first is_equals text) (after_first is_equals text)
 
 -- `--NAME=VALUE`, or a word that is no option
-abbrev pub whole : Text → Argument
-whole word = if is_option word then with_value (without_hyphens word) else Positional word
+abbrev pub whole_argument : Text → Argument
+whole_argument word = if is_option word then with_value (without_hyphens word) else Positional word
 
-abbrev pub joined : Argument → Option (List Argument) → Option (List Argument)
-joined argument = option_map (λ rest. argument ∷ rest)
+abbrev pub with_argument : Argument → Option (List Argument) → Option (List Argument)
+with_argument argument = option_map (λ rest. argument ∷ rest)
 
 -- nothing where the last word is an option without its value
 abbrev pub arguments_of : List Text → Option (List Argument)
 arguments_of [] = Some []
-arguments_of (word ∷ []) = if takes_next word then None else Some (whole word ∷ [])
-arguments_of (word ∷ next ∷ rest) = if takes_next word then joined (Named (without_hyphens word) next) (arguments_of rest)
-    else joined (whole word) (arguments_of (next ∷ rest))
+arguments_of (word ∷ []) = if takes_next word then None else Some (whole_argument word ∷ [])
+arguments_of (word ∷ next ∷ rest) =
+    if takes_next word then with_argument (Named (without_hyphens word) next) (arguments_of rest)
+    else with_argument (whole_argument word) (arguments_of (next ∷ rest))
 
-abbrev pub texts : List (String Global) → List Text
-texts = map (λ word. string_bytes word)
+abbrev pub word_texts : List (String Global) → List Text
+word_texts = map (λ word. string_bytes word)

@@ -6,11 +6,12 @@ use Rattle.std.specs.Str.Parse.{digits_value}
 use Rattle.flow_words.specs.declared.number.TheConstants.{DIGITS_MAX}
 
 -- ASCII digits alone, one to ten
-abbrev pub is_numeral : List ℕ → Bool
-is_numeral text = nat_le 1 (length text) && nat_le (length text) DIGITS_MAX && list_all is_ascii_digit text
+abbrev pub is_short_numeral : List ℕ → Bool
+is_short_numeral text = nat_le 1 (length text) && nat_le (length text) DIGITS_MAX && list_all is_ascii_digit text
 
-abbrev pub within : ℕ → ℕ → ℕ → Option ℕ
-within least most number = if nat_le least number && nat_le number most then Some number else None
+abbrev pub number_if_within : ℕ → ℕ → ℕ → Option ℕ
+number_if_within least most number = if nat_le least number && nat_le number most then Some number else None
 
-abbrev pub number_in : ℕ → ℕ → List ℕ → Option ℕ
-number_in least most text = if is_numeral text then within least most (digits_value 10 text) else None
+abbrev pub number_between : ℕ → ℕ → List ℕ → Option ℕ
+number_between least most text =
+    if is_short_numeral text then number_if_within least most (digits_value 10 text) else None

@@ -9,7 +9,7 @@ use Rattle.flow_words.specs.declared.command.TheConstants.{DEFAULT_THREADS, THRE
 use Rattle.flow_words.specs.declared.error.WordsError.{WordsError}
 use Rattle.flow_words.specs.declared.error.WordsError.TheVariants.{Usage, Memory}
 use Rattle.flow_words.specs.Arguments.{Argument, Named, Positional, Text, arguments_of}
-use Rattle.flow_words.specs.Numbers.{number_in}
+use Rattle.flow_words.specs.Numbers.{number_between}
 
 infixl 10 ◌>>=◌
 abbrev pub ◌>>=◌ : {A B : Type 0} → Option A → (A → Option B) → Option B
@@ -39,7 +39,7 @@ positional_of arguments = at_most_one (filter_map positional_in arguments)
 -- the number that is given, from 1 on, or the default
 abbrev pub number_or : ℕ → ℕ → Option Text → Option ℕ
 number_or default most None = Some default
-number_or default most (Some text) = number_in 1 most text
+number_or default most (Some text) = number_between 1 most text
 
 abbrev pub setting : Text → ℕ → ℕ → List Argument → Option ℕ
 setting name default most arguments = value_of_option name arguments >>= number_or default most
@@ -63,12 +63,12 @@ of_none answer None = Some answer
 of_none answer (Some text) = None
 
 -- an answer only where each option is one of these
-abbrev pub is_among : List Text → Argument → Bool
-is_among names (Named name value) = list_any (λ other. bytes_eq other name) names
-is_among names (Positional word) = true
+abbrev pub is_named_among : List Text → Argument → Bool
+is_named_among names (Named name value) = list_any (λ other. bytes_eq other name) names
+is_named_among names (Positional word) = true
 
 abbrev pub knowing : {A : Type 0} → List Text → List Argument → Option A → Option A
-knowing names arguments answer = if list_all (is_among names) arguments then answer else None
+knowing names arguments answer = if list_all (is_named_among names) arguments then answer else None
 
 -- `run`
 abbrev pub options_of : List Argument → Option RunOptions
@@ -83,15 +83,15 @@ run_of arguments = knowing (codes "threads" ∷ codes "max-commits" ∷ codes "c
 -- `trial N`
 abbrev pub trial_of : List Argument → Option Command
 trial_of arguments = knowing (codes "threads" ∷ []) arguments
-    (threads_of arguments >>= λ threads. positional_of arguments >>= of_one (number_in 1 TRIAL_MAX)
+    (threads_of arguments >>= λ threads. positional_of arguments >>= of_one (number_between 1 TRIAL_MAX)
     >>= λ count. Some (Trial count threads))
 
 -- a command with a UUID, and one with nothing
 abbrev pub uuid_of : List Argument → Option (List ℕ)
 uuid_of arguments = knowing [] arguments (positional_of arguments >>= of_one parsed)
 
-abbrev pub alone : Command → List Argument → Option Command
-alone command arguments = knowing [] arguments (positional_of arguments >>= of_none command)
+abbrev pub bare_command : Command → List Argument → Option Command
+bare_command command arguments = knowing [] arguments (positional_of arguments >>= of_none command)
 
 abbrev pub command_of : Text → List Argument → Option Command
 command_of name arguments =
@@ -99,9 +99,9 @@ command_of name arguments =
     else if bytes_eq name (codes "trial") then trial_of arguments
     else if bytes_eq name (codes "lineage") then option_map Lineage (uuid_of arguments)
     else if bytes_eq name (codes "content") then option_map Content (uuid_of arguments)
-    else if bytes_eq name (codes "queues") then alone Queues arguments
-    else if bytes_eq name (codes "events") then alone Events arguments
-    else if bytes_eq name (codes "check") then alone Check arguments
+    else if bytes_eq name (codes "queues") then bare_command Queues arguments
+    else if bytes_eq name (codes "events") then bare_command Events arguments
+    else if bytes_eq name (codes "check") then bare_command Check arguments
     else None
 
 -- the first word is the command
@@ -121,7 +121,7 @@ IsInRange (Trial count threads) = (1 ≤ count) × (count ≤ TRIAL_MAX) × (1 �
 IsInRange command = Unit {0}
 
 -- what is read is what the words are, and what is refused is nothing, unless memory ran out
-abbrev pub Reads : {X Y : Type 0} → (X → Y) → Result X WordsError → Option Y → Type 0
-Reads view (Ok x) meaning = meaning ≡ Some (view x)
-Reads view (Err Usage) meaning = meaning ≡ None
-Reads view (Err Memory) meaning = Unit {0}
+abbrev pub ReadsWords : {X Y : Type 0} → (X → Y) → Result X WordsError → Option Y → Type 0
+ReadsWords view (Ok x) meaning = meaning ≡ Some (view x)
+ReadsWords view (Err Usage) meaning = meaning ≡ None
+ReadsWords view (Err Memory) meaning = Unit {0}

@@ -2,9 +2,9 @@
 ghost use Rattle.std.specs.Prelude.{◌≡◌, map};
 ghost use Rattle.std.specs.List.{list_all};
 ghost use Rattle.std.specs.Option.{option_copied, option_map};
-ghost use Rattle.flow_words.specs.Arguments.{arguments_of, texts};
-ghost use Rattle.flow_words.specs.Seen.{IsWord, named_texts, seen};
-ghost use Rattle.flow_words.specs.Words.{Reads, is_among, positional_in, positional_of, value_named, value_of_option};
+ghost use Rattle.flow_words.specs.Arguments.{arguments_of, word_texts};
+ghost use Rattle.flow_words.specs.Seen.{IsWord, named_texts, argument_seen};
+ghost use Rattle.flow_words.specs.Words.{ReadsWords, is_named_among, positional_in, positional_of, value_named, value_of_option};
 
 use crate::error::WordsError;
 use std::alloc::Global;
@@ -26,7 +26,7 @@ enum Word<'a> {
 impl<'a> Argument<'a> {
     /// The value, if this is the option.
     fn value_named(self, name: &str) -> Option<&'a str>
-        ensures { option_copied result ≡ value_named name.now (seen self.entry) }
+        ensures { option_copied result ≡ value_named name.now (argument_seen self.entry) }
     {
         match self {
             Argument::Named { name: other, value } if other == name => Some(value),
@@ -35,7 +35,7 @@ impl<'a> Argument<'a> {
     }
 
     fn positional(self) -> Option<&'a str>
-        ensures { option_copied result ≡ positional_in (seen self.entry) }
+        ensures { option_copied result ≡ positional_in (argument_seen self.entry) }
     {
         match self {
             Argument::Named { .. } => None,
@@ -45,7 +45,7 @@ impl<'a> Argument<'a> {
 
     /// Whether this is none but one of these options.
     fn is_among(self, names: &[&str]) -> bool
-        ensures { result ≡ is_among (named_texts names.now) (seen self.entry) }
+        ensures { result ≡ is_named_among (named_texts names.now) (argument_seen self.entry) }
     {
         match self {
             Argument::Named { name, .. } => names.iter().any(|other| *other == name),
@@ -59,7 +59,7 @@ pub(crate) fn read_arguments(
     alloc: Global,
     words: &[String],
 ) -> Result<Vec<Argument<'_>>, WordsError>
-    ensures { Reads (λ arguments. map seen arguments.items) result (arguments_of (texts words.now)) }
+    ensures { ReadsWords (λ arguments. map argument_seen arguments.items) result (arguments_of (word_texts words.now)) }
 {
     let mut arguments = Vec::new(alloc);
     let mut option = None;
@@ -94,7 +94,7 @@ fn read_word(word: &str) -> Word<'_>
 
 /// The value of an option, if it is given; `None` where it is given twice.
 pub(crate) fn value_of_option<'a>(name: &str, arguments: &[Argument<'a>]) -> Option<Option<&'a str>>
-    ensures { option_map option_copied result ≡ value_of_option name.now (map seen arguments.now) }
+    ensures { option_map option_copied result ≡ value_of_option name.now (map argument_seen arguments.now) }
 {
     let mut value = None;
     for argument in arguments {
@@ -110,7 +110,7 @@ pub(crate) fn value_of_option<'a>(name: &str, arguments: &[Argument<'a>]) -> Opt
 
 /// The word that is no option, if there is one; `None` where there are two.
 pub(crate) fn positional_of<'a>(arguments: &[Argument<'a>]) -> Option<Option<&'a str>>
-    ensures { option_map option_copied result ≡ positional_of (map seen arguments.now) }
+    ensures { option_map option_copied result ≡ positional_of (map argument_seen arguments.now) }
 {
     let mut positional = None;
     for argument in arguments {
@@ -126,7 +126,7 @@ pub(crate) fn positional_of<'a>(arguments: &[Argument<'a>]) -> Option<Option<&'a
 
 /// Whether each option is one of these.
 pub(crate) fn are_among(arguments: &[Argument<'_>], names: &[&str]) -> bool
-    ensures { result ≡ list_all (is_among (named_texts names.now)) (map seen arguments.now) }
+    ensures { result ≡ list_all (is_named_among (named_texts names.now)) (map argument_seen arguments.now) }
 {
     arguments.iter().all(|argument| argument.is_among(names))
 }

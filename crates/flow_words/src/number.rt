@@ -3,14 +3,14 @@ ghost use Rattle.std.specs.Prelude.{◌≡◌, ◌≤◌, IfSome, IsTrue, length
 ghost use Rattle.std.specs.Char.{is_ascii_digit};
 ghost use Rattle.std.specs.List.{list_all};
 ghost use Rattle.std.specs.Str.Parse.{digits_value};
-ghost use Rattle.flow_words.specs.Numbers.{number_in, within};
+ghost use Rattle.flow_words.specs.Numbers.{number_between, number_if_within};
 
 /// The most digits of a number.
 pub const DIGITS_MAX: usize = 10;
 
 /// The number that a text of digits writes, if it is in the range.
 pub(crate) fn number_in(least: u64, most: u64, text: &str) -> Option<u64>
-    ensures number { result ≡ number_in least most text.now }
+    ensures number { result ≡ number_between least most text.now }
     ensures least { IfSome result (λ number. least ≤ number) }
     ensures most { IfSome result (λ number. number ≤ most) }
 {
@@ -22,7 +22,7 @@ pub(crate) fn number_in(least: u64, most: u64, text: &str) -> Option<u64>
 }
 
 fn within(least: u64, most: u64, number: u64) -> Option<u64>
-    ensures number { result ≡ within least most number }
+    ensures number { result ≡ number_if_within least most number }
     ensures least { IfSome result (λ number. least ≤ number) }
     ensures most { IfSome result (λ number. number ≤ most) }
 {

@@ -1,9 +1,9 @@
 //! Commands from words.
 ghost use Rattle.std.specs.Prelude.{◌≡◌, ◌≤◌, IfOk, IfSome, codes, map};
 ghost use Rattle.uuid.specs.Text.{parsed};
-ghost use Rattle.flow_words.specs.Arguments.{texts};
-ghost use Rattle.flow_words.specs.Seen.{seen};
-ghost use Rattle.flow_words.specs.Words.{AreInRange, IsInRange, Reads, alone, command_of, options_of, run_of, setting, threads_of, trial_of, uuid_of, words_of};
+ghost use Rattle.flow_words.specs.Arguments.{word_texts};
+ghost use Rattle.flow_words.specs.Seen.{argument_seen};
+ghost use Rattle.flow_words.specs.Words.{AreInRange, IsInRange, ReadsWords, bare_command, command_of, options_of, run_of, setting, threads_of, trial_of, uuid_of, words_of};
 
 use crate::argument::{Argument, are_among, positional_of, read_arguments, value_of_option};
 use crate::command::{
@@ -18,7 +18,7 @@ use uuid::Uuid;
 /// The command that the words behind the program's name are.
 #[tactic(auto, unfolding(crate::specs::Words::words_of))]
 pub fn read_words(alloc: Global, words: &[String]) -> Result<Command, WordsError>
-    ensures command { Reads (λ command. command) result (words_of (texts words.now)) }
+    ensures command { ReadsWords (λ command. command) result (words_of (word_texts words.now)) }
     ensures range { IfOk result IsInRange }
 {
     let (name, rest) = words.split_first().ok_or(WordsError::Usage)?;
@@ -27,7 +27,7 @@ pub fn read_words(alloc: Global, words: &[String]) -> Result<Command, WordsError
 }
 
 fn command_of(name: &str, arguments: &[Argument<'_>]) -> Option<Command>
-    ensures command { result ≡ command_of name.now (map seen arguments.now) }
+    ensures command { result ≡ command_of name.now (map argument_seen arguments.now) }
     ensures range { IfSome result IsInRange }
 {
     match name {
@@ -43,7 +43,7 @@ fn command_of(name: &str, arguments: &[Argument<'_>]) -> Option<Command>
 }
 
 fn run_of(arguments: &[Argument<'_>]) -> Option<Command>
-    ensures command { result ≡ run_of (map seen arguments.now) }
+    ensures command { result ≡ run_of (map argument_seen arguments.now) }
     ensures range { IfSome result IsInRange }
 {
     if !are_among(arguments, &["threads", "max-commits", "checkpoint"]) {
@@ -57,7 +57,7 @@ fn run_of(arguments: &[Argument<'_>]) -> Option<Command>
 }
 
 fn options_of(arguments: &[Argument<'_>]) -> Option<RunOptions>
-    ensures options { result ≡ options_of (map seen arguments.now) }
+    ensures options { result ≡ options_of (map argument_seen arguments.now) }
     ensures range { IfSome result AreInRange }
 {
     Some(RunOptions {
@@ -68,7 +68,7 @@ fn options_of(arguments: &[Argument<'_>]) -> Option<RunOptions>
 }
 
 fn trial_of(arguments: &[Argument<'_>]) -> Option<Command>
-    ensures command { result ≡ trial_of (map seen arguments.now) }
+    ensures command { result ≡ trial_of (map argument_seen arguments.now) }
     ensures range { IfSome result IsInRange }
 {
     if !are_among(arguments, &["threads"]) {
@@ -81,7 +81,7 @@ fn trial_of(arguments: &[Argument<'_>]) -> Option<Command>
 
 /// The UUID that is the one argument.
 fn uuid_of(arguments: &[Argument<'_>]) -> Option<Uuid>
-    ensures { result ≡ uuid_of (map seen arguments.now) }
+    ensures { result ≡ uuid_of (map argument_seen arguments.now) }
 {
     if !are_among(arguments, &[]) {
         return None;
@@ -97,7 +97,7 @@ fn uuid_in(text: &str) -> Option<Uuid>
 
 /// A command that takes no argument.
 fn alone(command: Command, arguments: &[Argument<'_>]) -> Option<Command>
-    ensures { result ≡ alone command (map seen arguments.now) }
+    ensures { result ≡ bare_command command (map argument_seen arguments.now) }
 {
     if !are_among(arguments, &[]) {
         return None;
@@ -109,7 +109,7 @@ fn alone(command: Command, arguments: &[Argument<'_>]) -> Option<Command>
 }
 
 fn threads_of(arguments: &[Argument<'_>]) -> Option<u8>
-    ensures threads { result ≡ threads_of (map seen arguments.now) }
+    ensures threads { result ≡ threads_of (map argument_seen arguments.now) }
     ensures range { IfSome result (λ number. (1 ≤ number) × (number ≤ THREADS_MAX)) }
 {
     let threads = setting(
@@ -125,7 +125,7 @@ fn threads_of(arguments: &[Argument<'_>]) -> Option<u8>
 fn setting(name: &str, default: u64, most: u64, arguments: &[Argument<'_>]) -> Option<u64>
     requires least { 1 ≤ default }
     requires most { default ≤ most }
-    ensures number { result ≡ setting name.now default most (map seen arguments.now) }
+    ensures number { result ≡ setting name.now default most (map argument_seen arguments.now) }
     ensures least { IfSome result (λ number. 1 ≤ number) }
     ensures most { IfSome result (λ number. number ≤ most) }
 {

@@ -10,7 +10,7 @@ use Rattle.record_codec.specs.declared.log.TheConstants.{OPEN_GATE, CLOSED_GATE}
 use Rattle.record_codec.specs.LogEntries.{log_of}
 use Rattle.record_codec.proofs.Logs.{ends_shut, one_entry_more}
 use Rattle.flowfile_wal.specs.Current.{CurrentLog}
-use Rattle.flowfile_wal.specs.Steps.{SameLog, EndsClosed, IsAtRest, IsFrame, OneMore, frame, with_entry}
+use Rattle.flowfile_wal.specs.Steps.{SameLog, EndsClosed, IsClosedLog, IsFrame, OneMore, frame, with_entry}
 use Rattle.flowfile_wal.proofs.Says.{same_log, more_log}
 
 -- a closed gate behind so many bytes
@@ -21,7 +21,7 @@ ends_closed front end bytes is long =
 pub closed_length : (end : ℕ) (bytes : List ℕ) → EndsClosed end bytes → length bytes ≡ end + 1
 closed_length end bytes closed = omega (arith, ap length closed, length-append (take end bytes) (CLOSED_GATE ∷ []), length-take end bytes)
 
-module _ (log : CurrentLog) (bytes : List ℕ) (rest : IsAtRest log bytes) where
+module _ (log : CurrentLog) (bytes : List ℕ) (rest : IsClosedLog log bytes) where
   abbrev pub front : List ℕ
   front = take log.end bytes
 
@@ -59,7 +59,7 @@ module _ (log : CurrentLog) (bytes : List ℕ) (rest : IsAtRest log bytes) where
 
   module _ (entry : LogEntry) (bs : List ℕ) (is_frame : IsFrame entry bs) where
     -- the gate before the block opens
-    pub opened_gate : (c : List ℕ) → c ≡ front ++ OPEN_GATE ∷ bs → IsAtRest (with_entry log entry) c
+    pub opened_gate : (c : List ℕ) → c ≡ front ++ OPEN_GATE ∷ bs → IsClosedLog (with_entry log entry) c
     opened_gate c is =
         let last = block (kind_of entry) (encoding entry) in
         let opens : c ≡ front ++ OPEN_GATE ∷ (last ++ CLOSED_GATE ∷ []) = is ∙ ap (λ (l : List ℕ). front ++ OPEN_GATE ∷ l) is_frame.is in
@@ -107,7 +107,7 @@ module _ (log : CurrentLog) (bytes : List ℕ) (rest : IsAtRest log bytes) where
         ∙ append_assoc front (OPEN_GATE ∷ []) bs
 
 -- the log with the entry, of whichever log these bytes are
-pub has_one_more : (log : CurrentLog) (bytes : List ℕ) → IsAtRest log bytes → (number : ℕ) (entry : LogEntry) (bs : List ℕ) → IsFrame entry bs → (c : List ℕ) → c ≡ take log.end bytes ++ OPEN_GATE ∷ bs → OneMore number entry bytes c
+pub has_one_more : (log : CurrentLog) (bytes : List ℕ) → IsClosedLog log bytes → (number : ℕ) (entry : LogEntry) (bs : List ℕ) → IsFrame entry bs → (c : List ℕ) → c ≡ take log.end bytes ++ OPEN_GATE ∷ bs → OneMore number entry bytes c
 has_one_more log bytes rest number entry bs is_frame c is = λ other numbered at_rest.
     let end : log.end ≡ other.end = omega (arith, closed_length log.end bytes rest.closed, closed_length other.end bytes at_rest.closed) in
     opened_gate other bytes at_rest entry bs is_frame c (is ∙ ap (λ (n : ℕ). take n bytes ++ OPEN_GATE ∷ bs) end)

@@ -9,7 +9,7 @@ use Rattle.disk_trait.specs.declared.file_name.FileName.{FileName}
 use Rattle.disk_trait.proofs.Search.{greatest_found, greatest_agrees}
 use Rattle.record_codec.specs.declared.entry.LogEntry.{LogEntry}
 use Rattle.flowfile_wal.specs.Current.{CurrentLog, counts, current_number, log_in, of_some, log_of_number, current_log}
-use Rattle.flowfile_wal.specs.Steps.{SameLog, OneMore, IsAtRest, IsClosedIn, with_entry}
+use Rattle.flowfile_wal.specs.Steps.{SameLog, OneMore, IsClosedLog, IsClosedIn, with_entry}
 use Rattle.flowfile_wal.proofs.Says.{read_of}
 
 abbrev pub Said : Type 0
@@ -95,10 +95,10 @@ pub damaged_current : (files : Files) (n : ℕ) (damage : Damage) → current_nu
 unfolding current_log
 damaged_current files n damage is says = ap (log_of_number files) is ∙ ap of_some says
 
-pub at_rest : (log : CurrentLog) (files : Files) → IsClosedIn log files → IsAtRest log (files (named Log log.number))
+pub at_rest : (log : CurrentLog) (files : Files) → IsClosedIn log files → IsClosedLog log (files (named Log log.number))
 at_rest log files is = let of = current_is files log is.current in record { counted = of.counted; says = of.says; closed = is.closed }
 
-pub closed_in : (log : CurrentLog) (files : Files) → current_number files ≡ Some log.number → IsAtRest log (files (named Log log.number)) → IsClosedIn log files
+pub closed_in : (log : CurrentLog) (files : Files) → current_number files ≡ Some log.number → IsClosedLog log (files (named Log log.number)) → IsClosedIn log files
 closed_in log files is rest = record { current = is_current files log log.number is rest.says; closed = rest.closed }
 
 -- where the current log gets an entry, the current log has it

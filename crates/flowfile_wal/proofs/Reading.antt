@@ -14,8 +14,8 @@ use Rattle.record_codec.specs.declared.entry.LogEntry.{LogEntry}
 use Rattle.record_codec.specs.declared.entry.LogEntry.TheVariants.{Begin, Session, Expire, SwapOut, SwapIn}
 use Rattle.record_codec.specs.declared.log.TheConstants.{OPEN_GATE}
 use Rattle.record_codec.proofs.Logs.{passed_over, shut, last_byte, opened}
-use Rattle.flowfile_wal.specs.Current.{CurrentLog, counts, first_in, is_begin, begins, caused, log_in}
-use Rattle.flowfile_wal.specs.Reads.{named_at, IsEntryAt, IsDamagedAt, IsLastGate, IsReadTo}
+use Rattle.flowfile_wal.specs.Current.{CurrentLog, counts, first_entry, is_begin, begins, caused, log_in}
+use Rattle.flowfile_wal.specs.Reads.{named_at, IsEntryAt, IsDamagedAt, IsLastGate, LogIsReadTo}
 use Rattle.flowfile_wal.proofs.Says.{Found, ok, opens, says_of, says_misbegun}
 use Rattle.flowfile_wal.proofs.Mending.{entry_fits}
 
@@ -82,7 +82,7 @@ begin_is number (Expire e) is = absurd cc
 begin_is number (SwapOut s) is = absurd cc
 begin_is number (SwapIn connection batch) is = absurd cc
 
-pub read_first : (number : ℕ) (bytes : List ℕ) (found : LogEntry × ℕ) → IsEntryAt 0 bytes found → is_begin number found.0 ≡ true → IsReadTo number (1 + found.1) [] bytes
+pub read_first : (number : ℕ) (bytes : List ℕ) (found : LogEntry × ℕ) → IsEntryAt 0 bytes found → is_begin number found.0 ≡ true → LogIsReadTo number (1 + found.1) [] bytes
 read_first number bytes found is begin = record {
   begun = ap (begins number) is.entry ∙ begin;
   reads = entry_then 0 bytes found is ∙ ap (λ (e : LogEntry). after ((0, e) ∷ []) (log_from 0 (1 + found.1) (drop (1 + found.1) bytes))) (begin_is number found.0 begin);
@@ -101,7 +101,7 @@ begin_other number bytes found is isnt = says_misbegun number bytes (ap (begins 
 
 pub begin_damaged : (number : ℕ) (bytes : List ℕ) (damage : Damage) → IsDamagedAt (named Log number) 0 bytes damage → log_in number bytes ≡ Err damage
 begin_damaged number bytes damage is =
-    let c = cause_of (named Log number) 0 (first_in bytes) damage is.entry in
+    let c = cause_of (named Log number) 0 (first_entry bytes) damage is.entry in
     says_of number bytes (Err (record { at = 0; cause = c.cause })) (ap (begins number) c.is) (damaged_from (named Log number) 0 bytes damage is c)
     ∙ ap error c.damage_is
 
@@ -111,11 +111,11 @@ after_more : (es : List (ℕ × LogEntry)) (x : ℕ × LogEntry) (log : Whole) �
 after_more es x (Ok r) = ap (λ (l : List (ℕ × LogEntry)). ok (record { entries = l; end = r.end })) (sym (append_assoc es (x ∷ []) r.entries))
 after_more es x (Err d) = refl
 
-module _ (number end : ℕ) (entries : List (ℕ × LogEntry)) (bytes : List ℕ) (so_far : IsReadTo number end entries bytes) where
+module _ (number end : ℕ) (entries : List (ℕ × LogEntry)) (bytes : List ℕ) (so_far : LogIsReadTo number end entries bytes) where
   abbrev all : List (ℕ × LogEntry)
   all = (0, Begin number) ∷ entries
 
-  pub read_next : (found : LogEntry × ℕ) → IsEntryAt end bytes found → IsReadTo number (end + 1 + found.1) (entries ++ (end, found.0) ∷ []) bytes
+  pub read_next : (found : LogEntry × ℕ) → IsEntryAt end bytes found → LogIsReadTo number (end + 1 + found.1) (entries ++ (end, found.0) ∷ []) bytes
   read_next found is = record {
     begun = so_far.begun;
     reads = so_far.reads ∙ ap (after all) (entry_then end bytes found is) ∙ after_more all (end, found.0) (log_from 0 (end + 1 + found.1) (drop (end + 1 + found.1) bytes));

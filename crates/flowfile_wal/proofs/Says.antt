@@ -13,7 +13,7 @@ use Rattle.record_codec.specs.LogEntries.{Cause, LogRead, LogDamage, ended, afte
 use Rattle.record_codec.specs.declared.entry.LogEntry.{LogEntry}
 use Rattle.record_codec.specs.declared.log.TheConstants.{OPEN_GATE, CLOSED_GATE}
 use Rattle.record_codec.proofs.Logs.{opened}
-use Rattle.flowfile_wal.specs.Current.{CurrentLog, counts, first_in, is_begin, begins, told, log_in}
+use Rattle.flowfile_wal.specs.Current.{CurrentLog, counts, first_entry, is_begin, begins, log_read, log_in}
 use Rattle.flowfile_wal.specs.Steps.{SameLog, frame, with_entry}
 
 abbrev pub Found : Type 0
@@ -30,7 +30,7 @@ opens (g ∷ bytes) is =
     let long : 1 < length (g ∷ bytes) = ltb-true 1 (length (g ∷ bytes)) p.1 in
     (ap (λ (x : ℕ). x ∷ bytes) (eqb-true g OPEN_GATE p.0), omega (arith, long))
 
-pub behind_first : (bytes : List ℕ) → counts bytes ≡ true → log_of bytes ≡ behind_gate 0 (first_in bytes) (λ size. log_from size 1 (drop 1 bytes))
+pub behind_first : (bytes : List ℕ) → counts bytes ≡ true → log_of bytes ≡ behind_gate 0 (first_entry bytes) (λ size. log_from size 1 (drop 1 bytes))
 behind_first bytes is = let o = opens bytes is in ap log_of o.0 ∙ opened 0 (drop 1 bytes) o.1
 
 -- the first entry of a log
@@ -38,20 +38,20 @@ pub record First (number : ℕ) (bytes : List ℕ) (read : LogRead) : Type 0 whe
   pub entry : LogEntry
   pub behind : List (ℕ × LogEntry)
   pub entries : read.entries ≡ (0, entry) ∷ behind
-  pub begun : begins number (first_in bytes) ≡ is_begin number entry
+  pub begun : begins number (first_entry bytes) ≡ is_begin number entry
 
-first_read : (number : ℕ) (bytes : List ℕ) (read : LogRead) (found : LogEntry × ℕ) (log : Result LogRead LogDamage) → first_in bytes ≡ Ok found → after ((0, found.0) ∷ []) log ≡ ok read → First number bytes read
+first_read : (number : ℕ) (bytes : List ℕ) (read : LogRead) (found : LogEntry × ℕ) (log : Result LogRead LogDamage) → first_entry bytes ≡ Ok found → after ((0, found.0) ∷ []) log ≡ ok read → First number bytes read
 first_read number bytes read found (Ok r) is e =
     let same : record { entries = (0, found.0) ∷ r.entries; end = r.end } ≡ read = cc in
     record { entry = found.0; behind = r.entries; entries = sym (ap (λ (x : LogRead). x.entries) same); begun = ap (begins number) is }
 first_read number bytes read found (Err d) is e = absurd cc
 
-first_by : (number : ℕ) (bytes : List ℕ) (read : LogRead) (found : Found) → first_in bytes ≡ found → behind_gate 0 found (λ size. log_from size 1 (drop 1 bytes)) ≡ ok read → First number bytes read
+first_by : (number : ℕ) (bytes : List ℕ) (read : LogRead) (found : Found) → first_entry bytes ≡ found → behind_gate 0 found (λ size. log_from size 1 (drop 1 bytes)) ≡ ok read → First number bytes read
 first_by number bytes read (Ok found) is e = first_read number bytes read found (log_from found.1 1 (drop 1 bytes)) is e
 first_by number bytes read (Err cause) is e = absurd cc
 
 pub first : (number : ℕ) (bytes : List ℕ) (read : LogRead) → counts bytes ≡ true → log_of bytes ≡ ok read → First number bytes read
-first number bytes read counted reads = first_by number bytes read (first_in bytes) refl (sym (behind_first bytes counted) ∙ reads)
+first number bytes read counted reads = first_by number bytes read (first_entry bytes) refl (sym (behind_first bytes counted) ∙ reads)
 
 -- nothing is read of a log that is passed over
 passed : (bytes : List ℕ) → counts bytes ≡ false → log_of bytes ≡ ok (ended 0)
@@ -71,7 +71,7 @@ counts_by bytes read x xs reads some = ⊎_elim
 pub record IsRead (number : ℕ) (bytes : List ℕ) (log : CurrentLog) : Type 0 where
   pub read : LogRead
   pub reads : log_of bytes ≡ ok read
-  pub begun : begins number (first_in bytes) ≡ true
+  pub begun : begins number (first_entry bytes) ≡ true
   pub is : log ≡ record { number = number; entries = drop 1 read.entries; end = read.end }
 
 abbrev Says : Type 0
@@ -83,23 +83,23 @@ misbegun number = Err (Form (named Log number) 0)
 abbrev says : CurrentLog → Says
 says log = Ok log
 
-read_by : (number : ℕ) (bytes : List ℕ) (log : CurrentLog) (begun : Bool) (whole : Result LogRead LogDamage) → begins number (first_in bytes) ≡ begun → log_of bytes ≡ whole
-    → cond begun (told number whole) (misbegun number) ≡ says log → IsRead number bytes log
+read_by : (number : ℕ) (bytes : List ℕ) (log : CurrentLog) (begun : Bool) (whole : Result LogRead LogDamage) → begins number (first_entry bytes) ≡ begun → log_of bytes ≡ whole
+    → cond begun (log_read number whole) (misbegun number) ≡ says log → IsRead number bytes log
 read_by number bytes log true (Ok read) b w e = record { read = read; reads = w; begun = b; is = cc }
 read_by number bytes log true (Err d) b w e = absurd cc
 read_by number bytes log false whole b w e = absurd cc
 
 pub read_of : (number : ℕ) (bytes : List ℕ) (log : CurrentLog) → log_in number bytes ≡ says log → IsRead number bytes log
 unfolding log_in
-read_of number bytes log is = read_by number bytes log (begins number (first_in bytes)) (log_of bytes) refl refl is
+read_of number bytes log is = read_by number bytes log (begins number (first_entry bytes)) (log_of bytes) refl refl is
 
-pub says_of : (number : ℕ) (bytes : List ℕ) (whole : Result LogRead LogDamage) → begins number (first_in bytes) ≡ true → log_of bytes ≡ whole → log_in number bytes ≡ told number whole
+pub says_of : (number : ℕ) (bytes : List ℕ) (whole : Result LogRead LogDamage) → begins number (first_entry bytes) ≡ true → log_of bytes ≡ whole → log_in number bytes ≡ log_read number whole
 unfolding log_in
-says_of number bytes whole begun reads = ap (λ (b : Bool). cond b (told number (log_of bytes)) (misbegun number)) begun ∙ ap (told number) reads
+says_of number bytes whole begun reads = ap (λ (b : Bool). cond b (log_read number (log_of bytes)) (misbegun number)) begun ∙ ap (log_read number) reads
 
-pub says_misbegun : (number : ℕ) (bytes : List ℕ) → begins number (first_in bytes) ≡ false → log_in number bytes ≡ misbegun number
+pub says_misbegun : (number : ℕ) (bytes : List ℕ) → begins number (first_entry bytes) ≡ false → log_in number bytes ≡ misbegun number
 unfolding log_in
-says_misbegun number bytes isnt = ap (λ (b : Bool). cond b (told number (log_of bytes)) (misbegun number)) isnt
+says_misbegun number bytes isnt = ap (λ (b : Bool). cond b (log_read number (log_of bytes)) (misbegun number)) isnt
 
 same_head : (a b : LogEntry) (xs ys es : List (ℕ × LogEntry)) → es ≡ (0, a) ∷ xs → es ≡ (0, b) ∷ ys → a ≡ b
 same_head a b xs ys es one other =
@@ -136,7 +136,7 @@ module _ (number : ℕ) (bytes : List ℕ) (log : CurrentLog) (counted : counts 
       let begun = g.begun ∙ ap (is_begin number) same ∙ sym f.begun ∙ r.begun in
       let behind : drop 1 (r.read.entries ++ put) ≡ drop 1 r.read.entries ++ put = ap (drop 1) entries ∙ sym (ap (λ (es : List (ℕ × LogEntry)). drop 1 es ++ put) f.entries) in
       let gate : r.read.end + 1 + length last ≡ r.read.end + length (frame entry) = omega (arith, length-append last (CLOSED_GATE ∷ [])) in
-      let whole : told number (ok (one_more r.read entry (length last))) ≡ says (with_entry (record { number = number; entries = drop 1 r.read.entries; end = r.read.end }) entry) =
+      let whole : log_read number (ok (one_more r.read entry (length last))) ≡ says (with_entry (record { number = number; entries = drop 1 r.read.entries; end = r.read.end }) entry) =
       ap (λ (es : List (ℕ × LogEntry)). says (record { number = number; entries = es; end = r.read.end + 1 + length last })) behind
       ∙ ap (λ (n : ℕ). says (record { number = number; entries = drop 1 r.read.entries ++ put; end = n })) gate in
       (now, says_of number new (ok (one_more r.read entry (length last))) begun reads ∙ whole ∙ ap (λ (l : CurrentLog). says (with_entry l entry)) (sym r.is))

@@ -13,7 +13,7 @@ use Rattle.record_codec.specs.declared.log.TheConstants.{OPEN_GATE}
 use Rattle.record_codec.proofs.Blocks.{length-block}
 use Rattle.record_codec.proofs.Logs.{one_entry_more}
 use Rattle.flowfile_wal.specs.Current.{CurrentLog, current_log, is_begin}
-use Rattle.flowfile_wal.specs.Steps.{LogState, IsCurrentIn, IsReadyIn, IsLogAt, IsAtRest, IsClosedIn, IsBegunIn, RestsAt, OneMore, frame, numbered, with_entry}
+use Rattle.flowfile_wal.specs.Steps.{LogState, IsCurrentIn, IsReadyIn, IsLogAt, IsClosedLog, IsClosedIn, IsBegunIn, RestsAt, OneMore, frame, numbered_log, with_entry}
 use Rattle.flowfile_wal.proofs.Says.{ok, first, counts_by, says_of}
 use Rattle.flowfile_wal.proofs.Appending.{ends_closed}
 use Rattle.flowfile_wal.proofs.Files.{said, current_is, closed_in, at_rest, with_one_more}
@@ -22,7 +22,7 @@ module _ (state : LogState) (number gate : ℕ) (has : state.number ≡ Some num
   -- the current log, by what is in memory of it
   pub current_by : (is : IsCurrentIn state files) → current_log files ≡ said (Some (record { number = number; entries = is.entries; end = gate }))
   current_by is =
-      is.current ∙ ap (λ (n : Option ℕ). said (numbered n is.entries state.end)) has ∙ ap (λ (e : ℕ). said (numbered (Some number) is.entries e)) ends
+      is.current ∙ ap (λ (n : Option ℕ). said (numbered_log n is.entries state.end)) has ∙ ap (λ (e : ℕ). said (numbered_log (Some number) is.entries e)) ends
 
   pub log_at : IsCurrentIn state files → IsLogAt number gate (files (named Log number))
   log_at is =
@@ -33,7 +33,7 @@ module _ (state : LogState) (number gate : ℕ) (has : state.number ≡ Some num
   rests_at is =
       let both : Some is.log.number ≡ Some number = sym is.number ∙ has in
       let same : is.log.number ≡ number = cc in
-      (is.log, same, sym is.end ∙ ends, subst (λ (n : ℕ). IsAtRest is.log (files (named Log n))) same (at_rest is.log files is.ready))
+      (is.log, same, sym is.end ∙ ends, subst (λ (n : ℕ). IsClosedLog is.log (files (named Log n))) same (at_rest is.log files is.ready))
 
 -- where the current log gets an entry, the one in memory has it
 pub ready_more : (state new : LogState) (number : ℕ) (entry : LogEntry) (held c : Files) → state.number ≡ Some number → IsReadyIn state held → At (named Log number) (OneMore number entry) held c

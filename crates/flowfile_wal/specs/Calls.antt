@@ -5,7 +5,7 @@ use Rattle.disk_trait.specs.Files.{Files}
 use Rattle.disk_trait.specs.Images.{After, IsOnly}
 use Rattle.record_codec.specs.EntryEncoding.{IsEntry}
 use Rattle.record_codec.specs.declared.entry.LogEntry.{LogEntry}
-use Rattle.flowfile_wal.specs.Steps.{LogState, IsReadyIn, Keeps, Adds}
+use Rattle.flowfile_wal.specs.Steps.{LogState, IsReadyIn, KeepsLog, AddsEntry}
 use Rattle.flowfile_wal.specs.declared.error.LogError.{LogError}
 use Rattle.flowfile_wal.specs.declared.error.LogError.TheVariants.{Disk}
 
@@ -18,7 +18,7 @@ abbrev pub HaveEncodings : List (ℕ × LogEntry) → Type 0
 HaveEncodings entries = All (λ e. IsEntry e.1) entries
 
 -- the end of the log in memory was mended, and no call met a failure of the disk
-pub record IsAtWork (state : LogState) : Type 0 where
+pub record IsWorkingLog (state : LogState) : Type 0 where
   pub mended : state.mended ≡ true
   pub works : state.failed ≡ false
 
@@ -29,14 +29,15 @@ pub record LeavesReady (state : LogState) (held : Files) (left : Files → Type 
 
 -- one of these files, whose log says what it said; or those that were held, with this entry more in their log
 abbrev pub WithOrWithout : ℕ → LogEntry → (Files → Type 0) → Files → Files → Type 0
-WithOrWithout number entry left held c = After (Keeps number) left c ⊎ Adds number entry held c
+WithOrWithout number entry left held c = After (KeepsLog number) left c ⊎ AddsEntry number entry held c
 
 -- the log in memory with a frame of these bytes more
 abbrev pub with_frame : LogState → List ℕ → LogState
 with_frame state bytes = record state { end = state.end + length bytes }
 
 -- The one refusal is Disk. It comes only where the disk's fault count rose, and the log shows it.
-pub record RefusesOnFault {A : Type 0} (result : Result A LogError) (old new : LogState) (before now : ℕ) : Type 0 where
-  pub error : OnErr result (result ≡ Err Disk)
-  pub shown : OnErr result (new ≡ record old { failed = true })
-  pub cause : CountsFaults before now (IsErrOf result Disk)
+pub record LogRefusesOnFault {A : Type 0} (result : Result A LogError) (old new : LogState) (before now : ℕ) : Type 0
+  where
+    pub error : OnErr result (result ≡ Err Disk)
+    pub shown : OnErr result (new ≡ record old { failed = true })
+    pub cause : CountsFaults before now (IsErrOf result Disk)

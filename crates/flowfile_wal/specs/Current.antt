@@ -32,8 +32,8 @@ unfoldable pub current_number : Files → Option ℕ
 current_number files = greatest_below (λ n. counts (log_bytes files n)) (2 ^ 64)
 
 -- what is read as the first entry
-abbrev pub first_in : List ℕ → Result (LogEntry × ℕ) Cause
-first_in bytes = entry_in (reading_of (drop 1 bytes))
+abbrev pub first_entry : List ℕ → Result (LogEntry × ℕ) Cause
+first_entry bytes = entry_in (reading_of (drop 1 bytes))
 
 abbrev pub is_begin : ℕ → LogEntry → Bool
 is_begin number (Begin log) = log == number
@@ -54,14 +54,14 @@ caused file at (Cause.Short need have) = Short file at need have
 caused file at Cause.Form = Form file at
 
 -- what was read of a log that begins with its number
-abbrev pub told : ℕ → Result LogRead LogDamage → Result CurrentLog Damage
-told number (Ok read) = Ok (record { number = number; entries = drop 1 read.entries; end = read.end })
-told number (Err damage) = Err (caused (named Log number) damage.at damage.cause)
+abbrev pub log_read : ℕ → Result LogRead LogDamage → Result CurrentLog Damage
+log_read number (Ok read) = Ok (record { number = number; entries = drop 1 read.entries; end = read.end })
+log_read number (Err damage) = Err (caused (named Log number) damage.at damage.cause)
 
 -- what the bytes of the log of this number say, or their first damage
 unfoldable pub log_in : ℕ → List ℕ → Result CurrentLog Damage
 log_in number bytes =
-    if begins number (first_in bytes) then told number (log_of bytes) else Err (Form (named Log number) 0)
+    if begins number (first_entry bytes) then log_read number (log_of bytes) else Err (Form (named Log number) 0)
 
 abbrev pub of_some : Result CurrentLog Damage → Result (Option CurrentLog) Damage
 of_some (Ok log) = Ok (Some log)

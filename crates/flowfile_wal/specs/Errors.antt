@@ -3,11 +3,11 @@ use Rattle.disk_trait.specs.declared.file_name.DiskError.{DiskError}
 use Rattle.block_file.specs.declared.error.BlockError.{BlockError}
 use Rattle.flowfile_wal.specs.declared.error.LogError.{LogError}
 
-abbrev pub of_disk : DiskError → LogError
-of_disk DiskError.Failed = LogError.Disk
-of_disk DiskError.Memory = LogError.Memory
+abbrev pub disk_log_error : DiskError → LogError
+disk_log_error DiskError.Failed = LogError.Disk
+disk_log_error DiskError.Memory = LogError.Memory
 
-abbrev pub of_block : BlockError → LogError
-of_block BlockError.Disk = LogError.Disk
-of_block BlockError.Memory = LogError.Memory
-of_block (BlockError.Damaged damage) = LogError.Damaged damage
+abbrev pub block_log_error : BlockError → LogError
+block_log_error BlockError.Disk = LogError.Disk
+block_log_error BlockError.Memory = LogError.Memory
+block_log_error (BlockError.Damaged damage) = LogError.Damaged damage

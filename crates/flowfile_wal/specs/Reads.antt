@@ -10,7 +10,7 @@ use Rattle.record_codec.specs.declared.block.TheConstants.{BLOCK_OVERHEAD}
 use Rattle.record_codec.specs.declared.entry.LogEntry.{LogEntry}
 use Rattle.record_codec.specs.declared.entry.LogEntry.TheVariants.{Begin}
 use Rattle.record_codec.specs.declared.log.TheConstants.{OPEN_GATE}
-use Rattle.flowfile_wal.specs.Current.{log_bytes, counts, current_number, first_in, begins, caused}
+use Rattle.flowfile_wal.specs.Current.{log_bytes, counts, current_number, first_entry, begins, caused}
 use Rattle.flowfile_wal.specs.declared.current.Candidate.{Candidate}
 
 -- the current log's file has this size
@@ -55,8 +55,8 @@ IsNextWithin at size None = at ≤ size
 IsNextWithin at size (Some found) = at + 1 + found.1 ≤ size
 
 -- The log was read as far as this gate: its Begin, and these entries behind it.
-pub record IsReadTo (number end : ℕ) (entries : List (ℕ × LogEntry)) (bytes : List ℕ) : Type 0 where
-  pub begun : begins number (first_in bytes) ≡ true
+pub record LogIsReadTo (number end : ℕ) (entries : List (ℕ × LogEntry)) (bytes : List ℕ) : Type 0 where
+  pub begun : begins number (first_entry bytes) ≡ true
   pub reads : log_of bytes ≡ after ((0, Begin number) ∷ entries) (log_from 0 end (drop end bytes))
 
 -- ---- where memory is taken

@@ -19,12 +19,12 @@ pub record LogState : Type 0 where
   pub failed : Bool
 
 -- the current log with these entries, by what is in memory of it
-abbrev pub numbered : Option ℕ → List (ℕ × LogEntry) → ℕ → Option CurrentLog
-numbered None entries end = None
-numbered (Some number) entries end = Some (record { number = number; entries = entries; end = end })
+abbrev pub numbered_log : Option ℕ → List (ℕ × LogEntry) → ℕ → Option CurrentLog
+numbered_log None entries end = None
+numbered_log (Some number) entries end = Some (record { number = number; entries = entries; end = end })
 
 abbrev pub log_with : LogState → List (ℕ × LogEntry) → Option CurrentLog
-log_with state entries = numbered state.number entries state.end
+log_with state entries = numbered_log state.number entries state.end
 
 -- ---- the log's file
 
@@ -47,14 +47,14 @@ abbrev pub HasClosedGate : ℕ → List ℕ → Type 0
 HasClosedGate at bytes = (at < length bytes) × (slice_index bytes at ≡ CLOSED_GATE)
 
 -- these bytes are this log, and a closed gate ends it
-pub record IsAtRest (log : CurrentLog) (bytes : List ℕ) : Type 0 where
+pub record IsClosedLog (log : CurrentLog) (bytes : List ℕ) : Type 0 where
   pub counted : counts bytes ≡ true
   pub says : log_in log.number bytes ≡ Ok log
   pub closed : EndsClosed log.end bytes
 
 -- these bytes are a log of this number at rest, whose last gate stands at this offset
 abbrev pub RestsAt : ℕ → ℕ → List ℕ → Type 0
-RestsAt number end bytes = (log : CurrentLog) × (log.number ≡ number) × (log.end ≡ end) × IsAtRest log bytes
+RestsAt number end bytes = (log : CurrentLog) × (log.number ≡ number) × (log.end ≡ end) × IsClosedLog log bytes
 
 -- the block of an entry with a closed gate behind it
 abbrev pub frame : LogEntry → List ℕ
@@ -78,7 +78,7 @@ with_entry log entry = record {
 -- a step of a log's file that adds this entry
 abbrev pub OneMore : ℕ → LogEntry → List ℕ → List ℕ → Type 0
 OneMore number entry old new =
-    (log : CurrentLog) → log.number ≡ number → IsAtRest log old → IsAtRest (with_entry log entry) new
+    (log : CurrentLog) → log.number ≡ number → IsClosedLog log old → IsClosedLog (with_entry log entry) new
 
 -- a log that has its Begin alone, and a closed gate behind it
 abbrev pub only_begun : ℕ → List ℕ
@@ -91,12 +91,12 @@ IsPassedOver bytes = (length bytes ≤ 1) ⊎ (slice_index bytes 0 ≢ OPEN_GATE
 -- ---- all files
 
 -- a step that leaves what the log of this number says, and each other file
-abbrev pub Keeps : ℕ → Files → Files → Type 0
-Keeps number old new = At (named Log number) (SameLog number) old new
+abbrev pub KeepsLog : ℕ → Files → Files → Type 0
+KeepsLog number old new = At (named Log number) (SameLog number) old new
 
 -- a step that adds this entry to the log of this number, and leaves each other file
-abbrev pub Adds : ℕ → LogEntry → Files → Files → Type 0
-Adds number entry old new = At (named Log number) (OneMore number entry) old new
+abbrev pub AddsEntry : ℕ → LogEntry → Files → Files → Type 0
+AddsEntry number entry old new = At (named Log number) (OneMore number entry) old new
 
 -- the current log of these files is this one, and a closed gate ends it
 pub record IsClosedIn (log : CurrentLog) (files : Files) : Type 0 where

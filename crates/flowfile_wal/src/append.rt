@@ -6,7 +6,7 @@ ghost use Rattle.disk_trait.specs.Faults.{CountsFaults};
 ghost use Rattle.record_codec.specs.declared.entry.LogEntry.{LogEntry};
 ghost use Rattle.flowfile_wal.specs.Calls.{InEach, WithOrWithout};
 ghost use Rattle.flowfile_wal.specs.Current.{log_bytes};
-ghost use Rattle.flowfile_wal.specs.Steps.{RestsAt, IsFrame, Adds};
+ghost use Rattle.flowfile_wal.specs.Steps.{RestsAt, IsFrame, AddsEntry};
 
 use disk_trait::{Disk, Failed, FileKind, FileName, write_synced};
 use record_codec::OPEN_GATE;
@@ -27,7 +27,7 @@ pub fn append_frame<D: Disk>(
         (WithOrWithout number entry (D.images disk.old (D.moment disk.old)) (D.held disk.old)) }
     // Once it has answered Ok, a stop leaves the entry.
     ensures added { OnOk result ((entry : LogEntry) → IsFrame entry frame.now
-        → InEach (D.images disk.new (D.moment disk.new)) (Adds number entry (D.held disk.old))) }
+        → InEach (D.images disk.new (D.moment disk.new)) (AddsEntry number entry (D.held disk.old))) }
     ensures synced { OnOk result (IsOnly (D.held disk.new) (D.images disk.new (D.moment disk.new))) }
     ensures room { OnOk result (end + length frame.now + 1 < 2 ^ 64) }
     ensures cause { CountsFaults (D.faults disk.old) (D.faults disk.new) (IsErr result) }

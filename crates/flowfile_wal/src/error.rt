@@ -1,6 +1,6 @@
 //! Why a call of a log gave no answer.
 ghost use Rattle.std.specs.Prelude.{◌≡◌};
-ghost use Rattle.flowfile_wal.specs.Errors.{of_disk, of_block};
+ghost use Rattle.flowfile_wal.specs.Errors.{disk_log_error, block_log_error};
 ghost use Rattle.flowfile_wal.specs.declared.error.LogError.TheVariants.{Disk, Memory};
 
 use block_file::BlockError;
@@ -37,7 +37,7 @@ impl From<AllocError> for LogError {
 }
 
 impl From<DiskError> for LogError {
-    ghost from_gives = { λ from error. error ≡ of_disk from };
+    ghost from_gives = { λ from error. error ≡ disk_log_error from };
 
     fn from(error: DiskError) -> LogError {
         match error {
@@ -48,7 +48,7 @@ impl From<DiskError> for LogError {
 }
 
 impl From<BlockError> for LogError {
-    ghost from_gives = { λ from error. error ≡ of_block from };
+    ghost from_gives = { λ from error. error ≡ block_log_error from };
 
     fn from(error: BlockError) -> LogError {
         match error {

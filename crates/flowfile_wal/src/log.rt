@@ -4,9 +4,9 @@ ghost use Rattle.disk_trait.specs.Images.{After, Since, IsOnly, Stays};
 ghost use Rattle.disk_trait.specs.Faults.{CountsFaults};
 ghost use Rattle.disk_trait.specs.declared.damage.Damage.{Damage as TheDamage};
 ghost use Rattle.record_codec.specs.declared.entry.LogEntry.{LogEntry as Entry};
-ghost use Rattle.flowfile_wal.specs.Calls.{HaveEncodings, InEach, IsAtWork, LeavesReady, WithOrWithout, with_frame, RefusesOnFault};
+ghost use Rattle.flowfile_wal.specs.Calls.{HaveEncodings, InEach, IsWorkingLog, LeavesReady, WithOrWithout, with_frame, LogRefusesOnFault};
 ghost use Rattle.flowfile_wal.specs.Current.{current_log};
-ghost use Rattle.flowfile_wal.specs.Steps.{IsFrame, Keeps, Adds, IsCurrentIn, IsReadyIn, IsBegunIn, log_with};
+ghost use Rattle.flowfile_wal.specs.Steps.{IsFrame, KeepsLog, AddsEntry, IsCurrentIn, IsReadyIn, IsBegunIn, log_with};
 
 use crate::LogError;
 use crate::append::append_frame;
@@ -103,10 +103,11 @@ impl Log {
         requires current { IsTrue D.tells → IsCurrentIn self.old (D.held disk.old) }
         // Whatever a stop within the call leaves has the same entries.
         ensures images { (number : ℕ) → self.old.number ≡ Some number
-            → Since D.moment D.images disk.old disk.new (After (Keeps number) (D.images disk.old (D.moment disk.old))) }
+            → Since D.moment D.images disk.old disk.new
+            (After (KeepsLog number) (D.images disk.old (D.moment disk.old))) }
         ensures ready { OnOk result (LeavesReady self.new (D.held disk.new) (D.images disk.new (D.moment disk.new))) }
         ensures mended { OnOk result (self.new ≡ record self.old { mended = true }) }
-        ensures refusal { RefusesOnFault result self.old self.new (D.faults disk.old) (D.faults disk.new) }
+        ensures refusal { LogRefusesOnFault result self.old self.new (D.faults disk.old) (D.faults disk.new) }
     {
         let Some(number) = self.current else {
             return Ok(());
@@ -134,7 +135,7 @@ impl Log {
     /// Adds an entry. `block` is its block with a closed gate behind it. Answers the disk's moment at which the entry
     /// was acknowledged. It makes four calls of the disk, takes no memory, and its one error is `Disk`.
     pub fn append<D: Disk>(&mut self, disk: &mut D, block: &[u8]) -> Result<u64, LogError>
-        requires works { IsAtWork self.old }
+        requires works { IsWorkingLog self.old }
         requires block { (entry : Entry) × IsFrame entry block.now }
         requires ready { InEach (D.images disk.old (D.moment disk.old)) (IsReadyIn self.old) }
         // A stop within the call leaves the log of before it, or what was held with the entry.
@@ -144,11 +145,11 @@ impl Log {
         // Once it has answered Ok, a stop leaves the entry.
         ensures added { OnOk result ((number : ℕ) (entry : Entry) → self.old.number ≡ Some number
             → IsFrame entry block.now
-            → InEach (D.images disk.new (D.moment disk.new)) (Adds number entry (D.held disk.old))) }
+            → InEach (D.images disk.new (D.moment disk.new)) (AddsEntry number entry (D.held disk.old))) }
         ensures ready { OnOk result (LeavesReady self.new (D.held disk.new) (D.images disk.new (D.moment disk.new))) }
         ensures acknowledged { IfOk result (λ moment.
             (moment ≡ D.moment disk.new) × (self.new ≡ with_frame self.old block.now)) }
-        ensures refusal { RefusesOnFault result self.old self.new (D.faults disk.old) (D.faults disk.new) }
+        ensures refusal { LogRefusesOnFault result self.old self.new (D.faults disk.old) (D.faults disk.new) }
     {
         let Some(number) = self.current else {
             self.has_failed = true;

@@ -3,7 +3,7 @@ ghost use Rattle.std.specs.Prelude.{◌≡◌, ◌+◌, ◌^◌, ◌<◌, ◌≤
 ghost use Rattle.disk_trait.specs.Images.{After, Since, IsOnly, Stays};
 ghost use Rattle.disk_trait.specs.Faults.{CountsFaults};
 ghost use Rattle.flowfile_wal.specs.Current.{log_bytes};
-ghost use Rattle.flowfile_wal.specs.Steps.{IsLogAt, EndsClosed, HasClosedGate, Keeps};
+ghost use Rattle.flowfile_wal.specs.Steps.{IsLogAt, EndsClosed, HasClosedGate, KeepsLog};
 
 use crate::current::read_gate;
 use disk_trait::{Disk, Failed, FileKind, FileName, cut_synced, write_synced};
@@ -14,7 +14,7 @@ pub fn mend_log<D: Disk>(disk: &mut D, number: u64, end: u64) -> Result<(), Fail
     requires synced { IsOnly (D.held disk.old) (D.images disk.old (D.moment disk.old)) }
     requires log { IsTrue D.tells → IsLogAt number end (log_bytes (D.held disk.old) number) }
     ensures images { Since D.moment D.images disk.old disk.new
-        (After (Keeps number) (D.images disk.old (D.moment disk.old))) }
+        (After (KeepsLog number) (D.images disk.old (D.moment disk.old))) }
     ensures closed { OnOk result (IsTrue D.tells → EndsClosed end (log_bytes (D.held disk.new) number)) }
     ensures synced { OnOk result (IsOnly (D.held disk.new) (D.images disk.new (D.moment disk.new))) }
     ensures room { OnOk result (end + 1 < 2 ^ 64) }
@@ -36,7 +36,7 @@ fn cut_tail<D: Disk>(disk: &mut D, number: u64, end: u64, size: u64) -> Result<(
     requires log { IsTrue D.tells → IsLogAt number end (log_bytes (D.held disk.old) number) }
     requires size { IsTrue D.tells → size ≡ length (log_bytes (D.held disk.old) number) }
     ensures images { Since D.moment D.images disk.old disk.new
-        (After (Keeps number) (D.images disk.old (D.moment disk.old))) }
+        (After (KeepsLog number) (D.images disk.old (D.moment disk.old))) }
     ensures log { OnOk result (IsTrue D.tells → IsLogAt number end (log_bytes (D.held disk.new) number)) }
     ensures short { OnOk result (IsTrue D.tells → length (log_bytes (D.held disk.new) number) ≤ end + 1) }
     ensures there { OnOk result (IsTrue D.tells → end < size → end < length (log_bytes (D.held disk.new) number)) }
@@ -76,7 +76,7 @@ fn close_gate<D: Disk>(disk: &mut D, number: u64, end: u64, closed: bool) -> Res
     requires closed { closed ≡ true → IsTrue D.tells → HasClosedGate end (log_bytes (D.held disk.old) number) }
     requires room { closed ≡ true → end + 1 < 2 ^ 64 }
     ensures images { Since D.moment D.images disk.old disk.new
-        (After (Keeps number) (D.images disk.old (D.moment disk.old))) }
+        (After (KeepsLog number) (D.images disk.old (D.moment disk.old))) }
     ensures closed { OnOk result (IsTrue D.tells → EndsClosed end (log_bytes (D.held disk.new) number)) }
     ensures synced { OnOk result (IsOnly (D.held disk.new) (D.images disk.new (D.moment disk.new))) }
     ensures room { OnOk result (end + 1 < 2 ^ 64) }

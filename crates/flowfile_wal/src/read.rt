@@ -10,7 +10,7 @@ ghost use Rattle.record_codec.specs.EntryReading.{entry_at, takes_memory};
 ghost use Rattle.record_codec.specs.LogEntries.{entry_in};
 ghost use Rattle.flowfile_wal.specs.Calls.{HaveEncodings};
 ghost use Rattle.flowfile_wal.specs.Current.{log_bytes, counts, is_begin, log_in};
-ghost use Rattle.flowfile_wal.specs.Reads.{named_at, EntryTakes, HasFirstBlock, IsDamagedAt, IsNextAt, IsNextWithin, IsReadTo};
+ghost use Rattle.flowfile_wal.specs.Reads.{named_at, EntryTakes, HasFirstBlock, IsDamagedAt, IsNextAt, IsNextWithin, LogIsReadTo};
 
 use crate::LogError;
 use crate::current::read_gate;
@@ -126,7 +126,8 @@ fn read_begin<D: Disk>(
 ) -> Result<u64, LogError>
     requires size { IsTrue D.tells → size ≡ length (log_bytes (D.held disk.old) number) }
     requires counted { IsTrue D.tells → counts (log_bytes (D.held disk.old) number) ≡ true }
-    ensures begun { IfOk result (λ end. IsTrue D.tells → IsReadTo number end [] (log_bytes (D.held disk.old) number)) }
+    ensures begun { IfOk result
+        (λ end. IsTrue D.tells → LogIsReadTo number end [] (log_bytes (D.held disk.old) number)) }
     ensures within { IfOk result (λ end. end ≤ size) }
     ensures damaged { (damage : TheDamage) → IsErrOf result (LogError.Damaged damage) → IsTrue D.tells
         → log_in number (log_bytes (D.held disk.old) number) ≡ Err damage }

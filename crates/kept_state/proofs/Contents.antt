@@ -13,8 +13,8 @@ use Rattle.record_codec.specs.declared.entry.LogEntry.TheVariants.{Begin, Sessio
 use Rattle.record_codec.specs.declared.log.TheConstants.{CLOSED_GATE}
 use Rattle.record_codec.proofs.Blocks.{length-block}
 use Rattle.record_codec.proofs.Sizes.{placeless_entry_size}
-use Rattle.kept_state.specs.Changes.{at_content, with_content_at, with_content, placed_in, HasContentLike}
-use Rattle.kept_state.specs.Memory.{frame}
+use Rattle.kept_state.specs.Changes.{at_content, with_content_at, entry_with_content, placed_in, HasContentLike}
+use Rattle.kept_state.specs.Memory.{framed_entry}
 
 pub within : (place : ℕ) (at : ContentRef) (files : List ActiveFile) → HasContentLike at place files → place < length files
 within place at [] like = absurd like
@@ -60,7 +60,7 @@ length-with place at [] = refl
 length-with zero at (a ∷ files) = refl
 length-with (suc place) at (a ∷ files) = ap suc (length-with place at files)
 
-pub placeless_same : (e : LogEntry) (place : ℕ) (at : ContentRef) → HasContentLike at place (placed_in e) → placeless_entry (with_content e place at) ≡ placeless_entry e
+pub placeless_same : (e : LogEntry) (place : ℕ) (at : ContentRef) → HasContentLike at place (placed_in e) → placeless_entry (entry_with_content e place at) ≡ placeless_entry e
 placeless_same (Begin log) place at like = refl
 placeless_same (Session s) place at like =
     ap (λ (files : List ActiveFile). Session (record {
@@ -77,7 +77,7 @@ placeless_same (Expire e) place at like = refl
 placeless_same (SwapOut s) place at like = refl
 placeless_same (SwapIn connection batch) place at like = refl
 
-pub is_entry_with : (e : LogEntry) (place : ℕ) (at : ContentRef) → IsContentRef at → IsEntry e → IsEntry (with_content e place at)
+pub is_entry_with : (e : LogEntry) (place : ℕ) (at : ContentRef) → IsContentRef at → IsEntry e → IsEntry (entry_with_content e place at)
 is_entry_with (Begin log) place at is entry = entry
 is_entry_with (Session s) place at is entry = record {
   processor = entry.processor;
@@ -105,12 +105,12 @@ pub content_encoded : (e : LogEntry) (place : ℕ) (a : ActiveFile) → IsEntry 
 content_encoded e place a entry lt is =
     subst (λ (b : ActiveFile). IsContentRef b.file.content) (sym is) (All-get_or IsActiveFile (placed_in e) place a lt (active_encoded e entry)).file.content
 
-pub encoding_with : (e : LogEntry) (place : ℕ) (at : ContentRef) → HasContentLike at place (placed_in e) → length (encoding (with_content e place at)) ≡ length (encoding e)
+pub encoding_with : (e : LogEntry) (place : ℕ) (at : ContentRef) → HasContentLike at place (placed_in e) → length (encoding (entry_with_content e place at)) ≡ length (encoding e)
 encoding_with e place at like =
-    sym (placeless_entry_size (with_content e place at)) ∙ ap (λ (p : LogEntry). length (encoding p)) (placeless_same e place at like) ∙ placeless_entry_size e
+    sym (placeless_entry_size (entry_with_content e place at)) ∙ ap (λ (p : LogEntry). length (encoding p)) (placeless_same e place at like) ∙ placeless_entry_size e
 
-pub length-frame : (e : LogEntry) → length (frame e) ≡ length (encoding e) + 38
+pub length-frame : (e : LogEntry) → length (framed_entry e) ≡ length (encoding e) + 38
 length-frame e = omega (arith, length-append (block (kind_of e) (encoding e)) (CLOSED_GATE ∷ []), length-block (kind_of e) (encoding e))
 
-pub frame_with : (e : LogEntry) (place : ℕ) (at : ContentRef) → HasContentLike at place (placed_in e) → length (frame (with_content e place at)) ≡ length (frame e)
-frame_with e place at like = omega (arith, length-frame (with_content e place at), length-frame e, encoding_with e place at like)
+pub frame_with : (e : LogEntry) (place : ℕ) (at : ContentRef) → HasContentLike at place (placed_in e) → length (framed_entry (entry_with_content e place at)) ≡ length (framed_entry e)
+frame_with e place at like = omega (arith, length-frame (entry_with_content e place at), length-frame e, encoding_with e place at like)

@@ -22,12 +22,12 @@ use Rattle.flowfile_record.proofs.Sizes.{numbers_size}
 use Rattle.record_codec.proofs.Sizes.{head_size}
 use Rattle.checkpoint_store.specs.Consistent.{AreDistinctBy, HasCounters, IsFileIn, IsBatchIn, IsConsistent, record_size}
 use Rattle.checkpoint_store.specs.Snapshot.{head_in}
-use Rattle.kept_state.specs.Applied.{number_of, is_among, left_after, with_files, session_applied, applied}
+use Rattle.kept_state.specs.Applied.{active_number, is_file_among, left_after, with_files, session_applied, applied}
 use Rattle.flowfile_record.specs.Counts.{with_count}
 use Rattle.kept_state.specs.Arrivals.{arrival_of}
 use Rattle.kept_state.specs.Changes.{no_files}
-use Rattle.kept_state.specs.Fits.{are_distinct, are_active_in, are_active_in_one, placed_are_new, are_new, has_place, has_count, keeps_counters, session_suits, expire_fits, fits, live}
-use Rattle.kept_state.specs.Limits.{live_files, live_bytes, live_limit, passed}
+use Rattle.kept_state.specs.Fits.{are_distinct_numbers, are_active_in, are_active_in_one, placed_are_new, are_new, has_place, has_count, keeps_counters, session_suits, expire_fits, entry_suits, live}
+use Rattle.kept_state.specs.Limits.{live_file_count, live_bytes, live_limit, limit_passed}
 use Rattle.kept_state.specs.declared.limit.Which.{Which}
 use Rattle.kept_state.specs.declared.limit.Which.TheVariants as which
 use Rattle.kept_state.proofs.Apart.{AreApart, apart, absent, unused-files, lives}
@@ -73,13 +73,13 @@ sum-filter_le size test (x ∷ items) =
 
 pub All-with_files : (P : ActiveFile → Type 0) (placed files : List ActiveFile) → All P placed → All P files → All P (with_files placed files)
 All-with_files P [] files new all = all
-All-with_files P (a ∷ placed) files new all = All-with_files P placed (with_item number_of a files) (All-tail P a placed new) (All-with number_of P a files (All-head P a placed new) all)
+All-with_files P (a ∷ placed) files new all = All-with_files P placed (with_item active_number a files) (All-tail P a placed new) (All-with active_number P a files (All-head P a placed new) all)
 
-pub ascends-with_files : (placed files : List ActiveFile) → AreApart number_of placed files → AscendsByNumber number_of files → AscendsByNumber number_of (with_files placed files)
+pub ascends-with_files : (placed files : List ActiveFile) → AreApart active_number placed files → AscendsByNumber active_number files → AscendsByNumber active_number (with_files placed files)
 ascends-with_files [] files apart ascends = ascends
 ascends-with_files (a ∷ placed) files apart ascends =
     let none = absent (a ∷ placed) files apart in
-    ascends-with_files placed (with_item number_of a files) apart.1 (ascends-with number_of a files none.0 ascends)
+    ascends-with_files placed (with_item active_number a files) apart.1 (ascends-with active_number a files none.0 ascends)
 
 -- no file has this in it
 apart_all : (part : ActiveFile → ℕ) (n : ℕ) (files : List ActiveFile) → list_any (λ b. part b == n) files ≡ false → All (λ b. n ≢ part b) files
@@ -88,36 +88,36 @@ apart_all part n (b ∷ files) none =
     let parts = or_parts (part b == n) (list_any (λ c. part c == n) files) none in
     All-cons (λ c. n ≢ part c) b files (λ e. false≢true (sym parts.0 ∙ eq-eqb (part b) n (sym e))) (apart_all part n files parts.1)
 
-distinct-with : (part : ActiveFile → ℕ) (a : ActiveFile) (files : List ActiveFile) → list_any (λ b. part b == part a) files ≡ false → AreDistinctBy part files → AreDistinctBy part (with_item number_of a files)
+distinct-with : (part : ActiveFile → ℕ) (a : ActiveFile) (files : List ActiveFile) → list_any (λ b. part b == part a) files ≡ false → AreDistinctBy part files → AreDistinctBy part (with_item active_number a files)
 distinct-with part a [] none distinct = (All-nil (λ y. part a ≢ part y), tt)
 distinct-with part a (x ∷ files) none distinct =
     let parts = or_parts (part x == part a) (list_any (λ c. part c == part a) files) none in
-    elim (cases_Bool (nat_lt (number_of x) (number_of a))) [
+    elim (cases_Bool (nat_lt (active_number x) (active_number a))) [
       | inl t ↦
           let first : part x ≢ part a = λ e. false≢true (sym parts.0 ∙ eq-eqb (part x) (part a) e) in
-          rw t (All-with number_of (λ y. part x ≢ part y) a files first distinct.0, distinct-with part a files parts.1 distinct.1)
+          rw t (All-with active_number (λ y. part x ≢ part y) a files first distinct.0, distinct-with part a files parts.1 distinct.1)
       | inr f ↦ rw f (apart_all part (part a) (x ∷ files) none, distinct)
     ]
 
 pub distinct-with_files : (part : ActiveFile → ℕ) (placed files : List ActiveFile) → AreApart part placed files → AreDistinctBy part files → AreDistinctBy part (with_files placed files)
 distinct-with_files part [] files apart distinct = distinct
-distinct-with_files part (a ∷ placed) files apart distinct = distinct-with_files part placed (with_item number_of a files) apart.1 (distinct-with part a files apart.0 distinct)
+distinct-with_files part (a ∷ placed) files apart distinct = distinct-with_files part placed (with_item active_number a files) apart.1 (distinct-with part a files apart.0 distinct)
 
 pub length-with_files : (placed files : List ActiveFile) → length (with_files placed files) ≡ length files + length placed
 length-with_files [] files = omega arith
-length-with_files (a ∷ placed) files = omega (arith, length-with_files placed (with_item number_of a files), length-with number_of a files)
+length-with_files (a ∷ placed) files = omega (arith, length-with_files placed (with_item active_number a files), length-with active_number a files)
 
 pub sum-with_files : (placed files : List ActiveFile) → sum (map record_size (with_files placed files)) ≡ sum (map record_size files) + sum (map record_size placed)
 sum-with_files [] files = omega arith
 sum-with_files (a ∷ placed) files =
-    omega (arith, sum-with_files placed (with_item number_of a files), sum-with number_of record_size a files, sum_by-cons (λ y. y) (record_size a) (map record_size placed))
+    omega (arith, sum-with_files placed (with_item active_number a files), sum-with active_number record_size a files, sum_by-cons (λ y. y) (record_size a) (map record_size placed))
 
 -- ---- a session's entry that suits what is kept
 
 pub record Suits (k : Kept) (s : SessionEntry) : Type 0 where
-  pub distinct : are_distinct s.gone ≡ true
+  pub distinct : are_distinct_numbers s.gone ≡ true
   pub active : are_active_in_one k.files s.gone ≡ true
-  pub numbers : AreApart number_of s.placed (left_after s.gone k.files)
+  pub numbers : AreApart active_number s.placed (left_after s.gone k.files)
   pub arrivals : AreApart arrival_of s.placed (left_after s.gone k.files)
   pub places : list_all (has_place k s) s.placed ≡ true
   pub counted : has_count k.counts s.generator ≡ true
@@ -126,16 +126,16 @@ pub record Suits (k : Kept) (s : SessionEntry) : Type 0 where
 apart_from : (part : _) (k : Kept) (placed left : List ActiveFile) → k.batches ≡ [] → are_new part (map (λ a. part a.file) placed) (live no_files (record k { files = left })) ≡ true → AreApart (λ a. part a.file) placed left
 apart_from part k placed left none new =
     let plain = ap (are_new part (map (λ a. part a.file) placed)) (sym (lives left k.batches none)) ∙ new in
-    let parts = and_parts (are_distinct (map (λ a. part a.file) placed)) (list_all (λ n. not (list_any (λ f. part f == n) (map (λ a. a.file) left))) (map (λ a. part a.file) placed)) plain in
+    let parts = and_parts (are_distinct_numbers (map (λ a. part a.file) placed)) (list_all (λ n. not (list_any (λ f. part f == n) (map (λ a. a.file) left))) (map (λ a. part a.file) placed)) plain in
     apart (λ a. part a.file) placed left parts.0 (sym (unused-files part (map (λ a. part a.file) placed) left) ∙ parts.1)
 
 pub suits_from : (k : Kept) (s : SessionEntry) → k.batches ≡ [] → session_suits no_files k s ≡ true → Suits k s
 suits_from k s none suits =
-    let a = and_parts (are_distinct s.gone && are_active_in_one k.files s.gone && placed_are_new no_files k s && list_all (has_place k s) s.placed && has_count k.counts s.generator) (keeps_counters k s) suits in
-    let b = and_parts (are_distinct s.gone && are_active_in_one k.files s.gone && placed_are_new no_files k s && list_all (has_place k s) s.placed) (has_count k.counts s.generator) a.0 in
-    let d = and_parts (are_distinct s.gone && are_active_in_one k.files s.gone && placed_are_new no_files k s) (list_all (has_place k s) s.placed) b.0 in
-    let e = and_parts (are_distinct s.gone && are_active_in_one k.files s.gone) (placed_are_new no_files k s) d.0 in
-    let f = and_parts (are_distinct s.gone) (are_active_in_one k.files s.gone) e.0 in
+    let a = and_parts (are_distinct_numbers s.gone && are_active_in_one k.files s.gone && placed_are_new no_files k s && list_all (has_place k s) s.placed && has_count k.counts s.generator) (keeps_counters k s) suits in
+    let b = and_parts (are_distinct_numbers s.gone && are_active_in_one k.files s.gone && placed_are_new no_files k s && list_all (has_place k s) s.placed) (has_count k.counts s.generator) a.0 in
+    let d = and_parts (are_distinct_numbers s.gone && are_active_in_one k.files s.gone && placed_are_new no_files k s) (list_all (has_place k s) s.placed) b.0 in
+    let e = and_parts (are_distinct_numbers s.gone && are_active_in_one k.files s.gone) (placed_are_new no_files k s) d.0 in
+    let f = and_parts (are_distinct_numbers s.gone) (are_active_in_one k.files s.gone) e.0 in
     let left = record k { files = left_after s.gone k.files } in
     let g = and_parts (are_new (λ f. f.number) (map (λ a. a.file.number) s.placed) (live no_files left)) (are_new (λ f. f.arrival) (map (λ a. a.file.arrival) s.placed) (live no_files left)) e.1 in
     record {
@@ -150,7 +150,7 @@ suits_from k s none suits =
 
 -- ---- limits
 
-pub not_passed : (w : Which) (number wanted : ℕ) → passed w number wanted ≡ None → wanted ≤ number
+pub not_passed : (w : Which) (number wanted : ℕ) → limit_passed w number wanted ≡ None → wanted ≤ number
 not_passed w number wanted none = elim (cases_Bool (nat_lt number wanted)) [
   | inl t ↦ absurd (let some = rw t at none in cc)
   | inr f ↦ ltb-false number wanted f
@@ -164,10 +164,10 @@ pub is_none_none : {A : Type 0} (a : Option A) → is_none a ≡ true → a ≡ 
 is_none_none None none = refl
 is_none_none (Some x) none = absurd cc
 
-pub within_limits : (k : Kept) → live_limit k ≡ None → (live_files k ≤ LIVE_FILES_MAX) × (live_bytes k ≤ LIVE_BYTES_MAX)
+pub within_limits : (k : Kept) → live_limit k ≡ None → (live_file_count k ≤ LIVE_FILES_MAX) × (live_bytes k ≤ LIVE_BYTES_MAX)
 within_limits k none =
-    let both = or_none (passed which.Files LIVE_FILES_MAX (live_files k)) (passed which.FileBytes LIVE_BYTES_MAX (live_bytes k)) none in
-    (not_passed which.Files LIVE_FILES_MAX (live_files k) both.0, not_passed which.FileBytes LIVE_BYTES_MAX (live_bytes k) both.1)
+    let both = or_none (limit_passed which.Files LIVE_FILES_MAX (live_file_count k)) (limit_passed which.FileBytes LIVE_BYTES_MAX (live_bytes k)) none in
+    (not_passed which.Files LIVE_FILES_MAX (live_file_count k) both.0, not_passed which.FileBytes LIVE_BYTES_MAX (live_bytes k) both.1)
 
 -- ---- what is kept after a session's entry
 
@@ -234,13 +234,13 @@ batch_in_order k l connections next b is = record {
   batch = let lt = is.batch in omega (arith, lt, next);
 }
 
-pub session_keeps : (k : Kept) (s : SessionEntry) → IsConsistent k → k.batches ≡ [] → IsSession s → fits no_files k (Session s) ≡ true → IsConsistent (session_applied k s)
+pub session_keeps : (k : Kept) (s : SessionEntry) → IsConsistent k → k.batches ≡ [] → IsSession s → entry_suits no_files k (Session s) ≡ true → IsConsistent (session_applied k s)
 session_keeps k s was none is fit =
     let parts = and_parts (session_suits no_files k s) (is_none (live_limit (session_applied k s))) fit in
     let suits = suits_from k s none parts.0 in
     let within = within_limits (session_applied k s) (is_none_none (live_limit (session_applied k s)) parts.1) in
     let left = left_after s.gone k.files in
-    let test : ActiveFile → Bool = λ a. not (is_among s.gone a) in
+    let test : ActiveFile → Bool = λ a. not (is_file_among s.gone a) in
     record {
       encoded = record {
         store = was.encoded.store;
@@ -272,7 +272,7 @@ session_keeps k s was none is fit =
       files = All-with_files (IsFileIn (session_applied k s)) s.placed left
           (both_all IsActiveFile (λ a. has_place k s a ≡ true) (IsFileIn (session_applied k s)) (placed_in_order k s) s.placed is.placed.1 (all_from (has_place k s) s.placed suits.places))
           (All-filter test (IsFileIn (session_applied k s)) k.files (All-weaker (IsFileIn k) (IsFileIn (session_applied k s)) (kept_in_order k s suits.counters) k.files was.files));
-      numbers = ascends-with_files s.placed left suits.numbers (ascends-filter number_of test k.files was.numbers);
+      numbers = ascends-with_files s.placed left suits.numbers (ascends-filter active_number test k.files was.numbers);
       arrivals = distinct-with_files arrival_of s.placed left suits.arrivals (distinct-filter arrival_of test k.files was.arrivals);
       batches = All-weaker (IsBatchIn k) (IsBatchIn (session_applied k s)) (batch_in_order k (session_applied k s) refl refl) k.batches was.batches;
       batch_numbers = was.batch_numbers;
@@ -287,7 +287,7 @@ expired_in_order k e a is = record { encoded = is.encoded; connection = is.conne
 
 pub expire_keeps : (k : Kept) (e : ExpireEntry) → IsConsistent k → IsExpire e → IsConsistent (applied no_files k (Expire e))
 expire_keeps k e was is =
-    let test : ActiveFile → Bool = λ a. not (is_among e.numbers a) in
+    let test : ActiveFile → Bool = λ a. not (is_file_among e.numbers a) in
     record {
       encoded = record {
         store = was.encoded.store;
@@ -305,7 +305,7 @@ expire_keeps k e was is =
       connections = was.connections;
       counters = record { next_number = was.counters.next_number; next_arrival = was.counters.next_arrival; next_batch = was.counters.next_batch };
       files = All-filter test (IsFileIn (applied no_files k (Expire e))) k.files (All-weaker (IsFileIn k) (IsFileIn (applied no_files k (Expire e))) (expired_in_order k e) k.files was.files);
-      numbers = ascends-filter number_of test k.files was.numbers;
+      numbers = ascends-filter active_number test k.files was.numbers;
       arrivals = distinct-filter arrival_of test k.files was.arrivals;
       batches = All-weaker (IsBatchIn k) (IsBatchIn (applied no_files k (Expire e))) (batch_in_order k (applied no_files k (Expire e)) refl refl) k.batches was.batches;
       batch_numbers = was.batch_numbers;
@@ -326,26 +326,26 @@ expire_made k e files files_are = ap (λ (f : List ActiveFile). record k { last_
 
 -- ---- the rules on expired files
 
-pub expire_parts : (k : Kept) (e : ExpireEntry) → expire_fits k e ≡ true → (are_distinct e.numbers ≡ true) × (are_active_in k.files e.connection e.numbers ≡ true)
+pub expire_parts : (k : Kept) (e : ExpireEntry) → expire_fits k e ≡ true → (are_distinct_numbers e.numbers ≡ true) × (are_active_in k.files e.connection e.numbers ≡ true)
 expire_parts k e fit =
-    let a = and_parts (are_distinct e.numbers && are_active_in k.files e.connection e.numbers) (e.last_event == k.last_event + length e.numbers) fit in
-    and_parts (are_distinct e.numbers) (are_active_in k.files e.connection e.numbers) a.0
+    let a = and_parts (are_distinct_numbers e.numbers && are_active_in k.files e.connection e.numbers) (e.last_event == k.last_event + length e.numbers) fit in
+    and_parts (are_distinct_numbers e.numbers) (are_active_in k.files e.connection e.numbers) a.0
 
-pub session_parts : (k : Kept) (s : SessionEntry) → fits no_files k (Session s) ≡ true → (session_suits no_files k s ≡ true) × (live_limit (session_applied k s) ≡ None)
+pub session_parts : (k : Kept) (s : SessionEntry) → entry_suits no_files k (Session s) ≡ true → (session_suits no_files k s ≡ true) × (live_limit (session_applied k s) ≡ None)
 session_parts k s fit =
     let parts = and_parts (session_suits no_files k s) (is_none (live_limit (session_applied k s))) fit in
     (parts.0, is_none_none (live_limit (session_applied k s)) parts.1)
 
-gone_parts : (files : _) (k : Kept) (s : SessionEntry) → session_suits files k s ≡ true → (are_distinct s.gone ≡ true) × (are_active_in_one k.files s.gone ≡ true)
+gone_parts : (files : _) (k : Kept) (s : SessionEntry) → session_suits files k s ≡ true → (are_distinct_numbers s.gone ≡ true) × (are_active_in_one k.files s.gone ≡ true)
 gone_parts files k s suits =
-    let a = and_parts (are_distinct s.gone && are_active_in_one k.files s.gone && placed_are_new files k s && list_all (has_place k s) s.placed && has_count k.counts s.generator) (keeps_counters k s) suits in
-    let b = and_parts (are_distinct s.gone && are_active_in_one k.files s.gone && placed_are_new files k s && list_all (has_place k s) s.placed) (has_count k.counts s.generator) a.0 in
-    let d = and_parts (are_distinct s.gone && are_active_in_one k.files s.gone && placed_are_new files k s) (list_all (has_place k s) s.placed) b.0 in
-    let e = and_parts (are_distinct s.gone && are_active_in_one k.files s.gone) (placed_are_new files k s) d.0 in
-    and_parts (are_distinct s.gone) (are_active_in_one k.files s.gone) e.0
+    let a = and_parts (are_distinct_numbers s.gone && are_active_in_one k.files s.gone && placed_are_new files k s && list_all (has_place k s) s.placed && has_count k.counts s.generator) (keeps_counters k s) suits in
+    let b = and_parts (are_distinct_numbers s.gone && are_active_in_one k.files s.gone && placed_are_new files k s && list_all (has_place k s) s.placed) (has_count k.counts s.generator) a.0 in
+    let d = and_parts (are_distinct_numbers s.gone && are_active_in_one k.files s.gone && placed_are_new files k s) (list_all (has_place k s) s.placed) b.0 in
+    let e = and_parts (are_distinct_numbers s.gone && are_active_in_one k.files s.gone) (placed_are_new files k s) d.0 in
+    and_parts (are_distinct_numbers s.gone) (are_active_in_one k.files s.gone) e.0
 
 pub active_of_suits : (k : Kept) (s : SessionEntry) → session_suits no_files k s ≡ true → are_active_in_one k.files s.gone ≡ true
 active_of_suits k s suits = (gone_parts no_files k s suits).1
 
-pub distinct_of_suits : (k : Kept) (s : SessionEntry) → session_suits no_files k s ≡ true → are_distinct s.gone ≡ true
+pub distinct_of_suits : (k : Kept) (s : SessionEntry) → session_suits no_files k s ≡ true → are_distinct_numbers s.gone ≡ true
 distinct_of_suits k s suits = (gone_parts no_files k s suits).0

@@ -15,8 +15,8 @@ use Rattle.record_codec.specs.declared.entry.SessionEntry.{SessionEntry}
 use Rattle.record_codec.proofs.Sizes.{placeless_size}
 use Rattle.checkpoint_store.specs.Consistent.{record_size}
 use Rattle.kept_state.specs.Applied.{left_after, session_applied}
-use Rattle.kept_state.specs.Fits.{are_distinct, are_active_in_one, are_new, has_place, has_count, keeps_counters, live, fits}
-use Rattle.kept_state.specs.Limits.{live_files, live_bytes, live_limit, passed}
+use Rattle.kept_state.specs.Fits.{are_distinct_numbers, are_active_in_one, are_new, has_place, has_count, keeps_counters, live, entry_suits}
+use Rattle.kept_state.specs.Limits.{live_file_count, live_bytes, live_limit, limit_passed}
 use Rattle.kept_state.specs.declared.limit.Limit.{Limit}
 use Rattle.kept_state.specs.declared.limit.Which.TheVariants as which
 use Rattle.kept_state.proofs.Keeping.{length-with_files, sum-with_files}
@@ -49,18 +49,18 @@ sizes_same (a ∷ placed) = ap (λ n. n ∷ map record_size (map placeless_activ
 limit_same : (k : Kept) (s : SessionEntry) → live_limit (session_applied k (placeless_session s)) ≡ live_limit (session_applied k s)
 limit_same k s =
     let left = left_after s.gone k.files in
-    let count : live_files (session_applied k (placeless_session s)) ≡ live_files (session_applied k s) =
+    let count : live_file_count (session_applied k (placeless_session s)) ≡ live_file_count (session_applied k s) =
     omega (arith, length-with_files (map placeless_active s.placed) left, length-with_files s.placed left, length-map s.placed placeless_active) in
     let bytes : live_bytes (session_applied k (placeless_session s)) ≡ live_bytes (session_applied k s) =
     omega (arith, sum-with_files (map placeless_active s.placed) left, sum-with_files s.placed left, ap sum (sizes_same s.placed)) in
-    ap (λ n. option_or (passed which.Files LIVE_FILES_MAX n) (passed which.FileBytes LIVE_BYTES_MAX (live_bytes (session_applied k (placeless_session s))))) count
-    ∙ ap (λ n. option_or (passed which.Files LIVE_FILES_MAX (live_files (session_applied k s))) (passed which.FileBytes LIVE_BYTES_MAX n)) bytes
+    ap (λ n. option_or (limit_passed which.Files LIVE_FILES_MAX n) (limit_passed which.FileBytes LIVE_BYTES_MAX (live_bytes (session_applied k (placeless_session s))))) count
+    ∙ ap (λ n. option_or (limit_passed which.Files LIVE_FILES_MAX (live_file_count (session_applied k s))) (limit_passed which.FileBytes LIVE_BYTES_MAX n)) bytes
 
-session_same : (files : ℕ → List FlowFile) (k : Kept) (s : SessionEntry) → fits files k (Session (placeless_session s)) ≡ fits files k (Session s)
+session_same : (files : ℕ → List FlowFile) (k : Kept) (s : SessionEntry) → entry_suits files k (Session (placeless_session s)) ≡ entry_suits files k (Session s)
 session_same files k s =
     let lives = live files (record k { files = left_after s.gone k.files }) in
     let test : List ℕ → List ℕ → Bool → Option Limit → Bool = λ numbers arrivals places limit.
-    are_distinct s.gone && are_active_in_one k.files s.gone && (are_new (λ f. f.number) numbers lives && are_new (λ f. f.arrival) arrivals lives) && places && has_count k.counts s.generator && keeps_counters k s && is_none limit in
+    are_distinct_numbers s.gone && are_active_in_one k.files s.gone && (are_new (λ f. f.number) numbers lives && are_new (λ f. f.arrival) arrivals lives) && places && has_count k.counts s.generator && keeps_counters k s && is_none limit in
     let numbers = map (λ a. a.file.number) s.placed in
     let arrivals = map (λ a. a.file.arrival) s.placed in
     let places = list_all (has_place k s) s.placed in
@@ -69,7 +69,7 @@ session_same files k s =
     ∙ ap (λ b. test numbers arrivals b (live_limit (session_applied k (placeless_session s)))) (places_same k s s.placed)
     ∙ ap (test numbers arrivals places) (limit_same k s)
 
-pub placeless_fits : (files : ℕ → List FlowFile) (k : Kept) (e : LogEntry) → fits files k (placeless_entry e) ≡ fits files k e
+pub placeless_fits : (files : ℕ → List FlowFile) (k : Kept) (e : LogEntry) → entry_suits files k (placeless_entry e) ≡ entry_suits files k e
 placeless_fits files k (Begin log) = refl
 placeless_fits files k (Session s) = session_same files k s
 placeless_fits files k (Expire e) = refl

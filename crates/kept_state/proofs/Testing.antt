@@ -10,10 +10,10 @@ use Rattle.flowfile_record.specs.declared.stored.ActiveFile.{ActiveFile}
 use Rattle.record_codec.specs.declared.entry.LogEntry.TheVariants.{Session}
 use Rattle.record_codec.specs.declared.entry.SessionEntry.{SessionEntry}
 use Rattle.flowfile_record.specs.NumberedItems.{with_item}
-use Rattle.kept_state.specs.Applied.{number_of, left_after, with_files, session_applied}
+use Rattle.kept_state.specs.Applied.{active_number, left_after, with_files, session_applied}
 use Rattle.kept_state.specs.Arrivals.{arrival_of, are_fresh, AreArrivalsOf, IsSetOf}
 use Rattle.kept_state.specs.Changes.{no_files}
-use Rattle.kept_state.specs.Fits.{active_of, are_distinct, are_active_in_one, are_new, has_place, has_count, keeps_counters, fits, live}
+use Rattle.kept_state.specs.Fits.{active_of, are_distinct_numbers, are_active_in_one, are_new, has_place, has_count, keeps_counters, entry_suits, live}
 use Rattle.kept_state.specs.Limits.{live_limit}
 use Rattle.kept_state.proofs.Apart.{lives, unused-files}
 use Rattle.kept_state.proofs.Sets.{some_active, any_left, all_same, fresh_is}
@@ -35,16 +35,16 @@ in_turn true true true false p h q l = refl
 in_turn true true true true p h q l = refl
 
 pub fits_in_turn : (k : Kept) (s : SessionEntry) → k.batches ≡ []
-    → fits no_files k (Session s) ≡ (are_distinct s.gone && (are_active_in_one k.files s.gone && (new_in (λ f. f.number) s.placed s.gone k.files && (new_in (λ f. f.arrival) s.placed s.gone k.files
+    → entry_suits no_files k (Session s) ≡ (are_distinct_numbers s.gone && (are_active_in_one k.files s.gone && (new_in (λ f. f.number) s.placed s.gone k.files && (new_in (λ f. f.arrival) s.placed s.gone k.files
     && (suits_counters k s && is_none (live_limit (session_applied k s)))))))
 fits_in_turn k s none =
     let rest = record k { files = left_after s.gone k.files } in
     let plain = lives (left_after s.gone k.files) k.batches none in
-    let other = in_turn (are_distinct s.gone) (are_active_in_one k.files s.gone) (are_new (λ f. f.number) (map (λ a. a.file.number) s.placed) (live no_files rest))
+    let other = in_turn (are_distinct_numbers s.gone) (are_active_in_one k.files s.gone) (are_new (λ f. f.number) (map (λ a. a.file.number) s.placed) (live no_files rest))
     (are_new (λ f. f.arrival) (map (λ a. a.file.arrival) s.placed) (live no_files rest)) (list_all (has_place k s) s.placed) (has_count k.counts s.generator) (keeps_counters k s)
     (is_none (live_limit (session_applied k s))) in
     other
-    ∙ ap (λ (fs : List FlowFile). are_distinct s.gone && (are_active_in_one k.files s.gone && (are_new (λ f. f.number) (map (λ a. a.file.number) s.placed) fs && (are_new (λ f. f.arrival) (map (λ a. a.file.arrival) s.placed) fs
+    ∙ ap (λ (fs : List FlowFile). are_distinct_numbers s.gone && (are_active_in_one k.files s.gone && (are_new (λ f. f.number) (map (λ a. a.file.number) s.placed) fs && (are_new (λ f. f.arrival) (map (λ a. a.file.arrival) s.placed) fs
     && (suits_counters k s && is_none (live_limit (session_applied k s))))))) plain
 
 pub and_false : (b : Bool) → (b && false) ≡ false
@@ -52,7 +52,7 @@ and_false true = refl
 and_false false = refl
 
 -- where a set of these numbers was made, they are distinct
-pub distinct_from : (o : Option (BTreeSet ℕ)) (ns : List ℕ) → is_some o ≡ true → MatchOption o (are_distinct ns ≡ false) (λ s. (are_distinct ns ≡ true) × IsSetOf s ns) → are_distinct ns ≡ true
+pub distinct_from : (o : Option (BTreeSet ℕ)) (ns : List ℕ) → is_some o ≡ true → MatchOption o (are_distinct_numbers ns ≡ false) (λ s. (are_distinct_numbers ns ≡ true) × IsSetOf s ns) → are_distinct_numbers ns ≡ true
 distinct_from None ns some is = absurd cc
 distinct_from (Some set) ns some is = is.0
 
@@ -62,7 +62,7 @@ pub numbers_left : (set : BTreeSet ℕ) (gone : List ℕ) (placed files : List A
 numbers_left set gone placed files is =
     let numbers = map (λ a. a.file.number) placed in
     unused-files (λ f. f.number) numbers (left_after gone files)
-    ∙ all_same (λ n. not (list_any (λ a. number_of a == n) (left_after gone files))) (λ n. not (is_some (active_of n files) && not (contains nat_cmp set n)))
+    ∙ all_same (λ n. not (list_any (λ a. active_number a == n) (left_after gone files))) (λ n. not (is_some (active_of n files) && not (contains nat_cmp set n)))
     (λ n. ap not (any_left n gone files ∙ ap (λ b. b && not (list_any (λ m. m == n) gone)) (some_active n files) ∙ ap (λ b. is_some (active_of n files) && not b) (sym (is.members n)))) numbers
 
 pub third_false : (d o r : Bool) → (d && (o && (false && r))) ≡ false
@@ -92,7 +92,7 @@ pub arrivals_fresh : (set : BTreeSet ℕ) (gone : List ℕ) (placed files : List
 arrivals_fresh set gone placed files are =
     let arrivals = map (λ a. a.file.arrival) placed in
     fresh_is (contains nat_cmp set) arrivals
-    ∙ ap (λ b. are_distinct arrivals && b)
+    ∙ ap (λ b. are_distinct_numbers arrivals && b)
     (all_same (λ n. not (contains nat_cmp set n)) (λ n. not (list_any (λ a. arrival_of a == n) (left_after gone files))) (λ n. ap not (are.members n)) arrivals
     ∙ sym (unused-files (λ f. f.arrival) arrivals (left_after gone files)))
 
@@ -110,6 +110,6 @@ any-with_files n [] files = sym (or_false (list_any (λ a. arrival_of a == n) fi
     or_false true = refl
     or_false false = refl
 any-with_files n (a ∷ placed) files =
-    any-with_files n placed (with_item number_of a files)
-    ∙ ap (λ b. b || list_any (λ m. m == n) (map (λ a. a.file.arrival) placed)) (any-with number_of (λ b. arrival_of b == n) a files)
+    any-with_files n placed (with_item active_number a files)
+    ∙ ap (λ b. b || list_any (λ m. m == n) (map (λ a. a.file.arrival) placed)) (any-with active_number (λ b. arrival_of b == n) a files)
     ∙ any_moved (list_any (λ a. arrival_of a == n) files) (arrival_of a == n) (list_any (λ m. m == n) (map (λ a. a.file.arrival) placed))

@@ -14,25 +14,25 @@ use Rattle.record_codec.specs.declared.entry.LogEntry.{LogEntry}
 use Rattle.record_codec.specs.declared.entry.LogEntry.TheVariants.{Begin, Session, Expire, SwapOut, SwapIn}
 use Rattle.checkpoint_store.specs.Consistent.{record_size}
 
-abbrev pub number_of : ActiveFile → ℕ
-number_of a = a.file.number
+abbrev pub active_number : ActiveFile → ℕ
+active_number a = a.file.number
 
 -- whether the file's number is one of these
-abbrev pub is_among : List ℕ → ActiveFile → Bool
-is_among numbers a = list_any (λ n. n == a.file.number) numbers
+abbrev pub is_file_among : List ℕ → ActiveFile → Bool
+is_file_among numbers a = list_any (λ n. n == a.file.number) numbers
 
 -- the files without those of these numbers
 abbrev pub left_after : List ℕ → List ActiveFile → List ActiveFile
-left_after numbers files = filter (λ a. not (is_among numbers a)) files
+left_after numbers files = filter (λ a. not (is_file_among numbers a)) files
 
 -- the files of these numbers
 abbrev pub named_in : List ℕ → List ActiveFile → List ActiveFile
-named_in numbers files = filter (is_among numbers) files
+named_in numbers files = filter (is_file_among numbers) files
 
 -- the files and these, in the order of their numbers
 abbrev pub with_files : List ActiveFile → List ActiveFile → List ActiveFile
 with_files [] files = files
-with_files (a ∷ placed) files = with_files placed (with_item number_of a files)
+with_files (a ∷ placed) files = with_files placed (with_item active_number a files)
 
 -- the batch of these files
 abbrev pub batch_of : SwapOutEntry → List ActiveFile → SwapBatch
@@ -69,10 +69,10 @@ applied files k (SwapIn connection batch) = record k {
 }
 
 -- the batches that an entry swaps out
-abbrev pub swapped_out : LogEntry → List ℕ
-swapped_out (SwapOut s) = s.batch ∷ []
-swapped_out _ = []
+abbrev pub batch_swapped_out : LogEntry → List ℕ
+batch_swapped_out (SwapOut s) = s.batch ∷ []
+batch_swapped_out _ = []
 
 -- the batches that matter: those that what is kept names, and those that an entry swaps out
 abbrev pub batches_that_matter : Kept → List (ℕ × LogEntry) → List ℕ
-batches_that_matter k entries = map (λ b. b.batch) k.batches ++ flat_map (λ e. swapped_out e.1) entries
+batches_that_matter k entries = map (λ b. b.batch) k.batches ++ flat_map (λ e. batch_swapped_out e.1) entries

@@ -19,20 +19,20 @@ use Rattle.record_codec.specs.declared.entry.SessionEntry.{SessionEntry}
 use Rattle.record_codec.specs.declared.entry.LogEntry.{LogEntry}
 use Rattle.record_codec.specs.declared.entry.LogEntry.TheVariants.{Begin, Session, Expire, SwapOut, SwapIn}
 use Rattle.kept_state.specs.Applied.{session_applied}
-use Rattle.kept_state.specs.Fits.{session_suits, fits}
+use Rattle.kept_state.specs.Fits.{session_suits, entry_suits}
 use Rattle.kept_state.specs.Limits.{numbers_limit}
 
 -- ---- entries
 
 -- a placed file's record: a content that isn't in the store yet stands at offset 0 of slot 0 there until it is
-abbrev pub recorded : ℕ → FlowFile → Fresh → ActiveFile
-recorded connection file fresh = active connection (if is_stored fresh then file else placeless file)
+abbrev pub recorded_file : ℕ → FlowFile → Fresh → ActiveFile
+recorded_file connection file fresh = active connection (if is_stored fresh then file else placeless file)
 
 abbrev pub record_of : Placed → ActiveFile
-record_of p = recorded p.connection p.file p.fresh
+record_of p = recorded_file p.connection p.file p.fresh
 
-abbrev pub session_of : Kept → Settled → SessionEntry
-session_of k s = record {
+abbrev pub entry_of_session : Kept → Settled → SessionEntry
+entry_of_session k s = record {
   processor = s.processor;
   moment = s.moment;
   gone = s.gone;
@@ -44,18 +44,18 @@ session_of k s = record {
 }
 
 -- the entry that a change makes
-abbrev pub entry_of : Kept → Change → LogEntry
-entry_of k (change.Session s) = Session (session_of k s)
-entry_of k (change.Expire connection moment numbers events) =
+abbrev pub entry_of_change : Kept → Change → LogEntry
+entry_of_change k (change.Session s) = Session (entry_of_session k s)
+entry_of_change k (change.Expire connection moment numbers events) =
     Expire (record {
       connection = connection;
       moment = moment;
       numbers = numbers;
       last_event = k.last_event + length events;
     })
-entry_of k (change.SwapOut connection batch numbers) =
+entry_of_change k (change.SwapOut connection batch numbers) =
     SwapOut (record { connection = connection; batch = batch; numbers = numbers })
-entry_of k (change.SwapIn connection batch files) = SwapIn connection batch
+entry_of_change k (change.SwapIn connection batch files) = SwapIn connection batch
 
 -- the files that an entry places
 abbrev pub placed_in : LogEntry → List ActiveFile
@@ -83,12 +83,12 @@ with_content_at zero at (a ∷ files) = at_content at a ∷ files
 with_content_at (suc place) at (a ∷ files) = a ∷ with_content_at place at files
 
 -- the entry, the content of its placed file at this place standing there
-abbrev pub with_content : LogEntry → ℕ → ContentRef → LogEntry
-with_content (Session s) place at = Session (record s { placed = with_content_at place at s.placed })
-with_content (Expire e) place at = Expire e
-with_content (SwapOut s) place at = SwapOut s
-with_content (SwapIn connection batch) place at = SwapIn connection batch
-with_content (Begin log) place at = Begin log
+abbrev pub entry_with_content : LogEntry → ℕ → ContentRef → LogEntry
+entry_with_content (Session s) place at = Session (record s { placed = with_content_at place at s.placed })
+entry_with_content (Expire e) place at = Expire e
+entry_with_content (SwapOut s) place at = SwapOut s
+entry_with_content (SwapIn connection batch) place at = SwapIn connection batch
+entry_with_content (Begin log) place at = Begin log
 
 -- a content of this size and digest is that of the file at this place
 abbrev pub HasContentLike : ContentRef → ℕ → List ActiveFile → Type 0
@@ -104,13 +104,14 @@ no_files batch = []
 
 -- a settled session whose entry fits, but that it may pass a limit, and has an encoding unless it passes that of
 -- numbers
-pub record MaySettle (k : Kept) (s : Settled) : Type 0 where
-  pub suits : session_suits no_files k (session_of k s) ≡ true
+pub record MaySettleAs (k : Kept) (s : Settled) : Type 0 where
+  pub suits : session_suits no_files k (entry_of_session k s) ≡ true
   pub gone : length s.gone < 2 ^ 32
   pub placed : length s.placed < 2 ^ 32
   pub events : length s.events < 2 ^ 32
-  pub encoded : numbers_limit (session_applied k (session_of k s)) ≡ None → IsEntry (Session (session_of k s))
-  pub payload : length (encoding (Session (session_of k s))) ≤ PAYLOAD_MAX
+  pub encoded : numbers_limit (session_applied k (entry_of_session k s)) ≡ None
+      → IsEntry (Session (entry_of_session k s))
+  pub payload : length (encoding (Session (entry_of_session k s))) ≤ PAYLOAD_MAX
 
 -- ---- files that expire
 
@@ -130,10 +131,10 @@ settled_of_expiry k moment numbers events = record {
 
 -- the entry of the files of a connection that expire as this settled session
 abbrev pub expiry_entry : Kept → (connection : ℕ) → Settled → LogEntry
-expiry_entry k connection s = entry_of k (change.Expire connection s.moment s.gone s.events)
+expiry_entry k connection s = entry_of_change k (change.Expire connection s.moment s.gone s.events)
 
 -- files of a connection may expire as this settled session: their entry fits
 pub record MayExpireAs (k : Kept) (connection : ℕ) (s : Settled) : Type 0 where
   pub as_session : s ≡ settled_of_expiry k s.moment s.gone s.events
   pub moment : IsMoment s.moment
-  pub fits : fits no_files k (expiry_entry k connection s) ≡ true
+  pub fits : entry_suits no_files k (expiry_entry k connection s) ≡ true

@@ -11,23 +11,23 @@ use Rattle.record_codec.specs.declared.entry.ExpireEntry.{ExpireEntry}
 use Rattle.record_codec.specs.declared.entry.SwapOutEntry.{SwapOutEntry}
 use Rattle.record_codec.specs.declared.entry.LogEntry.{LogEntry}
 use Rattle.record_codec.specs.declared.entry.LogEntry.TheVariants.{Begin, Session, Expire, SwapOut, SwapIn}
-use Rattle.kept_state.specs.Applied.{number_of, left_after, session_applied, applied}
+use Rattle.kept_state.specs.Applied.{active_number, left_after, session_applied, applied}
 use Rattle.kept_state.specs.Limits.{live_limit}
 
 -- ---- words
 
 -- no number stands twice
-abbrev pub are_distinct : List ℕ → Bool
-are_distinct [] = true
-are_distinct (n ∷ ns) = not (list_any (λ m. m == n) ns) && are_distinct ns
+abbrev pub are_distinct_numbers : List ℕ → Bool
+are_distinct_numbers [] = true
+are_distinct_numbers (n ∷ ns) = not (list_any (λ m. m == n) ns) && are_distinct_numbers ns
 
 -- the active file of a number
 abbrev pub active_of : ℕ → List ActiveFile → Option ActiveFile
-active_of number files = item_of number_of number files
+active_of number files = item_of active_number number files
 
-abbrev pub is_in : ℕ → Option ActiveFile → Bool
-is_in connection None = false
-is_in connection (Some a) = a.connection == connection
+abbrev pub is_in_connection : ℕ → Option ActiveFile → Bool
+is_in_connection connection None = false
+is_in_connection connection (Some a) = a.connection == connection
 
 -- the files that live: the active ones, and those that are swapped out
 abbrev pub live : (files : ℕ → List FlowFile) → Kept → List FlowFile
@@ -37,7 +37,7 @@ live files k = map (λ a. a.file) k.files ++ flat_map (λ b. files b.batch) k.ba
 
 -- these files are active in this connection
 abbrev pub are_active_in : List ActiveFile → ℕ → List ℕ → Bool
-are_active_in files connection numbers = list_all (λ n. is_in connection (active_of n files)) numbers
+are_active_in files connection numbers = list_all (λ n. is_in_connection connection (active_of n files)) numbers
 
 -- these files are active in the connection of this one
 abbrev pub are_active_with : List ActiveFile → Option ActiveFile → List ℕ → Bool
@@ -53,7 +53,8 @@ are_active_in_one files (n ∷ ns) = are_active_with files (active_of n files) (
 
 -- no two of these numbers are the same, and no file that lives has one of them as its number or as its arrival
 abbrev pub are_new : (part : FlowFile → ℕ) → List ℕ → List FlowFile → Bool
-are_new part numbers lives = are_distinct numbers && list_all (λ n. not (list_any (λ f. part f == n) lives)) numbers
+are_new part numbers lives =
+    are_distinct_numbers numbers && list_all (λ n. not (list_any (λ f. part f == n) lives)) numbers
 
 -- the placed files have numbers and arrivals that no other file has once those that go are gone
 abbrev pub placed_are_new : (files : ℕ → List FlowFile) → Kept → SessionEntry → Bool
@@ -87,31 +88,33 @@ keeps_counters k s =
 -- a session's entry fits, but that it may pass a limit of what lives
 abbrev pub session_suits : (files : ℕ → List FlowFile) → Kept → SessionEntry → Bool
 session_suits files k s =
-    are_distinct s.gone && are_active_in_one k.files s.gone
+    are_distinct_numbers s.gone && are_active_in_one k.files s.gone
     && placed_are_new files k s && list_all (has_place k s) s.placed
     && has_count k.counts s.generator && keeps_counters k s
 
 abbrev pub expire_fits : Kept → ExpireEntry → Bool
 expire_fits k e =
-    are_distinct e.numbers && are_active_in k.files e.connection e.numbers
+    are_distinct_numbers e.numbers && are_active_in k.files e.connection e.numbers
     && (e.last_event == k.last_event + length e.numbers)
 
 abbrev pub swap_out_fits : Kept → SwapOutEntry → Bool
 swap_out_fits k s =
-    are_distinct s.numbers && are_active_in k.files s.connection s.numbers
+    are_distinct_numbers s.numbers && are_active_in k.files s.connection s.numbers
     && (s.batch == k.next_batch) && nat_lt s.connection (length k.connections)
 
 -- A Begin doesn't fit: it is the first entry of its log alone.
-abbrev pub fits : (files : ℕ → List FlowFile) → Kept → LogEntry → Bool
-fits files k (Begin log) = false
-fits files k (Session s) = session_suits files k s && is_none (live_limit (session_applied k s))
-fits files k (Expire e) = expire_fits k e
-fits files k (SwapOut s) = swap_out_fits k s
-fits files k (SwapIn connection batch) = list_any (λ b. (b.batch == batch) && (b.connection == connection)) k.batches
+abbrev pub entry_suits : (files : ℕ → List FlowFile) → Kept → LogEntry → Bool
+entry_suits files k (Begin log) = false
+entry_suits files k (Session s) = session_suits files k s && is_none (live_limit (session_applied k s))
+entry_suits files k (Expire e) = expire_fits k e
+entry_suits files k (SwapOut s) = swap_out_fits k s
+entry_suits files k (SwapIn connection batch) =
+    list_any (λ b. (b.batch == batch) && (b.connection == connection)) k.batches
 
 -- ---- what a log's entries make of what is kept
 
 -- what is kept after these entries, or the offset of the first that doesn't fit
 abbrev pub replayed : (files : ℕ → List FlowFile) → Kept → List (ℕ × LogEntry) → Result Kept ℕ
 replayed files k [] = Ok k
-replayed files k (e ∷ entries) = if fits files k e.1 then replayed files (applied files k e.1) entries else Err e.0
+replayed files k (e ∷ entries) =
+    if entry_suits files k e.1 then replayed files (applied files k e.1) entries else Err e.0

@@ -11,25 +11,26 @@ use Rattle.kept_state.specs.declared.limit.Which.TheVariants.{Files, FileBytes, 
 use Rattle.kept_state.specs.declared.limit.Limit.{Limit}
 
 -- how many files live, those that are swapped out too
-abbrev pub live_files : Kept → ℕ
-live_files k = length k.files + sum (map (λ b. b.files) k.batches)
+abbrev pub live_file_count : Kept → ℕ
+live_file_count k = length k.files + sum (map (λ b. b.files) k.batches)
 
 -- how many bytes their records have
 abbrev pub live_bytes : Kept → ℕ
 live_bytes k = sum (map record_size k.files) + sum (map (λ b. b.encoded) k.batches)
 
 -- the limit that a quantity passes
-abbrev pub passed : Which → (number wanted : ℕ) → Option Limit
-passed which number wanted =
+abbrev pub limit_passed : Which → (number wanted : ℕ) → Option Limit
+limit_passed which number wanted =
     if nat_lt number wanted then Some (record { which = which; number = number; wanted = wanted }) else None
 
 -- the first limit of what lives that is passed
 abbrev pub live_limit : Kept → Option Limit
-live_limit k = option_or (passed Files LIVE_FILES_MAX (live_files k)) (passed FileBytes LIVE_BYTES_MAX (live_bytes k))
+live_limit k = option_or (limit_passed Files LIVE_FILES_MAX (live_file_count k))
+    (limit_passed FileBytes LIVE_BYTES_MAX (live_bytes k))
 
 -- the first counter that passes the limit of numbers
 abbrev pub numbers_limit : Kept → Option Limit
 numbers_limit k =
-    option_or (passed Numbers NUMBER_MAX k.next_number)
-    (option_or (passed Numbers NUMBER_MAX k.next_arrival)
-    (option_or (passed Numbers NUMBER_MAX k.last_event) (passed Numbers NUMBER_MAX k.next_batch)))
+    option_or (limit_passed Numbers NUMBER_MAX k.next_number)
+    (option_or (limit_passed Numbers NUMBER_MAX k.next_arrival)
+    (option_or (limit_passed Numbers NUMBER_MAX k.last_event) (limit_passed Numbers NUMBER_MAX k.next_batch)))

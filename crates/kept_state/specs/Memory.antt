@@ -28,5 +28,5 @@ pub record IsHeldState (stored : Stored) (bytes : ℕ) : Type 0 where
   pub bytes_are : bytes ≡ sum (map record_size stored.files.items)
 
 -- the block of an entry with a closed gate behind it
-abbrev pub frame : LogEntry → List ℕ
-frame e = block (kind_of e) (encoding e) ++ CLOSED_GATE ∷ []
+abbrev pub framed_entry : LogEntry → List ℕ
+framed_entry e = block (kind_of e) (encoding e) ++ CLOSED_GATE ∷ []

@@ -5,9 +5,9 @@ ghost use Rattle.std.specs.Ordering.{nat_cmp};
 ghost use Rattle.std.specs.BTreeSet.{contains, IsOrdered};
 ghost use Rattle.flowfile_record.specs.NumberedItems.{AscendsByNumber};
 ghost use Rattle.checkpoint_store.specs.Consistent.{AreDistinctBy};
-ghost use Rattle.kept_state.specs.Applied.{number_of, left_after};
+ghost use Rattle.kept_state.specs.Applied.{active_number, left_after};
 ghost use Rattle.kept_state.specs.Arrivals.{arrival_of, are_fresh, AreArrivalsOf, IsSetOf};
-ghost use Rattle.kept_state.specs.Fits.{are_distinct};
+ghost use Rattle.kept_state.specs.Fits.{are_distinct_numbers};
 
 use flowfile_record::ActiveList;
 use std::alloc::{AllocError, Global};
@@ -27,7 +27,7 @@ pub(crate) fn arrivals_of(alloc: Global, files: &ActiveList) -> Result<BTreeSet<
 /// Takes the arrivals of the files of these numbers out.
 pub(crate) fn remove_arrivals(arrivals: &mut BTreeSet<u64>, files: &ActiveList, gone: &[u64])
     requires arrivals { AreArrivalsOf arrivals.old files.now.items }
-    requires numbers { AscendsByNumber number_of files.now.items }
+    requires numbers { AscendsByNumber active_number files.now.items }
     requires distinct { AreDistinctBy arrival_of files.now.items }
     ensures { AreArrivalsOf arrivals.new (left_after gone.now files.now.items) }
 {
@@ -74,8 +74,8 @@ fn empty_set(alloc: Global) -> BTreeSet<u64>
 
 /// The set of numbers, or none where one of them stands twice.
 pub(crate) fn set_of(alloc: Global, numbers: &[u64]) -> Result<Option<BTreeSet<u64>>, AllocError>
-    ensures { IfOk result (λ set. MatchOption set (are_distinct numbers.now ≡ false)
-        (λ s. (are_distinct numbers.now ≡ true) × IsSetOf s numbers.now)) }
+    ensures { IfOk result (λ set. MatchOption set (are_distinct_numbers numbers.now ≡ false)
+        (λ s. (are_distinct_numbers numbers.now ≡ true) × IsSetOf s numbers.now)) }
 {
     let mut set = empty_set(alloc);
     if !add_all(&mut set, numbers)? {

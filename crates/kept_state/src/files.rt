@@ -3,7 +3,7 @@ ghost use Rattle.std.specs.Prelude.{◌≡◌, ◌+◌, ◌<◌, ◌≤◌, ◌^
 ghost use Rattle.std.specs.List.{sum};
 ghost use Rattle.kept_state.specs.Applied.{left_after, with_files};
 ghost use Rattle.kept_state.specs.Fits.{active_of, are_active_in, are_active_in_one};
-ghost use Rattle.kept_state.specs.Moves.{size_at, AreAbsent};
+ghost use Rattle.kept_state.specs.Moves.{record_size_of, AreAbsent};
 
 use crate::size::size_of;
 use flowfile_record::{ActiveFile, ActiveList};
@@ -33,7 +33,7 @@ pub(crate) fn put_all(files: &mut ActiveList, placed: Vec<ActiveFile>)
 /// How many bytes the records of the files of these numbers have together.
 pub(crate) fn bytes_at(files: &ActiveList, numbers: &[u64]) -> u64
     requires { length numbers.now < 2 ^ 32 }
-    ensures bytes { result ≡ sum (map (λ n. size_at (active_of n files.now.items)) numbers.now) }
+    ensures bytes { result ≡ sum (map (λ n. record_size_of (active_of n files.now.items)) numbers.now) }
     ensures most { result < 2 ^ 49 }
 {
     let mut bytes = 0;

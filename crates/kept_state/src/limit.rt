@@ -1,7 +1,7 @@
 //! The limits that a change may pass.
 ghost use Rattle.std.specs.Prelude.{◌≡◌};
 ghost use Rattle.std.specs.Option.{option_or};
-ghost use Rattle.kept_state.specs.Limits.{passed};
+ghost use Rattle.kept_state.specs.Limits.{limit_passed};
 ghost use Rattle.kept_state.specs.declared.limit.Which.TheVariants as which;
 
 use flowfile_record::{LIVE_BYTES_MAX, LIVE_FILES_MAX, NUMBER_LIMIT};
@@ -31,7 +31,7 @@ pub struct Limit {
 impl Limit {
     // The limit that a quantity passes.
     fn passed(which: Which, number: u64, wanted: u64) -> Option<Limit>
-        ensures { result ≡ passed which number wanted }
+        ensures { result ≡ limit_passed which number wanted }
     {
         if wanted > number {
             return Some(Limit {
@@ -45,8 +45,8 @@ impl Limit {
 
     /// The first limit of what lives that so many files with so many bytes pass.
     pub(crate) fn of_live(files: u64, bytes: u64) -> Option<Limit>
-        ensures { result ≡ option_or (passed which.Files LIVE_FILES_MAX files)
-            (passed which.FileBytes LIVE_BYTES_MAX bytes) }
+        ensures { result ≡ option_or (limit_passed which.Files LIVE_FILES_MAX files)
+            (limit_passed which.FileBytes LIVE_BYTES_MAX bytes) }
     {
         Limit::passed(Which::Files, LIVE_FILES_MAX, files).or(Limit::passed(
             Which::FileBytes,
@@ -57,9 +57,10 @@ impl Limit {
 
     /// The first of these counters that passes the limit of numbers.
     pub(crate) fn of_numbers(files: u64, arrivals: u64, events: u64, batches: u64) -> Option<Limit>
-        ensures { result ≡ option_or (passed which.Numbers NUMBER_MAX files)
-            (option_or (passed which.Numbers NUMBER_MAX arrivals)
-            (option_or (passed which.Numbers NUMBER_MAX events) (passed which.Numbers NUMBER_MAX batches))) }
+        ensures { result ≡ option_or (limit_passed which.Numbers NUMBER_MAX files)
+            (option_or (limit_passed which.Numbers NUMBER_MAX arrivals)
+            (option_or (limit_passed which.Numbers NUMBER_MAX events)
+            (limit_passed which.Numbers NUMBER_MAX batches))) }
     {
         Limit::passed(Which::Numbers, NUMBER_MAX, files)
             .or(Limit::passed(Which::Numbers, NUMBER_MAX, arrivals))

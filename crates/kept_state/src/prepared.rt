@@ -3,8 +3,8 @@ ghost use Rattle.std.specs.Prelude.{◌≡◌, ◌<◌, ◌≤◌, [], length, m
 ghost use Rattle.record_codec.specs.EntryEncoding.{entry as encoding, IsEntry};
 ghost use Rattle.record_codec.specs.FileEncoding.{IsContentRef};
 ghost use Rattle.record_codec.specs.Placeless.{placeless_entry};
-ghost use Rattle.kept_state.specs.Changes.{placed_in, with_content_at, with_content, HasContentLike};
-ghost use Rattle.kept_state.specs.Memory.{frame};
+ghost use Rattle.kept_state.specs.Changes.{placed_in, with_content_at, entry_with_content, HasContentLike};
+ghost use Rattle.kept_state.specs.Memory.{framed_entry};
 
 use flowfile_record::{ActiveFile, ContentRef, Sequence};
 use record_codec::{
@@ -80,7 +80,7 @@ impl PreparedEntry {
     pub fn set_content(&mut self, place: u64, at: ContentRef)
         requires encoded { IsContentRef at }
         requires like { HasContentLike at place (placed_in self.old) }
-        ensures entry { self.new ≡ with_content self.old place at }
+        ensures entry { self.new ≡ entry_with_content self.old place at }
         ensures same { placeless_entry self.new ≡ placeless_entry self.old }
     {
         set_content_of(self.alloc, &mut self.entry, place, at);
@@ -90,7 +90,7 @@ impl PreparedEntry {
     pub fn into_frame(self) -> (LogEntry, Vec<u8>)
         ensures entry { result.0 ≡ self }
         ensures encoded { IsEntry self }
-        ensures frame { result.1.items ≡ frame self }
+        ensures frame { result.1.items ≡ framed_entry self }
     {
         let PreparedEntry {
             alloc: _,
@@ -116,7 +116,7 @@ pub(crate) fn placed_in(entry: &LogEntry) -> &[ActiveFile]
 // Writes where the content of an entry's placed file stands.
 fn set_content_of(alloc: Global, entry: &mut LogEntry, place: u64, at: ContentRef)
     requires { HasContentLike at place (placed_in entry.old) }
-    ensures { entry.new ≡ with_content entry.old place at }
+    ensures { entry.new ≡ entry_with_content entry.old place at }
 {
     if let LogEntry::Session(session) = entry {
         set_content_at(alloc, &mut session.placed, place, at);
@@ -139,9 +139,9 @@ fn write_block(entry: &LogEntry, payload: &mut Vec<u8>, out: &mut Vec<u8>)
     requires encoded { IsEntry entry.now }
     requires size { length (encoding entry.now) ≤ PAYLOAD_MAX }
     requires payload_room { length (encoding entry.now) ≤ vec_capacity payload.old }
-    requires out_room { length (frame entry.now) ≤ vec_capacity out.old }
+    requires out_room { length (framed_entry entry.now) ≤ vec_capacity out.old }
     requires empty { (payload.old.items ≡ []) × (out.old.items ≡ []) }
-    ensures { out.new.items ≡ frame entry.now }
+    ensures { out.new.items ≡ framed_entry entry.now }
 {
     let Ok(()) = write_entry(payload, entry) else {
         unreachable!()

@@ -8,10 +8,10 @@ ghost use Rattle.flowfile_record.specs.declared.flow_file.FlowFile.{FlowFile as 
 ghost use Rattle.record_codec.specs.EntryEncoding.{IsEntry, IsSession, IsExpire};
 ghost use Rattle.record_codec.specs.declared.entry.LogEntry.TheVariants as entries;
 ghost use Rattle.checkpoint_store.specs.Consistent.{IsConsistent};
-ghost use Rattle.kept_state.specs.Applied.{left_after, session_applied, applied, swapped_out};
+ghost use Rattle.kept_state.specs.Applied.{left_after, session_applied, applied, batch_swapped_out};
 ghost use Rattle.kept_state.specs.Arrivals.{AreArrivalsOf, IsSetOf};
 ghost use Rattle.kept_state.specs.Changes.{no_files};
-ghost use Rattle.kept_state.specs.Fits.{active_of, are_new, has_count, has_place, keeps_counters, expire_fits, fits};
+ghost use Rattle.kept_state.specs.Fits.{active_of, are_new, has_count, has_place, keeps_counters, expire_fits, entry_suits};
 
 use crate::KeptState;
 use crate::arrivals::{add_all, arrivals_of, remove_arrivals, set_of};
@@ -83,10 +83,11 @@ impl Replay {
     /// What is kept after one entry more.
     pub fn apply(self, entry: LogEntry) -> Result<Replay, ReplayError>
         requires encoded { IsEntry entry }
-        requires no_batch { swapped_out entry ≡ [] }
-        ensures fits { IfOk result (λ replay. (files : ℕ → List File) → fits files self entry ≡ true) }
+        requires no_batch { batch_swapped_out entry ≡ [] }
+        ensures fits { IfOk result (λ replay. (files : ℕ → List File) → entry_suits files self entry ≡ true) }
         ensures applied { IfOk result (λ replay. (files : ℕ → List File) → replay ≡ applied files self entry) }
-        ensures unfit { result ≡ Err ReplayError.Unfit → (files : ℕ → List File) → fits files self entry ≡ false }
+        ensures unfit { result ≡ Err ReplayError.Unfit → (files : ℕ → List File)
+            → entry_suits files self entry ≡ false }
     {
         let Replay {
             alloc,
@@ -121,9 +122,9 @@ fn entry_fits(
     entry: &LogEntry,
 ) -> Result<bool, AllocError>
     requires encoded { IsEntry entry.now }
-    requires no_batch { swapped_out entry.now ≡ [] }
+    requires no_batch { batch_swapped_out entry.now ≡ [] }
     requires arrivals { AreArrivalsOf arrivals.old state.now.kept.files }
-    ensures fits { IfOk result (λ fit. fit ≡ fits no_files state.now.kept entry.now) }
+    ensures fits { IfOk result (λ fit. fit ≡ entry_suits no_files state.now.kept entry.now) }
     ensures arrivals { IfOk result (λ fit. fit ≡ true
         → AreArrivalsOf arrivals.new (applied no_files state.now.kept entry.now).files) }
     ensures no_batches { state.now.kept.batches ≡ [] }
@@ -146,7 +147,7 @@ fn session_fits(
 ) -> Result<bool, AllocError>
     requires encoded { IsSession session.now }
     requires arrivals { AreArrivalsOf arrivals.old state.now.kept.files }
-    ensures fits { IfOk result (λ fit. fit ≡ fits no_files state.now.kept (entries.Session session.now)) }
+    ensures fits { IfOk result (λ fit. fit ≡ entry_suits no_files state.now.kept (entries.Session session.now)) }
     ensures arrivals { IfOk result (λ fit. fit ≡ true
         → AreArrivalsOf arrivals.new (session_applied state.now.kept session.now).files) }
 {

@@ -8,12 +8,12 @@ ghost use Rattle.flowfile_record.specs.declared.limits.TheConstants.{LIVE_FILES_
 ghost use Rattle.record_codec.specs.EntryEncoding.{IsEntry, IsSession, IsExpire};
 ghost use Rattle.record_codec.specs.declared.entry.LogEntry.TheVariants as entries;
 ghost use Rattle.checkpoint_store.specs.Consistent.{IsConsistent, record_size};
-ghost use Rattle.kept_state.specs.Applied.{left_after, session_applied, applied, swapped_out};
+ghost use Rattle.kept_state.specs.Applied.{left_after, session_applied, applied, batch_swapped_out};
 ghost use Rattle.flowfile_record.specs.Counts.{with_count};
-ghost use Rattle.kept_state.specs.Changes.{session_of, entry_of, expiry_entry, placed_in, no_files, MaySettle, MayExpireAs};
-ghost use Rattle.kept_state.specs.Fits.{are_distinct, fits, has_count};
-ghost use Rattle.kept_state.specs.Limits.{passed, live_limit, numbers_limit};
-ghost use Rattle.kept_state.specs.Moves.{are_active};
+ghost use Rattle.kept_state.specs.Changes.{entry_of_session, entry_of_change, expiry_entry, placed_in, no_files, MaySettleAs, MayExpireAs};
+ghost use Rattle.kept_state.specs.Fits.{are_distinct_numbers, entry_suits, has_count};
+ghost use Rattle.kept_state.specs.Limits.{limit_passed, live_limit, numbers_limit};
+ghost use Rattle.kept_state.specs.Moves.{are_all_active};
 ghost use Rattle.kept_state.specs.New.{new_kept};
 ghost use Rattle.kept_state.specs.declared.limit.Which.TheVariants as which;
 
@@ -110,8 +110,8 @@ impl KeptState {
     /// The limit of what lives that the state would pass with a settled session, the number of files before their
     /// bytes.
     pub fn live_limit(&self, settled: &Settled) -> Option<Limit>
-        requires { MaySettle self.now.kept settled.now }
-        ensures { result ≡ live_limit (session_applied self.now.kept (session_of self.now.kept settled.now)) }
+        requires { MaySettleAs self.now.kept settled.now }
+        ensures { result ≡ live_limit (session_applied self.now.kept (entry_of_session self.now.kept settled.now)) }
     {
         let bytes = bytes_of_placed(settled.placed.as_slice());
         self.limit_with(settled.gone.as_slice(), settled.placed.len(), bytes)
@@ -119,14 +119,14 @@ impl KeptState {
 
     // The limit that is passed where these files go, and so many with so many bytes are placed.
     pub(crate) fn limit_with(&self, gone: &[u64], placed: u64, bytes: u64) -> Option<Limit>
-        requires distinct { are_distinct gone.now ≡ true }
-        requires active { are_active self.now.kept.files gone.now ≡ true }
+        requires distinct { are_distinct_numbers gone.now ≡ true }
+        requires active { are_all_active self.now.kept.files gone.now ≡ true }
         requires few { length gone.now < 2 ^ 32 }
         requires placed { placed < 2 ^ 32 }
         requires bytes { bytes < 2 ^ 49 }
         ensures limit { let left = left_after gone.now self.now.kept.files in
-            result ≡ option_or (passed which.Files FILES_MOST (length left + placed))
-            (passed which.FileBytes BYTES_MOST (sum (map record_size left) + bytes)) }
+            result ≡ option_or (limit_passed which.Files FILES_MOST (length left + placed))
+            (limit_passed which.FileBytes BYTES_MOST (sum (map record_size left) + bytes)) }
         ensures no_batches { self.now.kept.batches ≡ [] }
     {
         let files = self.stored.files.len() - gone.len() as u64 + placed;
@@ -135,8 +135,8 @@ impl KeptState {
 
     // How many bytes the records have where these files go, and files with so many bytes are placed.
     fn bytes_with(&self, gone: &[u64], bytes: u64) -> u64
-        requires distinct { are_distinct gone.now ≡ true }
-        requires active { are_active self.now.kept.files gone.now ≡ true }
+        requires distinct { are_distinct_numbers gone.now ≡ true }
+        requires active { are_all_active self.now.kept.files gone.now ≡ true }
         requires few { length gone.now < 2 ^ 32 }
         requires bytes { bytes < 2 ^ 49 }
         ensures { result ≡ sum (map record_size (left_after gone.now self.now.kept.files)) + bytes }
@@ -146,8 +146,8 @@ impl KeptState {
 
     /// The first counter that would pass the limit of numbers with a settled session.
     pub fn numbers_limit(&self, settled: &Settled) -> Option<Limit>
-        requires { MaySettle self.now.kept settled.now }
-        ensures { result ≡ numbers_limit (session_applied self.now.kept (session_of self.now.kept settled.now)) }
+        requires { MaySettleAs self.now.kept settled.now }
+        ensures { result ≡ numbers_limit (session_applied self.now.kept (entry_of_session self.now.kept settled.now)) }
     {
         Limit::of_numbers(
             settled.next_number,
@@ -167,9 +167,11 @@ impl KeptState {
 
     /// The entry of a settled session, with the memory that writing it takes, and room for its files.
     pub fn prepare(&mut self, alloc: Global, settled: &Settled) -> Result<PreparedEntry, AllocError>
-        requires may { MaySettle self.old.kept settled.now }
-        requires numbers { numbers_limit (session_applied self.old.kept (session_of self.old.kept settled.now)) ≡ None }
-        ensures entry { IfOk result (λ prepared. prepared ≡ entry_of self.old.kept (change.Session settled.now)) }
+        requires may { MaySettleAs self.old.kept settled.now }
+        requires numbers { numbers_limit
+            (session_applied self.old.kept (entry_of_session self.old.kept settled.now)) ≡ None }
+        ensures entry { IfOk result
+            (λ prepared. prepared ≡ entry_of_change self.old.kept (change.Session settled.now)) }
         ensures room { OnOk result (length settled.now.placed ≤ self.new.room) }
         ensures kept { self.new.kept ≡ self.old.kept }
         ensures more { self.old.room ≤ self.new.room }
@@ -183,7 +185,7 @@ impl KeptState {
     // The entry of a settled session.
     fn session_of(&self, alloc: Global, settled: &Settled) -> Result<SessionEntry, AllocError>
         requires { length settled.now.events < 2 ^ 32 }
-        ensures { IfOk result (λ session. session ≡ session_of self.now.kept settled.now) }
+        ensures { IfOk result (λ session. session ≡ entry_of_session self.now.kept settled.now) }
     {
         let gone = Numbers::from_slice(alloc, settled.gone.as_slice())?;
         let placed = records_of(alloc, settled.placed.as_slice())?;
@@ -207,7 +209,8 @@ impl KeptState {
         settled: &Settled,
     ) -> Result<PreparedEntry, AllocError>
         requires may { MayExpireAs self.now.kept connection settled.now }
-        requires numbers { numbers_limit (session_applied self.now.kept (session_of self.now.kept settled.now)) ≡ None }
+        requires numbers { numbers_limit
+            (session_applied self.now.kept (entry_of_session self.now.kept settled.now)) ≡ None }
         ensures { IfOk result (λ prepared. prepared ≡ expiry_entry self.now.kept connection settled.now) }
     {
         // It says of what is kept that it is consistent.
@@ -234,8 +237,8 @@ impl KeptState {
     /// The state after an entry that fits. It takes no memory.
     pub fn apply(&mut self, entry: LogEntry)
         requires encoded { IsEntry entry }
-        requires no_batch { swapped_out entry ≡ [] }
-        requires fits { fits no_files self.old.kept entry ≡ true }
+        requires no_batch { batch_swapped_out entry ≡ [] }
+        requires fits { entry_suits no_files self.old.kept entry ≡ true }
         requires room { length (placed_in entry) ≤ self.old.room }
         ensures kept { self.new.kept ≡ applied no_files self.old.kept entry }
         ensures room { self.old.room ≤ self.new.room + length (placed_in entry) }
@@ -251,7 +254,7 @@ impl KeptState {
 
     pub(crate) fn apply_session(&mut self, session: SessionEntry)
         requires encoded { IsSession session }
-        requires fits { fits no_files self.old.kept (entries.Session session) ≡ true }
+        requires fits { entry_suits no_files self.old.kept (entries.Session session) ≡ true }
         requires room { length session.placed ≤ self.old.room }
         ensures kept { self.new.kept ≡ session_applied self.old.kept session }
         ensures room { self.old.room ≤ self.new.room + length session.placed }
@@ -269,7 +272,7 @@ impl KeptState {
 
     pub(crate) fn apply_expire(&mut self, expire: ExpireEntry)
         requires encoded { IsExpire expire }
-        requires fits { fits no_files self.old.kept (entries.Expire expire) ≡ true }
+        requires fits { entry_suits no_files self.old.kept (entries.Expire expire) ≡ true }
         ensures kept { self.new.kept ≡ applied no_files self.old.kept (entries.Expire expire) }
         ensures room { self.old.room ≤ self.new.room }
     {

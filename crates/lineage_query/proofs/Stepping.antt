@@ -9,7 +9,7 @@ use Rattle.flowfile_record.specs.declared.event.EventKind.TheVariants.{Create, R
 use Rattle.machine_model.specs.Lineage.{NamesParent}
 use Rattle.lineage_query.specs.declared.kin.Way.{Way}
 use Rattle.lineage_query.specs.declared.kin.Way.TheVariants.{Up, Down}
-use Rattle.lineage_query.specs.Walk.{Leads, far_of, kin_of, kin_in}
+use Rattle.lineage_query.specs.Walk.{Leads, far_of, kin_towards, kin_in}
 use Rattle.lineage_query.proofs.Members.{Among, from-contains, to-contains, in-map, from-map, in-flat_map, from-flat_map, in-any, from-any}
 
 -- ---- each child with each parent
@@ -113,20 +113,20 @@ pub to-kin : (way : Way) (events : List Event) (file other : ℕ) → Leads way 
 to-kin Up events file other leads =
     let by = from-flat_map pairs_named (file, other) events (from-contains (file, other) (flat_map pairs_named events) leads) in
     let event : Event = by.0 in
-    in-flat_map (kin_of Up file) event other events by.1 (up-far event.kind file other event.parents event.children by.2)
+    in-flat_map (kin_towards Up file) event other events by.1 (up-far event.kind file other event.parents event.children by.2)
 to-kin Down events file other leads =
     let by = from-flat_map pairs_named (other, file) events (from-contains (other, file) (flat_map pairs_named events) leads) in
     let event : Event = by.0 in
-    in-flat_map (kin_of Down file) event other events by.1
+    in-flat_map (kin_towards Down file) event other events by.1
     (far-turned event.kind other file event.children event.parents (up-far event.kind other file event.parents event.children by.2))
 
 pub from-kin : (way : Way) (events : List Event) (file other : ℕ) → Among other (kin_in way events file) → Leads way events file other
 from-kin Up events file other a =
-    let by = from-flat_map (kin_of Up file) other events a in
+    let by = from-flat_map (kin_towards Up file) other events a in
     let event : Event = by.0 in
     to-contains (file, other) (flat_map pairs_named events) (in-flat_map pairs_named event (file, other) events by.1 (far-up event.kind file other event.parents event.children by.2))
 from-kin Down events file other a =
-    let by = from-flat_map (kin_of Down file) other events a in
+    let by = from-flat_map (kin_towards Down file) other events a in
     let event : Event = by.0 in
     to-contains (other, file) (flat_map pairs_named events)
     (in-flat_map pairs_named event (other, file) events by.1 (far-up event.kind other file event.parents event.children (far-turned event.kind file other event.parents event.children by.2)))

@@ -15,11 +15,11 @@ use Rattle.flowfile_record.specs.declared.event.Event.{Event}
 use Rattle.machine_model.specs.Files.{is_number_among}
 use Rattle.machine_model.specs.Lineage as machine
 use Rattle.machine_model.specs.Lineage.{HasTold, IsAncestor, IsDescendant, Lists, TellsOf, is_named}
-use Rattle.prov_index.specs.Index.{number_of, names, numbers_naming}
+use Rattle.prov_index.specs.Index.{event_number, names_file, numbers_naming}
 use Rattle.lineage_query.specs.Walk.{Leads, Reaches, first, further}
 use Rattle.lineage_query.specs.declared.kin.Way.TheVariants.{Up, Down}
 use Rattle.lineage_query.specs.Work.{work}
-use Rattle.lineage_query.specs.Told.{numbers_of, numbers_of_all}
+use Rattle.lineage_query.specs.Told.{own_event_numbers, numbers_of_all}
 use Rattle.lineage_query.proofs.Members.{Among, from-contains, to-contains, on-left, on-right, on-either, in-map, from-map, in-flat_map, from-flat_map, in-filter, from-filter}
 use Rattle.lineage_query.proofs.Steps.{distinct-le}
 
@@ -29,27 +29,27 @@ find-any : (p : ℕ → Bool) (ns : List ℕ) → is_some (find p ns) ≡ list_a
 find-any p [] = refl
 find-any p (n ∷ ns) = elim (p n) as (λ b. is_some (cond b (Some n) (find p ns)) ≡ (b || list_any p ns)) [ true ↦ refl | false ↦ find-any p ns ]
 
-same-names : (file : ℕ) (event : Event) → machine.names file event ≡ names file event
+same-names : (file : ℕ) (event : Event) → machine.names file event ≡ names_file file event
 same-names file event =
     ap (λ b. event.file == file || b || is_number_among event.children file) (find-any (λ n. n == file) event.parents)
     ∙ ap (λ b. event.file == file || list_any (λ n. n == file) event.parents || b) (find-any (λ n. n == file) event.children)
 
-any-named : (events : List Event) (file : ℕ) → is_named events file ≡ list_any (names file) events
+any-named : (events : List Event) (file : ℕ) → is_named events file ≡ list_any (names_file file) events
 any-named [] file = refl
-any-named (event ∷ events) file = ap (λ b. b || is_named events file) (same-names file event) ∙ ap (λ b. names file event || b) (any-named events file)
+any-named (event ∷ events) file = ap (λ b. b || is_named events file) (same-names file event) ∙ ap (λ b. names_file file event || b) (any-named events file)
 
-none-named : (events : List Event) (file : ℕ) → numbers_naming events file ≡ [] → list_any (names file) events ≡ false
+none-named : (events : List Event) (file : ℕ) → numbers_naming events file ≡ [] → list_any (names_file file) events ≡ false
 none-named [] file none = refl
 none-named (event ∷ events) file none =
-    elim (names file event) as (λ b. map number_of (cond b (event ∷ filter (names file) events) (filter (names file) events)) ≡ [] → (b || list_any (names file) events) ≡ false) [
+    elim (names_file file event) as (λ b. map event_number (cond b (event ∷ filter (names_file file) events) (filter (names_file file) events)) ≡ [] → (b || list_any (names_file file) events) ≡ false) [
       | true ↦ λ e. absurd cc
       | false ↦ λ e. none-named events file e
     ] none
 
-some-named : (events : List Event) (file : ℕ) → list_any (names file) events ≡ false → numbers_naming events file ≡ []
+some-named : (events : List Event) (file : ℕ) → list_any (names_file file) events ≡ false → numbers_naming events file ≡ []
 some-named [] file none = refl
 some-named (event ∷ events) file none =
-    elim (names file event) as (λ b. (b || list_any (names file) events) ≡ false → map number_of (cond b (event ∷ filter (names file) events) (filter (names file) events)) ≡ []) [
+    elim (names_file file event) as (λ b. (b || list_any (names_file file) events) ≡ false → map event_number (cond b (event ∷ filter (names_file file) events) (filter (names_file file) events)) ≡ []) [
       | true ↦ λ e. absurd cc
       | false ↦ λ e. some-named events file e
     ] none
@@ -130,35 +130,35 @@ work-both events file up down =
 
 -- ---- the events of the file and of its relatives
 
-in-numbers : (events : List Event) (event : Event) (file : ℕ) → Among event events → event.file ≡ file → Among event.number (numbers_of events file)
+in-numbers : (events : List Event) (event : Event) (file : ℕ) → Among event events → event.file ≡ file → Among event.number (own_event_numbers events file)
 in-numbers events event file there is =
-    in-map number_of event (filter (λ (e : Event). e.file == file) events) (in-filter (λ (e : Event). e.file == file) event events there (eq-eqb event.file file is))
+    in-map event_number event (filter (λ (e : Event). e.file == file) events) (in-filter (λ (e : Event). e.file == file) event events there (eq-eqb event.file file is))
 
-from-numbers : (events : List Event) (number file : ℕ) → Among number (numbers_of events file) → (event : Event) × Among event events × (event.number ≡ number) × (event.file ≡ file)
+from-numbers : (events : List Event) (number file : ℕ) → Among number (own_event_numbers events file) → (event : Event) × Among event events × (event.number ≡ number) × (event.file ≡ file)
 from-numbers events number file a =
-    let by = from-map number_of number (filter (λ (e : Event). e.file == file) events) a in
+    let by = from-map event_number number (filter (λ (e : Event). e.file == file) events) a in
     let event : Event = by.0 in
     let passed = from-filter (λ (e : Event). e.file == file) event events by.1 in
     (event, passed.0, by.2, eqb-true event.file file passed.1)
 
 -- all numbers that are told
 abbrev pub all-told : List Event → (file : ℕ) → (up down : List ℕ) → List ℕ
-all-told events file up down = numbers_of events file ++ numbers_of_all events up ++ numbers_of_all events down
+all-told events file up down = own_event_numbers events file ++ numbers_of_all events up ++ numbers_of_all events down
 
 module _ (events : List Event) (file : ℕ) (up down : List ℕ) (above : Lists (IsAncestor events file) up) (below : Lists (IsDescendant events file) down) where
   told-only : (number : ℕ) → Among number (all-told events file up down) → HasTold events file number
   told-only number a =
-      let made : (f : ℕ) → Among number (numbers_of events f) → ((event : Event) → event.file ≡ f → TellsOf events file event) → HasTold events file number
+      let made : (f : ℕ) → Among number (own_event_numbers events f) → ((event : Event) → event.file ≡ f → TellsOf events file event) → HasTold events file number
       = λ f there tells. let by = from-numbers events number f there in record { event = by.0; there = to-contains by.0 events by.1; is = by.2; tells = tells by.0 by.3 } in
-      elim (on-either number (numbers_of events file ++ numbers_of_all events up) (numbers_of_all events down) a) [
-        | inl b ↦ elim (on-either number (numbers_of events file) (numbers_of_all events up) b) [
+      elim (on-either number (own_event_numbers events file ++ numbers_of_all events up) (numbers_of_all events down) a) [
+        | inl b ↦ elim (on-either number (own_event_numbers events file) (numbers_of_all events up) b) [
           | inl c ↦ made file c (λ event is. inl is)
           | inr c ↦
-              let by = from-flat_map (numbers_of events) number up c in
+              let by = from-flat_map (own_event_numbers events) number up c in
               made by.0 by.2 (λ event is. inr (inl (subst (IsAncestor events file) (sym is) ((above.just by.0).0 (to-contains by.0 up by.1)))))
         ]
         | inr b ↦
-            let by = from-flat_map (numbers_of events) number down b in
+            let by = from-flat_map (own_event_numbers events) number down b in
             made by.0 by.2 (λ event is. inr (inr (subst (IsDescendant events file) (sym is) ((below.just by.0).0 (to-contains by.0 down by.1)))))
       ]
 
@@ -166,17 +166,17 @@ module _ (events : List Event) (file : ℕ) (up down : List ℕ) (above : Lists 
   told-has number told =
       let event : Event = told.event in
       let there = from-contains event events told.there in
-      let here : (f : ℕ) → event.file ≡ f → Among number (numbers_of events f) = λ f is. subst (λ (n : ℕ). Among n (numbers_of events f)) told.is (in-numbers events event f there is) in
+      let here : (f : ℕ) → event.file ≡ f → Among number (own_event_numbers events f) = λ f is. subst (λ (n : ℕ). Among n (own_event_numbers events f)) told.is (in-numbers events event f there is) in
       elim told.tells [
-        | inl is ↦ on-left number (numbers_of events file ++ numbers_of_all events up) (numbers_of_all events down) (on-left number (numbers_of events file) (numbers_of_all events up) (here file is))
+        | inl is ↦ on-left number (own_event_numbers events file ++ numbers_of_all events up) (numbers_of_all events down) (on-left number (own_event_numbers events file) (numbers_of_all events up) (here file is))
         | inr kin ↦ elim kin [
           | inl is ↦
-              on-left number (numbers_of events file ++ numbers_of_all events up) (numbers_of_all events down)
-              (on-right number (numbers_of events file) (numbers_of_all events up)
-              (in-flat_map (numbers_of events) event.file number up (from-contains event.file up ((above.just event.file).1 is)) (here event.file refl)))
+              on-left number (own_event_numbers events file ++ numbers_of_all events up) (numbers_of_all events down)
+              (on-right number (own_event_numbers events file) (numbers_of_all events up)
+              (in-flat_map (own_event_numbers events) event.file number up (from-contains event.file up ((above.just event.file).1 is)) (here event.file refl)))
           | inr is ↦
-              on-right number (numbers_of events file ++ numbers_of_all events up) (numbers_of_all events down)
-              (in-flat_map (numbers_of events) event.file number down (from-contains event.file down ((below.just event.file).1 is)) (here event.file refl))
+              on-right number (own_event_numbers events file ++ numbers_of_all events up) (numbers_of_all events down)
+              (in-flat_map (own_event_numbers events) event.file number down (from-contains event.file down ((below.just event.file).1 is)) (here event.file refl))
         ]
       ]
 

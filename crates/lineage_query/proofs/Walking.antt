@@ -19,7 +19,7 @@ use Rattle.machine_model.specs.Lineage.{Lists}
 use Rattle.prov_index.specs.Index.{numbers_naming}
 use Rattle.lineage_query.specs.declared.kin.Way.{Way}
 use Rattle.lineage_query.specs.declared.kin.Way.TheVariants.{Up, Down}
-use Rattle.lineage_query.specs.Walk.{Leads, Reaches, first, further, kin_of, kin_in, with_all}
+use Rattle.lineage_query.specs.Walk.{Leads, Reaches, first, further, kin_towards, kin_in, with_all}
 use Rattle.lineage_query.specs.Work.{work}
 use Rattle.lineage_query.proofs.Members.{Among, from-contains, to-contains, at-place, in-flat_map, from-flat_map}
 use Rattle.lineage_query.proofs.Joining.{all-extends, all-keeps, all-has, all-only}
@@ -45,7 +45,7 @@ abbrev pub targets : Way → Event → List ℕ
 targets Up event = event.parents
 targets Down event = event.children
 
-in-targets : (way : Way) (from o : ℕ) (event : Event) → Among o (kin_of way from event) → Among o (targets way event)
+in-targets : (way : Way) (from o : ℕ) (event : Event) → Among o (kin_towards way from event) → Among o (targets way event)
 in-targets Up from o event a = (far-sides event.kind from o event.children event.parents a).1
 in-targets Down from o event a = (far-sides event.kind from o event.parents event.children a).1
 
@@ -106,7 +106,7 @@ module _ (way : Way) (events : List Event) (file : ℕ) where
 
   step-target : (from o : ℕ) → Leads way events from o → Among o (flat_map (targets way) events)
   step-target from o leads =
-      let by = from-flat_map (kin_of way from) o events (to-kin way events from o leads) in
+      let by = from-flat_map (kin_towards way from) o events (to-kin way events from o leads) in
       in-flat_map (targets way) by.0 o events by.1 (in-targets way from o by.0 by.2)
 
   reach-target : (o : ℕ) → Reaches way events file o → Among o (flat_map (targets way) events)

@@ -27,13 +27,13 @@ far_of Clone file near far = if list_any (λ n. n == file) near then far else []
 far_of _ file near far = []
 
 -- the parents, or the children, of a file that an event names
-abbrev pub kin_of : Way → ℕ → Event → List ℕ
-kin_of Up file event = far_of event.kind file event.children event.parents
-kin_of Down file event = far_of event.kind file event.parents event.children
+abbrev pub kin_towards : Way → ℕ → Event → List ℕ
+kin_towards Up file event = far_of event.kind file event.children event.parents
+kin_towards Down file event = far_of event.kind file event.parents event.children
 
 -- .. that some events name
 abbrev pub kin_in : Way → List Event → ℕ → List ℕ
-kin_in way events file = flat_map (kin_of way file) events
+kin_in way events file = flat_map (kin_towards way file) events
 
 -- files that were found, and one more unless it is among them
 abbrev pub with_new : List ℕ → ℕ → List ℕ

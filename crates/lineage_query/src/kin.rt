@@ -1,6 +1,6 @@
 //! The kin that one event names.
 ghost use Rattle.std.specs.Prelude.{◌≡◌};
-ghost use Rattle.lineage_query.specs.Walk.{kin_of};
+ghost use Rattle.lineage_query.specs.Walk.{kin_towards};
 
 use flowfile_record::{Event, EventKind};
 
@@ -15,7 +15,7 @@ pub(crate) enum Way {
 
 /// The parents or the children of a file that an event names.
 pub(crate) fn kin<'a>(event: &'a Event, way: Way, file: u64) -> &'a [u64]
-    ensures { result.now ≡ kin_of way file event.now }
+    ensures { result.now ≡ kin_towards way file event.now }
 {
     let parents = event.parents.as_slice();
     let children = event.children.as_slice();

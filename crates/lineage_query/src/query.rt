@@ -1,7 +1,7 @@
 //! The queries: ancestors, descendants, and the lineage of a file.
 ghost use Rattle.std.specs.Prelude.{◌≡◌, ◌+◌, ◌*◌, ◌≤◌, ◌++◌, ◌∷◌, ◌↔◌, ℕ, List, false, IfOk, IsErrOf};
 ghost use Rattle.machine_model.specs.Lineage.{IsAncestor, IsDescendant, IsLineage, Lists, is_named};
-ghost use Rattle.lineage_query.specs.Told.{seen};
+ghost use Rattle.lineage_query.specs.Told.{lineage_seen};
 ghost use Rattle.lineage_query.specs.Work.{work};
 ghost use Rattle.lineage_query.specs.declared.answer.LineageError.TheVariants as LineageError;
 
@@ -53,7 +53,8 @@ pub fn lineage<L: Ledger>(
     number: u64,
     steps: &mut Steps<L>,
 ) -> Result<Lineage, LineageError>
-    ensures lineage { IfOk result (λ lineage. (lineage.file ≡ number) × IsLineage index.now number (seen lineage)) }
+    ensures lineage { IfOk result
+        (λ lineage. (lineage.file ≡ number) × IsLineage index.now number (lineage_seen lineage)) }
     ensures absent { IsErrOf result LineageError.Absent ↔ (is_named index.now number ≡ false) }
     ensures steps { (up down : List ℕ) → Lists (IsAncestor index.now number) up
         → Lists (IsDescendant index.now number) down
@@ -72,7 +73,8 @@ fn lineage_of<L: Ledger>(
     number: u64,
     steps: &mut Steps<L>,
 ) -> Result<Lineage, AllocError>
-    ensures lineage { IfOk result (λ lineage. (lineage.file ≡ number) × IsLineage index.now number (seen lineage)) }
+    ensures lineage { IfOk result
+        (λ lineage. (lineage.file ≡ number) × IsLineage index.now number (lineage_seen lineage)) }
     ensures steps { (up down : List ℕ) → Lists (IsAncestor index.now number) up
         → Lists (IsDescendant index.now number) down
         → steps.new ≤ steps.old + 3 * work index.now (number ∷ up ++ down) }

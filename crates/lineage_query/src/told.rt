@@ -2,7 +2,7 @@
 ghost use Rattle.std.specs.Prelude.{◌≡◌, ◌+◌, ◌≤◌, ◌++◌, length, OnOk};
 ghost use Rattle.prov_index.specs.Index.{numbers_naming};
 ghost use Rattle.lineage_query.specs.Work.{work};
-ghost use Rattle.lineage_query.specs.Told.{numbers_of, numbers_of_all};
+ghost use Rattle.lineage_query.specs.Told.{own_event_numbers, numbers_of_all};
 
 use prov_index::{Index, Steps};
 use std::alloc::AllocError;
@@ -31,7 +31,7 @@ pub(crate) fn tell<L: Ledger>(
     told: &mut Vec<u64>,
     steps: &mut Steps<L>,
 ) -> Result<(), AllocError>
-    ensures told { OnOk result (told.new.items ≡ told.old.items ++ numbers_of index.now file) }
+    ensures told { OnOk result (told.new.items ≡ told.old.items ++ own_event_numbers index.now file) }
     ensures steps { steps.new ≤ steps.old + length (numbers_naming index.now file) }
 {
     let numbers = index.of(file);

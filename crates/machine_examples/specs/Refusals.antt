@@ -13,21 +13,21 @@ use Rattle.machine_model.specs.Stepping.{step, taken_files}
 use Rattle.machine_examples.specs.Told.{through, merge}
 use Rattle.machine_examples.specs.Small.{hi, success, processor, wide, get_to_put, a_txt, a_file, state_of, at_moment, session, machine, nothing, inbox_of}
 
-abbrev pub IsRefused : Flow → State → World → Step → Type 0
-IsRefused flow state world entry = step flow (machine state world) entry ≡ None
+abbrev pub StepIsRefused : Flow → State → World → Step → Type 0
+StepIsRefused flow state world entry = step flow (machine state world) entry ≡ None
 
 -- these files in the queue of the one connection, whose files expire after 500 milliseconds and are swapped past 2
 abbrev pub limited : QueueLimits
 limited = record { expiration = 500; objects = 0; bytes = 0; swap = 2 }
 
-abbrev pub RefusesAt : List QueuedFile → Step → Type 0
-RefusesAt files entry =
-    IsRefused (get_to_put Replace limited)
+abbrev pub RefusesStep : List QueuedFile → Step → Type 0
+RefusesStep files entry =
+    StepIsRefused (get_to_put Replace limited)
     (record (state_of (files ∷ []) 9 9 (0 ∷ 0 ∷ [])) { next_batch = 3 }) nothing entry
 
 -- the PutFile's session over these files
 abbrev pub RefusesToPut : List QueuedFile → List ℕ → (moment : ℕ) → Type 0
-RefusesToPut files numbers moment = RefusesAt files (session 1 numbers moment (at_moment moment))
+RefusesToPut files numbers moment = RefusesStep files (session 1 numbers moment (at_moment moment))
 
 abbrev pub penalised : QueuedFile → (end : ℕ) → QueuedFile
 penalised file end = record file { penalty_end = end }
@@ -59,51 +59,52 @@ NoneIsNotPut = RefusesToPut (a_file 1 1 ∷ []) [] 1000
 
 -- the flow has two processors and one connection
 abbrev pub NoSuchProcessor : Type 0
-NoSuchProcessor = RefusesAt (a_file 1 1 ∷ []) (session 2 (1 ∷ []) 1000 (at_moment 1000))
+NoSuchProcessor = RefusesStep (a_file 1 1 ∷ []) (session 2 (1 ∷ []) 1000 (at_moment 1000))
 
 abbrev pub NoSuchConnection : Type 0
-NoSuchConnection = RefusesAt (a_file 1 1 ∷ []) (Expire 1 (1 ∷ []) 2000)
+NoSuchConnection = RefusesStep (a_file 1 1 ∷ []) (Expire 1 (1 ∷ []) 2000)
 
 -- ---- what queues refuse
 
 abbrev pub FreshDoesNotExpire : Type 0
-FreshDoesNotExpire = RefusesAt (a_file 1 1 ∷ []) (Expire 0 (1 ∷ []) 1499)
+FreshDoesNotExpire = RefusesStep (a_file 1 1 ∷ []) (Expire 0 (1 ∷ []) 1499)
 
 abbrev pub OneOfTwoIsFresh : Type 0
-OneOfTwoIsFresh = RefusesAt (a_file 1 1 ∷ record (a_file 2 2) { entered = 1400 } ∷ []) (Expire 0 (1 ∷ 2 ∷ []) 1500)
+OneOfTwoIsFresh = RefusesStep (a_file 1 1 ∷ record (a_file 2 2) { entered = 1400 } ∷ []) (Expire 0 (1 ∷ 2 ∷ []) 1500)
 
 abbrev pub NothingDoesNotExpire : Type 0
-NothingDoesNotExpire = RefusesAt (a_file 1 1 ∷ []) (Expire 0 [] 2000)
+NothingDoesNotExpire = RefusesStep (a_file 1 1 ∷ []) (Expire 0 [] 2000)
 
 abbrev pub NoneExpiresTwice : Type 0
-NoneExpiresTwice = RefusesAt (a_file 1 1 ∷ []) (Expire 0 (1 ∷ 1 ∷ []) 2000)
+NoneExpiresTwice = RefusesStep (a_file 1 1 ∷ []) (Expire 0 (1 ∷ 1 ∷ []) 2000)
 
 -- the next batch is 3, a batch has one file, and there are three active ones or two
 abbrev pub OtherBatchDoesNotGo : Type 0
-OtherBatchDoesNotGo = RefusesAt (a_file 1 1 ∷ a_file 2 2 ∷ a_file 3 3 ∷ []) (SwapOut 0 (3 ∷ []) 4)
+OtherBatchDoesNotGo = RefusesStep (a_file 1 1 ∷ a_file 2 2 ∷ a_file 3 3 ∷ []) (SwapOut 0 (3 ∷ []) 4)
 
 abbrev pub TwoDoNotGo : Type 0
-TwoDoNotGo = RefusesAt (a_file 1 1 ∷ a_file 2 2 ∷ a_file 3 3 ∷ []) (SwapOut 0 (2 ∷ 3 ∷ []) 3)
+TwoDoNotGo = RefusesStep (a_file 1 1 ∷ a_file 2 2 ∷ a_file 3 3 ∷ []) (SwapOut 0 (2 ∷ 3 ∷ []) 3)
 
 abbrev pub FewDoNotGo : Type 0
-FewDoNotGo = RefusesAt (a_file 1 1 ∷ a_file 2 2 ∷ []) (SwapOut 0 (2 ∷ []) 3)
+FewDoNotGo = RefusesStep (a_file 1 1 ∷ a_file 2 2 ∷ []) (SwapOut 0 (2 ∷ []) 3)
 
 -- a swapped file neither expires nor goes once more
 abbrev pub SwappedDoesNotExpire : Type 0
-SwappedDoesNotExpire = RefusesAt (swapped (a_file 1 1) 2 ∷ []) (Expire 0 (1 ∷ []) 2000)
+SwappedDoesNotExpire = RefusesStep (swapped (a_file 1 1) 2 ∷ []) (Expire 0 (1 ∷ []) 2000)
 
 abbrev pub SwappedDoesNotGo : Type 0
-SwappedDoesNotGo = RefusesAt (a_file 1 1 ∷ a_file 2 2 ∷ a_file 3 3 ∷ swapped (a_file 4 4) 2 ∷ []) (SwapOut 0 (4 ∷ []) 3)
+SwappedDoesNotGo =
+    RefusesStep (a_file 1 1 ∷ a_file 2 2 ∷ a_file 3 3 ∷ swapped (a_file 4 4) 2 ∷ []) (SwapOut 0 (4 ∷ []) 3)
 
 -- batches 1 and 2 are swapped out
 abbrev pub HigherBatchDoesNotCome : Type 0
-HigherBatchDoesNotCome = RefusesAt (a_file 1 1 ∷ swapped (a_file 2 2) 1 ∷ swapped (a_file 3 3) 2 ∷ []) (SwapIn 0 2)
+HigherBatchDoesNotCome = RefusesStep (a_file 1 1 ∷ swapped (a_file 2 2) 1 ∷ swapped (a_file 3 3) 2 ∷ []) (SwapIn 0 2)
 
 abbrev pub StrangeBatchDoesNotCome : Type 0
-StrangeBatchDoesNotCome = RefusesAt (a_file 1 1 ∷ swapped (a_file 2 2) 1 ∷ []) (SwapIn 0 2)
+StrangeBatchDoesNotCome = RefusesStep (a_file 1 1 ∷ swapped (a_file 2 2) 1 ∷ []) (SwapIn 0 2)
 
 abbrev pub BatchWaitsWhileTwoAreActive : Type 0
-BatchWaitsWhileTwoAreActive = RefusesAt (a_file 1 1 ∷ a_file 2 2 ∷ swapped (a_file 3 3) 1 ∷ []) (SwapIn 0 1)
+BatchWaitsWhileTwoAreActive = RefusesStep (a_file 1 1 ∷ a_file 2 2 ∷ swapped (a_file 3 3) 1 ∷ []) (SwapIn 0 1)
 
 -- ---- what stands in the world
 
@@ -111,7 +112,7 @@ abbrev pub get_a : Step
 get_a = session 0 [] 1000 (record (at_moment 1000) { file = Some a_txt })
 
 abbrev pub RefusesToGet : World → Step → Type 0
-RefusesToGet world entry = IsRefused (get_to_put Replace wide) (state_of ([] ∷ []) 1 1 (0 ∷ 0 ∷ [])) world entry
+RefusesToGet world entry = StepIsRefused (get_to_put Replace wide) (state_of ([] ∷ []) 1 1 (0 ∷ 0 ∷ [])) world entry
 
 -- the file was taken before; it never was there; none is named; a file is named beside numbers
 abbrev pub GoneIsNotReceived : Type 0
@@ -130,13 +131,13 @@ SourceTakesNone =
 -- whether the outbox has the name is told wrongly
 abbrev pub RefusesAnswer : World → (there : Bool) → Type 0
 RefusesAnswer world there =
-    IsRefused (get_to_put Replace wide) (state_of ((a_file 1 1 ∷ []) ∷ []) 2 2 (0 ∷ 0 ∷ [])) world
+    StepIsRefused (get_to_put Replace wide) (state_of ((a_file 1 1 ∷ []) ∷ []) 2 2 (0 ∷ 0 ∷ [])) world
     (session 1 (1 ∷ []) 1000 (record (at_moment 1000) { there = there }))
 
 -- a generator of two files has made one
 abbrev pub RefusesIndex : (made index : ℕ) → Type 0
 RefusesIndex made index =
-    (text : Expr) → IsRefused (record {
+    (text : Expr) → StepIsRefused (record {
       processors = processor (codes "gen") (GenerateFlowFile 2 text) success ∷ [];
       connections = [];
       digest = [];

@@ -22,7 +22,7 @@ use Rattle.machine_model.specs.declared.given.Given.{Given}
 use Rattle.machine_model.specs.declared.kind.Destination.{Destination}
 use Rattle.machine_model.specs.declared.kind.Destination.TheVariants.{Attribute, Content}
 use Rattle.machine_model.specs.declared.kind.Kind.TheVariants.{AttributesToJson}
-use Rattle.process_session.specs.Bench.{Bench, attributes_at, source_of, taken_file}
+use Rattle.process_session.specs.Bench.{Bench, bench_attributes, taken_source, taken_file}
 use Rattle.process_session.specs.Changes.{with_written, written_file}
 use Rattle.process_session.specs.Finish.{outcome_of}
 use Rattle.process_session.specs.Reasons.{Refusal, already_ended, content_too_large, first_refusal, unknown_file}
@@ -95,7 +95,7 @@ abbrev replaced_file : Taken → List ℕ → File
 replaced_file taken bytes = written_file bytes (taken_file 0 taken)
 
 abbrev replaced_bench : Taken → List ℕ → Bench
-replaced_bench taken bytes = alone 2 (source_of taken ∷ []) (replaced_file taken bytes) None (0 + length bytes)
+replaced_bench taken bytes = alone 2 (taken_source taken ∷ []) (replaced_file taken bytes) None (0 + length bytes)
 
 -- what a write that these bytes come of, or none, comes to
 abbrev pub WriteComesTo : Taken → Bench → List ℕ → Option (List ℕ) → Type 0
@@ -123,8 +123,8 @@ write-comes taken bytes small = of_test (nat_le (length bytes) CONTENT_MAX) refl
     of_test : (fits : Bool) → nat_le (length bytes) CONTENT_MAX ≡ fits → WriteComesTo taken (one_with taken taken.attributes) bytes (cond fits (Some bytes) None)
     of_test true fits =
         let short : length bytes ≤ CONTENT_MAX = leb-true _ _ fits in (
-          write-free 2 (source_of taken ∷ []) (taken_file 0 taken) None 0 bytes refl small short (omega arith),
-          written-alone 2 (source_of taken ∷ []) (taken_file 0 taken) None 0 bytes,
+          write-free 2 (taken_source taken ∷ []) (taken_file 0 taken) None 0 bytes refl small short (omega arith),
+          written-alone 2 (taken_source taken ∷ []) (taken_file 0 taken) None 0 bytes,
         )
     of_test false fits =
         let large = too_large (length bytes) (leb-false _ _ fits) in (
@@ -133,7 +133,7 @@ write-comes taken bytes small = of_test (nat_le (length bytes) CONTENT_MAX) refl
         )
 
 abbrev SmallFrom : Bench → Type 0
-SmallFrom bench = encoded_size (attributes_at bench 0) ≤ ATTRIBUTES_MAX
+SmallFrom bench = encoded_size (bench_attributes bench 0) ≤ ATTRIBUTES_MAX
 
 write-at-one : (before : Bench) (one : TookOne before) (bytes : List ℕ) → SmallFrom before → WriteComesTo one.taken before bytes (as_content bytes)
 write-at-one before one bytes small =
@@ -167,7 +167,7 @@ replace-open before now one bytes small made now-is =
     replaced-open now one.taken written.0 (now-is ∙ written.2)
 
 pub replace-made : (before now after : Bench) (one : TookOne before) (bytes : List ℕ) → SmallFrom before → None ≡ refusal_of_write before 0 bytes → now ≡ with_written before 0 bytes → EndsWith now after (all_to 0 now.files)
-    → EndsWith before after (replaced_with (attributes_at before 0) (as_content bytes))
+    → EndsWith before after (replaced_with (bench_attributes before 0) (as_content bytes))
 replace-made before now after one bytes small made now-is ends =
     let taken = one.taken in
     let written = written-made taken before bytes _ (sym made) (write-at-one before one bytes small) in
@@ -177,16 +177,16 @@ replace-made before now after one bytes small made now-is ends =
       sources = ap (λ (b : Bench). b.sources) is ∙ sym (ap (λ (b : Bench). b.sources) one.begun);
     } in
     ends-behind before now after _ _ kept
-    (ap (λ (b : Bench). all_to 0 b.files) is ∙ ap (replaced_with taken.attributes) (sym written.1) ∙ ap (λ b. replaced_with (attributes_at b 0) (as_content bytes)) (sym one.begun)) ends
+    (ap (λ (b : Bench). all_to 0 b.files) is ∙ ap (replaced_with taken.attributes) (sym written.1) ∙ ap (λ b. replaced_with (bench_attributes b 0) (as_content bytes)) (sym one.begun)) ends
 
 pub replace-refused : (before now after : Bench) (one : TookOne before) (bytes : List ℕ) (error : SessionError) → SmallFrom before → Some error ≡ refusal_of_write before 0 bytes → now ≡ before → EndsWith now after (all_to 1 now.files)
-    → EndsWith before after (replaced_with (attributes_at before 0) (as_content bytes))
+    → EndsWith before after (replaced_with (bench_attributes before 0) (as_content bytes))
 replace-refused before now after one bytes error small refused now-is ends =
     let taken = one.taken in
     let none = written-refused taken before bytes _ error (sym refused) (write-at-one before one bytes small) in
     let is : now ≡ one_with taken taken.attributes = now-is ∙ one.begun in
     ends-behind before now after _ _ (with-keeps before now taken taken.attributes taken.attributes one.begun is)
-    (ap (λ (b : Bench). all_to 1 b.files) is ∙ ap (replaced_with taken.attributes) (sym none) ∙ ap (λ b. replaced_with (attributes_at b 0) (as_content bytes)) (sym one.begun)) ends
+    (ap (λ (b : Bench). all_to 1 b.files) is ∙ ap (replaced_with taken.attributes) (sym none) ∙ ap (λ b. replaced_with (bench_attributes b 0) (as_content bytes)) (sym one.begun)) ends
 
 -- ---- the processor
 
@@ -217,17 +217,17 @@ by-shown [] file = refl
 by-shown (name ∷ names) file = refl
 
 pub json-acts : (destination : Destination) (names : List (List ℕ)) (before : Bench) (given : Given) (after : Bench) (attributes : AttributeMap) (uuid json : List ℕ) → Begins (AttributesToJson destination names) before given
-    → attributes ≡ attributes_at before 0 → option_map (λ source. source.uuid) (slice_get before.sources 0) ≡ Some uuid → json ≡ json_of names (given_file attributes uuid)
-    → EndsWith before after (outcome_in destination (attributes_at before 0) json) → EndsAs (AttributesToJson destination names) before given after
+    → attributes ≡ bench_attributes before 0 → option_map (λ source. source.uuid) (slice_get before.sources 0) ≡ Some uuid → json ≡ json_of names (given_file attributes uuid)
+    → EndsWith before after (outcome_in destination (bench_attributes before 0) json) → EndsAs (AttributesToJson destination names) before given after
 json-acts destination names before given after attributes uuid json begins attributes-is uuid-is json-is ends =
     one-acts (AttributesToJson destination names) before given after refl begins ends.finished ends.kept
     (λ taken file began alike. of_file file (taken-attributes before taken file began alike) (taken-uuid before taken file uuid began alike uuid-is))
   where
-    of_file : (file : TakenFile) → file.attributes ≡ attributes_at before 0 → file.uuid ≡ uuid → act (AttributesToJson destination names) (file ∷ []) given ≡ Some (outcome_of after)
+    of_file : (file : TakenFile) → file.attributes ≡ bench_attributes before 0 → file.uuid ≡ uuid → act (AttributesToJson destination names) (file ∷ []) given ≡ Some (outcome_of after)
     of_file file same-attributes same-uuid =
         let text : List ℕ = json_of names (given_file file.attributes file.uuid) in
         let text-is : text ≡ json =
         ap (λ a. json_of names (given_file a file.uuid)) (same-attributes ∙ sym attributes-is) ∙ ap (λ u. json_of names (given_file attributes u)) same-uuid ∙ sym json-is in
-        let same : outcome_in destination file.attributes text ≡ outcome_in destination (attributes_at before 0) json =
-        ap (λ a. outcome_in destination a text) same-attributes ∙ ap (outcome_in destination (attributes_at before 0)) text-is in
+        let same : outcome_in destination file.attributes text ≡ outcome_in destination (bench_attributes before 0) json =
+        ap (λ a. outcome_in destination a text) same-attributes ∙ ap (outcome_in destination (bench_attributes before 0)) text-is in
         ap Some (json-up destination file (json_of names file) ∙ ap (outcome_in destination file.attributes) (by-shown names file) ∙ same ∙ sym ends.outcome)

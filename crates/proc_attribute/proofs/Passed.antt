@@ -11,7 +11,7 @@ use Rattle.flowfile_record.specs.declared.worked.Origin.{Origin}
 use Rattle.flowfile_record.specs.declared.worked.Origin.TheVariants.{Taken as FromQueue}
 use Rattle.flowfile_record.specs.declared.worked.Outcome.{Outcome}
 use Rattle.machine_model.specs.Making.{TakenFile, alone as alone_outcome, may_have, or_given_up, passed_on, with_set}
-use Rattle.process_session.specs.Bench.{Bench, attributes_at, source_of, taken_file}
+use Rattle.process_session.specs.Bench.{Bench, bench_attributes, taken_source, taken_file}
 use Rattle.process_session.specs.Changes.{attributed_file, with_end, with_put}
 use Rattle.process_session.specs.Finish.{origin_in, outcome_of}
 use Rattle.process_session.specs.Reasons.{Refusal, IsErrorFor, already_ended, attributes_too_large, bad_key, first_refusal, unknown_file}
@@ -68,7 +68,7 @@ ends-behind before now after outcome wanted kept is ends = record {
 -- ---- a taken file with other attributes, and nothing else done
 
 abbrev pub one_with : Taken → AttributeMap → Bench
-one_with taken attributes = alone 2 (source_of taken ∷ []) (attributed_file attributes (taken_file 0 taken)) None 0
+one_with taken attributes = alone 2 (taken_source taken ∷ []) (attributed_file attributes (taken_file 0 taken)) None 0
 
 pub with-open : (bench : Bench) (taken : Taken) (attributes : AttributeMap) → bench ≡ one_with taken attributes → HasOneOpen bench
 with-open bench taken attributes is = record {
@@ -119,7 +119,7 @@ next refusal refusals error none rest = pass refusal refusals (sym none) ∙ res
 uuid-put : (taken : Taken) (attributes : AttributeMap) (key value : List ℕ) → is_uuid key ≡ true → PutComesTo taken (one_with taken attributes) key value (Some attributes)
 uuid-put taken attributes key value is =
     let file = attributed_file attributes (taken_file 0 taken) in (
-      rw is (penalize-free 2 (source_of taken ∷ []) file None 0 refl),
+      rw is (penalize-free 2 (taken_source taken ∷ []) file None 0 refl),
       rw is refl,
     )
 
@@ -128,8 +128,8 @@ stored-put : (taken : Taken) (attributes : AttributeMap) (key value : List ℕ) 
 stored-put taken attributes key value good isnt may =
     let file = attributed_file attributes (taken_file 0 taken) in
     let small = leb-true _ _ may in (
-      put-free 2 (source_of taken ∷ []) file None 0 key value refl isnt good small (omega arith),
-      put-alone 2 (source_of taken ∷ []) file None 0 key value isnt,
+      put-free 2 (taken_source taken ∷ []) file None 0 key value refl isnt good small (omega arith),
+      put-alone 2 (taken_source taken ∷ []) file None 0 key value isnt,
     )
 
 refused-put : (taken : Taken) (attributes : AttributeMap) (key value : List ℕ) → has_key_length key ≡ true → is_uuid key ≡ false → may_have (FromQueue 0) (insert attributes key value) ≡ false
@@ -182,14 +182,14 @@ pub took-open : (bench : Bench) → TookOne bench → HasOneOpen bench
 took-open bench one = with-open bench one.taken one.taken.attributes one.begun
 
 pub note-made : (before now after : Bench) (one : TookOne before) (key value : List ℕ) → has_key_length key ≡ true → IsErrorFor None (refusal_of_put before 0 key value) → now ≡ with_put before 0 key value
-    → (EndsWith now after (all_to 0 now.files)) → EndsWith before after (passed_with (attributes_at before 0) (with_set (FromQueue 0) (attributes_at before 0) (key, value)))
+    → (EndsWith now after (all_to 0 now.files)) → EndsWith before after (passed_with (bench_attributes before 0) (with_set (FromQueue 0) (bench_attributes before 0) (key, value)))
 note-made before now after one key value good made now-is ends =
     let taken = one.taken in
     let put = put-made taken before key value _ made (put-at-one before taken taken.attributes key value _ one.begun good refl) in
     let is : now ≡ one_with taken put.0 = now-is ∙ put.2 in
     let wanted : all_to 0 now.files ≡ noted taken key value = ap (λ (b : Bench). all_to 0 b.files) is ∙ ap (passed_with taken.attributes) (sym put.1) in
     ends-behind before now after _ _ (with-keeps before now taken taken.attributes put.0 one.begun is)
-    (wanted ∙ ap (λ b. passed_with (attributes_at b 0) (with_set (FromQueue 0) (attributes_at b 0) (key, value))) (sym one.begun)) ends
+    (wanted ∙ ap (λ b. passed_with (bench_attributes b 0) (with_set (FromQueue 0) (bench_attributes b 0) (key, value))) (sym one.begun)) ends
 
 pub note-open : (before now : Bench) (one : TookOne before) (key value : List ℕ) → has_key_length key ≡ true → IsErrorFor None (refusal_of_put before 0 key value) → now ≡ with_put before 0 key value → HasOneOpen now
 note-open before now one key value good made now-is =
@@ -197,14 +197,14 @@ note-open before now one key value good made now-is =
     with-open now one.taken put.0 (now-is ∙ put.2)
 
 pub note-refused : (before now after : Bench) (one : TookOne before) (key value : List ℕ) (error : SessionError) → has_key_length key ≡ true → IsErrorFor (Some error) (refusal_of_put before 0 key value) → (error ≡ Memory → ⊥) → now ≡ before
-    → EndsWith now after (all_to 1 now.files) → EndsWith before after (passed_with (attributes_at before 0) (with_set (FromQueue 0) (attributes_at before 0) (key, value)))
+    → EndsWith now after (all_to 1 now.files) → EndsWith before after (passed_with (bench_attributes before 0) (with_set (FromQueue 0) (bench_attributes before 0) (key, value)))
 note-refused before now after one key value error good refused other now-is ends =
     let taken = one.taken in
     let none = put-refused taken before key value _ error refused other (put-at-one before taken taken.attributes key value _ one.begun good refl) in
     let is : now ≡ one_with taken taken.attributes = now-is ∙ one.begun in
     let wanted : all_to 1 now.files ≡ noted taken key value = ap (λ (b : Bench). all_to 1 b.files) is ∙ ap (passed_with taken.attributes) (sym none) in
     ends-behind before now after _ _ (with-keeps before now taken taken.attributes taken.attributes one.begun is)
-    (wanted ∙ ap (λ b. passed_with (attributes_at b 0) (with_set (FromQueue 0) (attributes_at b 0) (key, value))) (sym one.begun)) ends
+    (wanted ∙ ap (λ b. passed_with (bench_attributes b 0) (with_set (FromQueue 0) (bench_attributes b 0) (key, value))) (sym one.begun)) ends
 
 -- ---- a processor
 

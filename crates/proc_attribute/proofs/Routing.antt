@@ -14,7 +14,7 @@ use Rattle.machine_model.specs.declared.limits.TheConstants.{OWN_NAME_MAX, OWN_P
 use Rattle.machine_model.specs.declared.given.Given.{Given}
 use Rattle.machine_model.specs.declared.kind.Kind.TheVariants.{RouteOnAttribute}
 use Rattle.machine_model.specs.declared.kind.OwnExpression.{OwnExpression}
-use Rattle.process_session.specs.Bench.{Bench, attributes_at, bench_of}
+use Rattle.process_session.specs.Bench.{Bench, bench_attributes, bench_of}
 use Rattle.process_session.specs.Finish.{outcome_of}
 use Rattle.process_session.specs.declared.file.Taken.{Taken}
 use Rattle.processor_api.specs.Acts.{Begins, EndsAs, IsTakenAs}
@@ -27,7 +27,7 @@ use Rattle.processor_api.proofs.Places.{places-below, places-few as few-pass}
 -- what expressions find of a file of the machine that is taken
 pub found-is : (before : Bench) (taken : Taken) (file : TakenFile) → before ≡ bench_of before.relationships (taken ∷ []) → IsTakenAs file taken → found_of before ≡ found_in file
 found-is before taken file began alike =
-    let attributes : attributes_at before 0 ≡ file.attributes = ap (λ b. attributes_at b 0) began ∙ sym alike.attributes in
+    let attributes : bench_attributes before 0 ≡ file.attributes = ap (λ b. bench_attributes b 0) began ∙ sym alike.attributes in
     let uuid : uuid_at before 0 ≡ file.uuid = ap (λ b. uuid_at b 0) began ∙ sym alike.uuid in
     ap (λ a. found_in (record { attributes = a; uuid = uuid_at before 0; bytes = [] })) attributes
     ∙ ap (λ u. found_in (record { attributes = file.attributes; uuid = u; bytes = [] })) uuid
@@ -58,13 +58,13 @@ pub places-few : (own : List OwnExpression) (find : Attributes) (places : List �
 places-few own find places sound are = omega (arith, ap length are, few-pass (is_true_of find) own, own-few own sound)
 
 pub route-acts : (own : List OwnExpression) (before : Bench) (given : Given) (after : Bench) (places : List ℕ) → Begins (RouteOnAttribute own) before given → places ≡ true_places (found_of before) own
-    → ((file : TakenFile) → file.attributes ≡ attributes_at before 0 → EndsWith before after (routed (length own) file places)) → EndsAs (RouteOnAttribute own) before given after
+    → ((file : TakenFile) → file.attributes ≡ bench_attributes before 0 → EndsWith before after (routed (length own) file places)) → EndsAs (RouteOnAttribute own) before given after
 route-acts own before given after places begins are ends =
-    let some = ends (record { attributes = attributes_at before 0; uuid = []; bytes = [] }) refl in
+    let some = ends (record { attributes = bench_attributes before 0; uuid = []; bytes = [] }) refl in
     one-acts (RouteOnAttribute own) before given after refl begins some.finished some.kept of_file
   where
     of_file : (taken : Taken) (file : TakenFile) → before ≡ bench_of before.relationships (taken ∷ []) → IsTakenAs file taken → act (RouteOnAttribute own) (file ∷ []) given ≡ Some (outcome_of after)
     of_file taken file began alike =
-        let same : file.attributes ≡ attributes_at before 0 = alike.attributes ∙ sym (ap (λ b. attributes_at b 0) began) in
+        let same : file.attributes ≡ bench_attributes before 0 = alike.attributes ∙ sym (ap (λ b. bench_attributes b 0) began) in
         ap (λ found. Some (routed (length own) file (true_places found own))) (sym (found-is before taken file began alike))
         ∙ ap (λ p. Some (routed (length own) file p)) (sym are) ∙ ap Some (sym (ends file same).outcome)

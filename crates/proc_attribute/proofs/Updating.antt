@@ -20,7 +20,7 @@ use Rattle.machine_model.specs.declared.given.Given.{Given}
 use Rattle.machine_model.specs.declared.kind.Kind.TheVariants.{UpdateAttribute}
 use Rattle.machine_model.specs.declared.limits.TheConstants.{OWN_NAME_MAX}
 use Rattle.machine_model.specs.UpdateAttribute.{own_texts, text_in}
-use Rattle.process_session.specs.Bench.{Bench, attributes_at}
+use Rattle.process_session.specs.Bench.{Bench, bench_attributes}
 use Rattle.process_session.specs.Changes.{change_at, with_attributes, with_put}
 use Rattle.process_session.specs.Refusals.{refusal_of_put}
 use Rattle.process_session.specs.Finish.{outcome_of}
@@ -128,33 +128,33 @@ with-is : (before : Bench) (one : TookOne before) (attributes : AttributeMap) �
 unfolding change_at
 with-is before one attributes = ap (λ b. with_attributes b 0 attributes) one.begun
 
-pub set-begins : (before : Bench) → TookOne before → before ≡ with_attributes before 0 (attributes_at before 0)
-set-begins before one = one.begun ∙ sym (ap (one_with one.taken) (ap (λ b. attributes_at b 0) one.begun)) ∙ sym (with-is before one (attributes_at before 0))
+pub set-begins : (before : Bench) → TookOne before → before ≡ with_attributes before 0 (bench_attributes before 0)
+set-begins before one = one.begun ∙ sym (ap (one_with one.taken) (ap (λ b. bench_attributes b 0) one.begun)) ∙ sym (with-is before one (bench_attributes before 0))
 
 -- what a put of the first of them comes to
 pub record PutOne (before now : Bench) (one : TookOne before) (pair : Pair) (value : List ℕ) : Type 0 where
   pub set : AttributeMap
-  pub set_is : with_set (FromQueue 0) (attributes_at now 0) pair ≡ Some set
+  pub set_is : with_set (FromQueue 0) (bench_attributes now 0) pair ≡ Some set
   pub free : refusal_of_put now 0 pair.0 value ≡ None
   pub after : with_put now 0 pair.0 value ≡ one_with one.taken set
 
-pub put-one : (before now : Bench) (one : TookOne before) (pairs left rest : List Pair) (pair : Pair) (value : List ℕ) → now ≡ with_attributes before 0 (attributes_at now 0)
-    → with_all_set (FromQueue 0) (attributes_at before 0) pairs ≡ with_all_set (FromQueue 0) (attributes_at now 0) left → left ≡ pair ∷ rest → have_keys left ≡ true → is_some (with_all_set (FromQueue 0) (attributes_at before 0) pairs) ≡ true
+pub put-one : (before now : Bench) (one : TookOne before) (pairs left rest : List Pair) (pair : Pair) (value : List ℕ) → now ≡ with_attributes before 0 (bench_attributes now 0)
+    → with_all_set (FromQueue 0) (bench_attributes before 0) pairs ≡ with_all_set (FromQueue 0) (bench_attributes now 0) left → left ≡ pair ∷ rest → have_keys left ≡ true → is_some (with_all_set (FromQueue 0) (bench_attributes before 0) pairs) ≡ true
     → value ≡ pair.1 → PutOne before now one pair value
 put-one before now one pairs left rest pair value after so_far is keys may value-is =
-    let first = sets-first (attributes_at before 0) (attributes_at now 0) pairs left rest pair so_far is may in
-    let now-is : now ≡ one_with one.taken (attributes_at now 0) = after ∙ with-is before one (attributes_at now 0) in
-    let set-is : with_set (FromQueue 0) (attributes_at now 0) (pair.0, value) ≡ Some first.0 = ap (λ v. with_set (FromQueue 0) (attributes_at now 0) (pair.0, v)) value-is ∙ first.1 in
-    let comes : PutComesTo one.taken now pair.0 value (Some first.0) = put-at-one now one.taken (attributes_at now 0) pair.0 value (Some first.0) now-is (keys-first left rest pair is keys).0 set-is in
+    let first = sets-first (bench_attributes before 0) (bench_attributes now 0) pairs left rest pair so_far is may in
+    let now-is : now ≡ one_with one.taken (bench_attributes now 0) = after ∙ with-is before one (bench_attributes now 0) in
+    let set-is : with_set (FromQueue 0) (bench_attributes now 0) (pair.0, value) ≡ Some first.0 = ap (λ v. with_set (FromQueue 0) (bench_attributes now 0) (pair.0, v)) value-is ∙ first.1 in
+    let comes : PutComesTo one.taken now pair.0 value (Some first.0) = put-at-one now one.taken (bench_attributes now 0) pair.0 value (Some first.0) now-is (keys-first left rest pair is keys).0 set-is in
     record { set = first.0; set_is = first.1; free = comes.0; after = comes.1 }
 
-pub put-keeps : (before now new : Bench) (one : TookOne before) (pair : Pair) (value : List ℕ) (put : PutOne before now one pair value) → new ≡ with_put now 0 pair.0 value → new ≡ with_attributes before 0 (attributes_at new 0)
+pub put-keeps : (before now new : Bench) (one : TookOne before) (pair : Pair) (value : List ℕ) (put : PutOne before now one pair value) → new ≡ with_put now 0 pair.0 value → new ≡ with_attributes before 0 (bench_attributes new 0)
 put-keeps before now new one pair value put new-is =
     let is : new ≡ one_with one.taken put.set = new-is ∙ put.after in
-    is ∙ sym (ap (one_with one.taken) (ap (λ b. attributes_at b 0) is)) ∙ sym (with-is before one (attributes_at new 0))
+    is ∙ sym (ap (one_with one.taken) (ap (λ b. bench_attributes b 0) is)) ∙ sym (with-is before one (bench_attributes new 0))
 
-pub put-sets : (before now new : Bench) (one : TookOne before) (pair : Pair) (value : List ℕ) (put : PutOne before now one pair value) → new ≡ with_put now 0 pair.0 value → with_set (FromQueue 0) (attributes_at now 0) pair ≡ Some (attributes_at new 0)
-put-sets before now new one pair value put new-is = put.set_is ∙ ap Some (sym (ap (λ b. attributes_at b 0) (new-is ∙ put.after)))
+pub put-sets : (before now new : Bench) (one : TookOne before) (pair : Pair) (value : List ℕ) (put : PutOne before now one pair value) → new ≡ with_put now 0 pair.0 value → with_set (FromQueue 0) (bench_attributes now 0) pair ≡ Some (bench_attributes new 0)
+put-sets before now new one pair value put new-is = put.set_is ∙ ap Some (sym (ap (λ b. bench_attributes b 0) (new-is ∙ put.after)))
 
 -- ---- all set, and the file passed on
 
@@ -170,16 +170,16 @@ all-set before new one None after may = cc
 pub set-open : (before new : Bench) (one : TookOne before) (wanted : Option AttributeMap) → AllSet before new one wanted → HasOneOpen new
 set-open before new one wanted all = with-open new one.taken all.set all.after
 
-pub set-ends : (before new after : Bench) (one : TookOne before) (wanted : Option AttributeMap) → AllSet before new one wanted → EndsWith new after (all_to 0 new.files) → EndsWith before after (passed_with (attributes_at before 0) wanted)
+pub set-ends : (before new after : Bench) (one : TookOne before) (wanted : Option AttributeMap) → AllSet before new one wanted → EndsWith new after (all_to 0 new.files) → EndsWith before after (passed_with (bench_attributes before 0) wanted)
 set-ends before new after one wanted all ends =
     ends-behind before new after _ _ (with-keeps before new one.taken one.taken.attributes all.set one.begun all.after)
-    (ap (λ (b : Bench). all_to 0 b.files) all.after ∙ ap (passed_with (attributes_at before 0)) (sym all.is)) ends
+    (ap (λ (b : Bench). all_to 0 b.files) all.after ∙ ap (passed_with (bench_attributes before 0)) (sym all.is)) ends
 
-pub none-ends : (before after : Bench) (one : TookOne before) (wanted : Option AttributeMap) → wanted ≡ None → EndsWith before after (all_to 1 before.files) → EndsWith before after (passed_with (attributes_at before 0) wanted)
+pub none-ends : (before after : Bench) (one : TookOne before) (wanted : Option AttributeMap) → wanted ≡ None → EndsWith before after (all_to 1 before.files) → EndsWith before after (passed_with (bench_attributes before 0) wanted)
 none-ends before after one wanted none ends =
     ends-behind before before after _ _ (record { relationships = refl; sources = refl })
-    (ap (λ (b : Bench). all_to 1 b.files) one.begun ∙ ap (λ attributes. passed_with attributes None) (sym (ap (λ b. attributes_at b 0) one.begun))
-    ∙ ap (passed_with (attributes_at before 0)) (sym none)) ends
+    (ap (λ (b : Bench). all_to 1 b.files) one.begun ∙ ap (λ attributes. passed_with attributes None) (sym (ap (λ b. bench_attributes b 0) one.begun))
+    ∙ ap (passed_with (bench_attributes before 0)) (sym none)) ends
 
 -- ---- the processor
 
@@ -208,16 +208,16 @@ abbrev meant : List OwnExpression → AttributeMap → List ℕ → Outcome
 meant own attributes uuid =
     passed_with attributes (option_and_then (with_all_set (FromQueue 0) attributes) (own_texts (found_in (record { attributes = attributes; uuid = uuid; bytes = [] })) own))
 
-pub update-acts : (own : List OwnExpression) (before : Bench) (given : Given) (after : Bench) (attributes : AttributeMap) (uuid : List ℕ) (texts : Option (List Pair)) → Begins (UpdateAttribute own) before given → attributes ≡ attributes_at before 0
+pub update-acts : (own : List OwnExpression) (before : Bench) (given : Given) (after : Bench) (attributes : AttributeMap) (uuid : List ℕ) (texts : Option (List Pair)) → Begins (UpdateAttribute own) before given → attributes ≡ bench_attributes before 0
     → option_map (λ source. source.uuid) (slice_get before.sources 0) ≡ Some uuid → own_texts (found_in (record { attributes = attributes; uuid = uuid; bytes = [] })) own ≡ texts
-    → EndsWith before after (passed_with (attributes_at before 0) (option_and_then (with_all_set (FromQueue 0) (attributes_at before 0)) texts)) → EndsAs (UpdateAttribute own) before given after
+    → EndsWith before after (passed_with (bench_attributes before 0) (option_and_then (with_all_set (FromQueue 0) (bench_attributes before 0)) texts)) → EndsAs (UpdateAttribute own) before given after
 update-acts own before given after attributes uuid texts begins attributes-is uuid-is texts-is ends =
     one-acts (UpdateAttribute own) before given after refl begins ends.finished ends.kept
     (λ taken file began alike. of_file file (taken-attributes before taken file began alike ∙ sym attributes-is) (taken-uuid before taken file uuid began alike uuid-is))
   where
     of_file : (file : TakenFile) → file.attributes ≡ attributes → file.uuid ≡ uuid → act (UpdateAttribute own) (file ∷ []) given ≡ Some (outcome_of after)
     of_file file same-attributes same-uuid =
-        let same : meant own file.attributes file.uuid ≡ passed_with (attributes_at before 0) (option_and_then (with_all_set (FromQueue 0) (attributes_at before 0)) texts) =
+        let same : meant own file.attributes file.uuid ≡ passed_with (bench_attributes before 0) (option_and_then (with_all_set (FromQueue 0) (bench_attributes before 0)) texts) =
         ap (λ a. meant own a file.uuid) same-attributes ∙ ap (meant own attributes) same-uuid
         ∙ ap (λ o. passed_with attributes (option_and_then (with_all_set (FromQueue 0) attributes) o)) texts-is
         ∙ ap (λ a. passed_with a (option_and_then (with_all_set (FromQueue 0) a) texts)) attributes-is in

@@ -6,7 +6,7 @@ ghost use Rattle.serde_json.specs.Data.{put as with_member};
 ghost use Rattle.serde_json.specs.View.{members_view};
 ghost use Rattle.machine_model.specs.Making.{as_content};
 ghost use Rattle.machine_model.specs.AttributesToJson.{json_of, listed};
-ghost use Rattle.process_session.specs.Bench.{attributes_at};
+ghost use Rattle.process_session.specs.Bench.{bench_attributes};
 ghost use Rattle.processor_api.specs.Sessions.{TookOne, EndsWith};
 ghost use Rattle.proc_attribute.specs.Kinds.{is_attributes_to_json};
 ghost use Rattle.proc_attribute.specs.Json.{found_pair, replaced_with, with_texts};
@@ -78,7 +78,7 @@ impl Acts for AttributesToJson<'_> {
 fn replace(session: &mut Session, bytes: Vec<u8>)
     requires { TookOne session.old }
     ensures { EndsWith session.old session.new
-        (replaced_with (attributes_at session.old FILE) (as_content bytes.items)) }
+        (replaced_with (bench_attributes session.old FILE) (as_content bytes.items)) }
 {
     let size = file_of(session).attributes.size();
     prove!(size <= ATTRIBUTES_MAX);

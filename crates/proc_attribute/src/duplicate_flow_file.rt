@@ -2,7 +2,7 @@
 ghost use Rattle.std.specs.Prelude.{◌≡◌, ◌<◌, ◌≤◌, replicate, true, IfSome, OnOk, is_some};
 ghost use Rattle.machine_model.specs.declared.limits.TheConstants.{COPIES_MAX};
 ghost use Rattle.machine_model.specs.Making.{clone_of};
-ghost use Rattle.process_session.specs.Bench.{attributes_at};
+ghost use Rattle.process_session.specs.Bench.{bench_attributes};
 ghost use Rattle.processor_api.specs.Sessions.{BeganWithOne};
 ghost use Rattle.processor_api.specs.Cloning.{may_be_cloned, with_ended};
 ghost use Rattle.proc_attribute.specs.Kinds.{is_duplicate_flow_file};
@@ -68,7 +68,7 @@ fn add_clones(session: &mut Session, copies: u16) -> Result<(), AllocError>
     requires few { copies ≤ COPIES_MAX }
     requires may { 0 < copies → may_be_cloned session.old ≡ true }
     ensures { OnOk result (session.new ≡ with_ended session.old
-        (replicate copies (clone_of FILE (attributes_at session.old FILE) SUCCESS))) }
+        (replicate copies (clone_of FILE (bench_attributes session.old FILE) SUCCESS))) }
 {
     for _ in 0..copies {
         add_clone(session, SUCCESS)?;

@@ -3,7 +3,7 @@ ghost use Rattle.std.specs.Prelude.{◌≡◌, ◌<◌, IsTrue, OnOk};
 ghost use Rattle.flowfile_record.specs.Attributes.{has_key_length};
 ghost use Rattle.flowfile_record.specs.declared.worked.Origin.TheVariants.{Taken as FromQueue};
 ghost use Rattle.machine_model.specs.Making.{with_set};
-ghost use Rattle.process_session.specs.Bench.{attributes_at};
+ghost use Rattle.process_session.specs.Bench.{bench_attributes};
 ghost use Rattle.processor_api.specs.Sessions.{TookOne, HasOneOpen, EndsWith};
 ghost use Rattle.proc_attribute.specs.Passing.{all_to, passed_with};
 
@@ -25,7 +25,7 @@ pub(crate) fn pass(session: &mut Session, relationship: u16)
 pub(crate) fn note(session: &mut Session, key: &str, value: &str) -> Result<(), AllocError>
     requires one { TookOne session.old }
     requires key { IsTrue (has_key_length key.now) }
-    ensures { let attributes = attributes_at session.old FILE in
+    ensures { let attributes = bench_attributes session.old FILE in
         OnOk result (EndsWith session.old session.new
         (passed_with attributes (with_set (FromQueue FILE) attributes (key.now, value.now)))) }
 {

@@ -1,7 +1,7 @@
 //! What is known of the file that a session took.
 ghost use Rattle.std.specs.Prelude.{◌≡◌, slice_get, Some};
 ghost use Rattle.std.specs.Option.{option_map};
-ghost use Rattle.process_session.specs.Bench.{attributes_at};
+ghost use Rattle.process_session.specs.Bench.{bench_attributes};
 ghost use Rattle.processor_api.specs.Sessions.{TookOne};
 
 use expr_lang::Subject;
@@ -34,7 +34,7 @@ impl Subject for Taken<'_> {
 /// The file of a session that took one.
 pub(crate) fn file_of(session: &Session) -> Taken<'_>
     requires { TookOne session.now }
-    ensures attributes { result.attributes.now ≡ attributes_at session.now FILE }
+    ensures attributes { result.attributes.now ≡ bench_attributes session.now FILE }
     ensures uuid { option_map (λ source. source.uuid) (slice_get session.now.sources FILE) ≡ Some result.uuid.now }
 {
     let (Some(attributes), Some(uuid)) = (session.attributes(FILE), session.uuid(FILE)) else {

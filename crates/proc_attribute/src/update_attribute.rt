@@ -6,7 +6,7 @@ ghost use Rattle.expr_lang.specs.Meaning.{tree_value};
 ghost use Rattle.expr_lang.specs.View.{tree_of};
 ghost use Rattle.machine_model.specs.Making.{found_in, with_all_set};
 ghost use Rattle.machine_model.specs.UpdateAttribute.{own_texts, text_in};
-ghost use Rattle.process_session.specs.Bench.{attributes_at};
+ghost use Rattle.process_session.specs.Bench.{bench_attributes};
 ghost use Rattle.process_session.specs.Changes.{with_attributes};
 ghost use Rattle.processor_api.specs.Sessions.{TookOne, EndsWith};
 ghost use Rattle.proc_attribute.specs.Kinds.{is_update_attribute};
@@ -112,7 +112,7 @@ fn text_over(alloc: Global, expression: &Expr, file: &Taken) -> Result<Option<St
 fn set_if_fit(session: &mut Session, settings: &[Setting]) -> Result<(), AllocError>
     requires one { TookOne session.old }
     requires keys { IsTrue (have_keys (map set_by settings.now)) }
-    ensures { let attributes = attributes_at session.old FILE in
+    ensures { let attributes = bench_attributes session.old FILE in
         OnOk result (EndsWith session.old session.new
         (passed_with attributes (with_all_set (FromQueue FILE) attributes (map set_by settings.now)))) }
 {
@@ -147,9 +147,9 @@ fn set(session: &mut Session, settings: &[Setting]) -> Result<(), AllocError>
     requires one { TookOne session.old }
     requires keys { IsTrue (have_keys (map set_by settings.now)) }
     requires may { IsTrue (is_some
-        (with_all_set (FromQueue FILE) (attributes_at session.old FILE) (map set_by settings.now))) }
+        (with_all_set (FromQueue FILE) (bench_attributes session.old FILE) (map set_by settings.now))) }
     ensures { OnOk result
-        (IfSome (with_all_set (FromQueue FILE) (attributes_at session.old FILE) (map set_by settings.now))
+        (IfSome (with_all_set (FromQueue FILE) (bench_attributes session.old FILE) (map set_by settings.now))
         (λ set. session.new ≡ with_attributes session.old FILE set)) }
 {
     for setting in settings {

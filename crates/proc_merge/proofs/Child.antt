@@ -25,15 +25,15 @@ use Rattle.process_session.specs.declared.error.SessionError.{SessionError}
 use Rattle.process_session.specs.declared.error.SessionError.TheVariants.{Memory}
 use Rattle.process_session.specs.declared.file.File.{File}
 use Rattle.process_session.specs.declared.file.Taken.{Taken}
-use Rattle.process_session.specs.Bench.{Bench, HasItsSize, IsWhole, attributes_at, made_size, source_of}
-use Rattle.process_session.specs.Changes.{attributed_file, common_attributes, made_file, with_attributes, with_end, with_joined, with_written, written_file}
+use Rattle.process_session.specs.Bench.{Bench, HasItsSize, IsWhole, bench_attributes, made_size, taken_source}
+use Rattle.process_session.specs.Changes.{attributed_file, common_attributes, new_file, with_attributes, with_end, with_joined, with_written, written_file}
 use Rattle.process_session.specs.Finish.{is_left_out}
 use Rattle.process_session.specs.Reasons.{IsRefusal, IsRefusalBehind, Refusal, already_ended, session_full}
-use Rattle.process_session.specs.Refusals.{ended_files, refusal_of_create_joined, refusal_of_parents, refusal_of_remove, refusal_of_transfer, refusal_of_write, unknown_files}
+use Rattle.process_session.specs.Refusals.{ended_refusal, refusal_of_create_joined, refusal_of_parents, refusal_of_remove, refusal_of_transfer, refusal_of_write, unknown_files}
 use Rattle.process_session.proofs.Refusing.{no_refusal}
 use Rattle.processor_api.proofs.Answered.{only_memory}
 use Rattle.processor_api.specs.Acts.{AreRead, fit_a_content}
-use Rattle.proc_merge.specs.Joining.{HasJoined, IsDescribed, IsJoined, described, file_joined, joined_file, of_parents, origin_joined, with_child, with_more}
+use Rattle.proc_merge.specs.Joining.{HasJoined, IsDescribed, IsJoined, described, file_joined, joined_file, of_parents, origin_joined, with_joined_child, with_more}
 use Rattle.proc_merge.specs.Taken.{IsSmall, TookSome, bytes_read, files_seen}
 use Rattle.proc_merge.proofs.Benches.{no_file, at-seam, change-seam, few_attributes, known, known-within, next, remove-free, roomy, short_content, still_open, transfer-free}
 use Rattle.proc_merge.proofs.Reading.{IsOpen, as-many, many-taken, open-taken}
@@ -56,7 +56,7 @@ open-at bench place took within =
     let all : All IsOpen bench.files = subst (All IsOpen) (sym (ap (λ (b : Bench). b.files) took.begun)) (open-taken 0 took.taken) in
     still_open bench place (get_or bench.files place no_file) (slice_get-get_or bench.files place no_file within) (All-get_or IsOpen bench.files place no_file within all)
 
-parents-free : (bench : Bench) (from count : ℕ) → TookSome bench → from + count ≤ length bench.files → (unknown_files bench (range_with_len from count) ≡ None) × (ended_files bench (range_with_len from count) ≡ None)
+parents-free : (bench : Bench) (from count : ℕ) → TookSome bench → from + count ≤ length bench.files → (unknown_files bench (range_with_len from count) ≡ None) × (ended_refusal bench (range_with_len from count) ≡ None)
 parents-free bench from zero took within = (refl, refl)
 parents-free bench from (suc count) took within =
     let rest = parents-free bench (from + 1) count took (omega arith) in
@@ -78,16 +78,16 @@ common-of-all : (bench : Bench) → TookSome bench → common_attributes bench (
 common-of-all bench took =
     ap (λ n. common_attributes bench (range_with_len 0 n)) (sym (as-many bench took)) ∙ common-is bench (omega (arith, some-files bench took))
 
-pub joined-is : (bench : Bench) → TookSome bench → with_joined bench (parents_of_all bench) ≡ with_child bench (shared_by_all (files_seen bench))
+pub joined-is : (bench : Bench) → TookSome bench → with_joined bench (parents_of_all bench) ≡ with_joined_child bench (shared_by_all (files_seen bench))
 joined-is bench took =
-    ap (λ a. record bench { files = bench.files ++ made_file (origin_joined (length bench.sources)) a (New []) ∷ [] }) (common-of-all bench took)
+    ap (λ a. record bench { files = bench.files ++ new_file (origin_joined (length bench.sources)) a (New []) ∷ [] }) (common-of-all bench took)
 
 create-free : (bench : Bench) → TookSome bench → All IsSmall bench.files → made_size (shared_by_all (files_seen bench)) ≤ ATTRIBUTES_MAX → refusal_of_create_joined bench (parents_of_all bench) ≡ None
 create-free bench took small fits =
     let shared = shared_by_all (files_seen bench) in
     let parents = parents-free bench 0 (length bench.sources) took (omega (arith, as-many bench took)) in
     let sized = ap made_size (common-of-all bench took) in
-    let file = made_file (origin_joined (length bench.sources)) shared (New []) in
+    let file = new_file (origin_joined (length bench.sources)) shared (New []) in
     let full : session_full (with_joined bench (parents_of_all bench)) ≡ None =
     ap session_full (joined-is bench took) ∙ roomy bench.files file bench.handed (few-files bench took) small (omega (arith, fits)) (omega (arith, unwritten bench took)) in
     next _ _ parents.0 (next _ _ parents.1 (next _ _ (few_attributes _ (omega (arith, sized, fits))) (next _ _ full no_refusal)))
@@ -123,9 +123,9 @@ at-ok {A = A} {E = E} answer value P is holds =
 -- ---- as it is made
 
 pub has-joined : (bench now : Bench) (place : ℕ) (shared : AttributeMap) → TookSome bench → All IsSmall bench.files → shared ≡ shared_by_all (files_seen bench) → made_size shared ≤ ATTRIBUTES_MAX → place ≡ length bench.files
-    → now ≡ with_child bench (shared_by_all (files_seen bench)) → HasJoined now place
+    → now ≡ with_joined_child bench (shared_by_all (files_seen bench)) → HasJoined now place
 has-joined bench now place shared took small same fits last is =
-    let now-is : now ≡ with_child bench shared = is ∙ ap (with_child bench) (sym same) in
+    let now-is : now ≡ with_joined_child bench shared = is ∙ ap (with_joined_child bench) (sym same) in
     record {
       before = bench.files;
       parents = range_with_len 0 (length bench.sources);
@@ -138,12 +138,12 @@ has-joined bench now place shared took small same fits last is =
       unwritten = ap (λ (b : Bench). b.handed) now-is ∙ unwritten bench took;
     }
 
-pub child-attributes : (bench now : Bench) (place : ℕ) (shared : AttributeMap) → shared ≡ shared_by_all (files_seen bench) → place ≡ length bench.files → now ≡ with_child bench (shared_by_all (files_seen bench)) → shared ≡ attributes_at now place
+pub child-attributes : (bench now : Bench) (place : ℕ) (shared : AttributeMap) → shared ≡ shared_by_all (files_seen bench) → place ≡ length bench.files → now ≡ with_joined_child bench (shared_by_all (files_seen bench)) → shared ≡ bench_attributes now place
 child-attributes bench now place shared same last is =
-    let child = with_child bench (shared_by_all (files_seen bench)) in
-    let file = made_file (origin_joined (length bench.sources)) (shared_by_all (files_seen bench)) (New []) in
+    let child = with_joined_child bench (shared_by_all (files_seen bench)) in
+    let file = new_file (origin_joined (length bench.sources)) (shared_by_all (files_seen bench)) (New []) in
     same ∙ sym (ap (λ o. option_map_or (λ (f : File). f.attributes) o empty) (at-seam bench.files [] file))
-    ∙ sym (ap (λ b. attributes_at b place) is ∙ ap (attributes_at child) last)
+    ∙ sym (ap (λ b. bench_attributes b place) is ∙ ap (bench_attributes child) last)
 
 -- which attributes it comes to
 origin-any : (strategy : MergeStrategy) (count : ℕ) (attributes : AttributeMap) → named_as_whole strategy (origin_joined count) attributes ≡ named_as_whole strategy of_parents attributes
@@ -171,12 +171,12 @@ many-seen bench took = length-map bench.files _ ∙ as-many bench took
 
 -- ---- its content
 
-size-read : (taken : List Taken) (bytes : List ℕ) → All IsWhole taken → bytes_read (map source_of taken) ≡ Some bytes → length bytes ≡ sum_by (λ file. file.size) taken
+size-read : (taken : List Taken) (bytes : List ℕ) → All IsWhole taken → bytes_read (map taken_source taken) ≡ Some bytes → length bytes ≡ sum_by (λ file. file.size) taken
 size-read [] bytes whole is = let same : [] ≡ bytes = cc in ap length (sym same)
 size-read (one ∷ taken) bytes whole is =
-    of_bytes one.bytes (bytes_read (map source_of taken)) (All-head IsWhole one taken whole) (λ more more_is. size-read taken more (All-tail IsWhole one taken whole) more_is) refl is
+    of_bytes one.bytes (bytes_read (map taken_source taken)) (All-head IsWhole one taken whole) (λ more more_is. size-read taken more (All-tail IsWhole one taken whole) more_is) refl is
   where
-    of_bytes : (o rest : Option (List ℕ)) → HasItsSize o one.size → ((more : List ℕ) → bytes_read (map source_of taken) ≡ Some more → length more ≡ sum_by (λ (file : Taken). file.size) taken) → bytes_read (map source_of taken) ≡ rest
+    of_bytes : (o rest : Option (List ℕ)) → HasItsSize o one.size → ((more : List ℕ) → bytes_read (map taken_source taken) ≡ Some more → length more ≡ sum_by (λ (file : Taken). file.size) taken) → bytes_read (map taken_source taken) ≡ rest
         → option_and_then (λ bytes. option_map (λ more. bytes ++ more) rest) o ≡ Some bytes → length bytes ≡ sum_by (λ (file : Taken). file.size) (one ∷ taken)
     of_bytes None rest sized others rest-is is = cc
     of_bytes (Some here) None sized others rest-is is = cc
@@ -185,35 +185,35 @@ size-read (one ∷ taken) bytes whole is =
         let long = ap length same in
         omega (arith, long, sized, length-append here more, others more rest-is, sum_by-cons (λ (file : Taken). file.size) one taken)
 
-first-read : (taken : List Taken) (bytes : List ℕ) → AreRead taken → bytes_read (map source_of taken) ≡ Some bytes → fit_a_content taken ≡ true
+first-read : (taken : List Taken) (bytes : List ℕ) → AreRead taken → bytes_read (map taken_source taken) ≡ Some bytes → fit_a_content taken ≡ true
 first-read [] bytes read is = refl
 first-read (one ∷ taken) bytes read is =
     sym (All-head (λ (file : Taken). is_some file.bytes ≡ fit_a_content (one ∷ taken)) one taken read.filled) ∙ of_bytes one.bytes is
   where
-    of_bytes : (o : Option (List ℕ)) → option_and_then (λ bytes. option_map (λ more. bytes ++ more) (bytes_read (map source_of taken))) o ≡ Some bytes → is_some o ≡ true
+    of_bytes : (o : Option (List ℕ)) → option_and_then (λ bytes. option_map (λ more. bytes ++ more) (bytes_read (map taken_source taken))) o ≡ Some bytes → is_some o ≡ true
     of_bytes None is = cc
     of_bytes (Some here) is = refl
 
 pub short-read : (bench : Bench) (bytes : List ℕ) → TookSome bench → bytes_read bench.sources ≡ Some bytes → length bytes ≤ CONTENT_MAX
 short-read bench bytes took is =
-    let is-so : bytes_read (map source_of took.taken) ≡ Some bytes = ap (λ (b : Bench). bytes_read b.sources) (sym took.begun) ∙ is in
+    let is-so : bytes_read (map taken_source took.taken) ≡ Some bytes = ap (λ (b : Bench). bytes_read b.sources) (sym took.begun) ∙ is in
     omega (arith, size-read took.taken bytes took.read.whole is-so, leb-true (sum_by (λ (file : Taken). file.size) took.taken) CONTENT_MAX (first-read took.taken bytes took.read is-so))
 
 -- ---- how it ends
 
 -- with other attributes it is as it was made
-pub child-described : (bench made now : Bench) (place : ℕ) (shared attributes : AttributeMap) → place ≡ length bench.files → made ≡ with_child bench shared → now ≡ with_attributes made place attributes → now ≡ with_child bench attributes
+pub child-described : (bench made now : Bench) (place : ℕ) (shared attributes : AttributeMap) → place ≡ length bench.files → made ≡ with_joined_child bench shared → now ≡ with_attributes made place attributes → now ≡ with_joined_child bench attributes
 child-described bench made now place shared attributes last is described =
-    let file = made_file (origin_joined (length bench.sources)) shared (New []) in
-    described ∙ ap (λ b. with_attributes b place attributes) is ∙ ap (λ p. with_attributes (with_child bench shared) p attributes) last
+    let file = new_file (origin_joined (length bench.sources)) shared (New []) in
+    described ∙ ap (λ b. with_attributes b place attributes) is ∙ ap (λ p. with_attributes (with_joined_child bench shared) p attributes) last
     ∙ ap (λ files. record bench { files = files }) (change-seam (attributed_file attributes) bench.files [] file)
 
-child-there : (bench now : Bench) (place : ℕ) (attributes : AttributeMap) → place ≡ length bench.files → now ≡ with_child bench attributes
-    → slice_get now.files place ≡ Some (made_file (origin_joined (length bench.sources)) attributes (New []))
+child-there : (bench now : Bench) (place : ℕ) (attributes : AttributeMap) → place ≡ length bench.files → now ≡ with_joined_child bench attributes
+    → slice_get now.files place ≡ Some (new_file (origin_joined (length bench.sources)) attributes (New []))
 child-there bench now place attributes last is =
-    ap (λ (b : Bench). slice_get b.files place) is ∙ ap (slice_get (with_child bench attributes).files) last ∙ at-seam bench.files [] (made_file (origin_joined (length bench.sources)) attributes (New []))
+    ap (λ (b : Bench). slice_get b.files place) is ∙ ap (slice_get (with_joined_child bench attributes).files) last ∙ at-seam bench.files [] (new_file (origin_joined (length bench.sources)) attributes (New []))
 
-pub child-remove : (bench now : Bench) (place : ℕ) (attributes : AttributeMap) → place ≡ length bench.files → now ≡ with_child bench attributes → refusal_of_remove now place ≡ None
+pub child-remove : (bench now : Bench) (place : ℕ) (attributes : AttributeMap) → place ≡ length bench.files → now ≡ with_joined_child bench attributes → refusal_of_remove now place ≡ None
 child-remove bench now place attributes last is = remove-free now place _ (child-there bench now place attributes last is) refl
 
 child-ended : (bench now : Bench) (place handed : ℕ) (file : File) (how : End) → place ≡ length bench.files → now ≡ with_more bench (file ∷ []) handed
@@ -222,10 +222,10 @@ child-ended bench now place handed file how last is =
     ap (λ b. with_end b place how) is ∙ ap (λ p. with_end (with_more bench (file ∷ []) handed) p how) last
     ∙ ap (λ files. record bench { files = files; handed = handed }) (change-seam (λ file. record file { «end» = Some how }) bench.files [] file)
 
-pub child-removed : (bench now after : Bench) (place : ℕ) (attributes : AttributeMap) (wanted : Option File) → place ≡ length bench.files → now ≡ with_child bench attributes → after ≡ with_end now place Removed → wanted ≡ None
+pub child-removed : (bench now after : Bench) (place : ℕ) (attributes : AttributeMap) (wanted : Option File) → place ≡ length bench.files → now ≡ with_joined_child bench attributes → after ≡ with_end now place Removed → wanted ≡ None
     → IsJoined bench after wanted false
 child-removed bench now after place attributes wanted last is removed none =
-    let file = made_file (origin_joined (length bench.sources)) attributes (New []) in
+    let file = new_file (origin_joined (length bench.sources)) attributes (New []) in
     let gone : File = record file { «end» = Some Removed } in
     subst (λ o. IsJoined bench after o false) (sym none)
     (gone ∷ [], bench.handed, All-cons (λ file. is_left_out file ≡ true) gone [] refl (All-nil (λ file. is_left_out file ≡ true)), removed ∙ child-ended bench now place bench.handed file Removed last is)
@@ -235,22 +235,22 @@ nothing-made bench wanted none =
     subst (λ o. IsJoined bench bench o false) (sym none)
     ([], bench.handed, All-nil (λ file. is_left_out file ≡ true), ap (λ files. record bench { files = files }) (sym (append-nil bench.files)))
 
-pub write-free : (bench now : Bench) (place : ℕ) (attributes : AttributeMap) (bytes : List ℕ) → TookSome bench → All IsSmall bench.files → place ≡ length bench.files → now ≡ with_child bench attributes → made_size attributes ≤ ATTRIBUTES_MAX
+pub write-free : (bench now : Bench) (place : ℕ) (attributes : AttributeMap) (bytes : List ℕ) → TookSome bench → All IsSmall bench.files → place ≡ length bench.files → now ≡ with_joined_child bench attributes → made_size attributes ≤ ATTRIBUTES_MAX
     → length bytes ≤ CONTENT_MAX → refusal_of_write now place bytes ≡ None
 write-free bench now place attributes bytes took small last is fits short =
-    let file = made_file (origin_joined (length bench.sources)) attributes (New []) in
+    let file = new_file (origin_joined (length bench.sources)) attributes (New []) in
     let there = child-there bench now place attributes last is in
     let full : session_full (with_written now place bytes) ≡ None =
-    ap (λ b. session_full (with_written b place bytes)) is ∙ ap (λ p. session_full (with_written (with_child bench attributes) p bytes)) last
+    ap (λ b. session_full (with_written b place bytes)) is ∙ ap (λ p. session_full (with_written (with_joined_child bench attributes) p bytes)) last
     ∙ ap (λ files. session_full (record bench { files = files; handed = bench.handed + length bytes })) (change-seam (written_file bytes) bench.files [] file)
     ∙ roomy bench.files (written_file bytes file) (bench.handed + length bytes) (few-files bench took) small (omega (arith, fits)) (omega (arith, short, unwritten bench took)) in
     next _ _ (known now place file there) (next _ _ (still_open now place file there refl) (next _ _ (short_content _ short) (next _ _ full no_refusal)))
 
-pub child-written : (bench now after : Bench) (place : ℕ) (attributes : AttributeMap) (bytes : List ℕ) → place ≡ length bench.files → now ≡ with_child bench attributes → after ≡ with_written now place bytes
-    → after ≡ with_more bench (written_file bytes (made_file (origin_joined (length bench.sources)) attributes (New [])) ∷ []) (bench.handed + length bytes)
+pub child-written : (bench now after : Bench) (place : ℕ) (attributes : AttributeMap) (bytes : List ℕ) → place ≡ length bench.files → now ≡ with_joined_child bench attributes → after ≡ with_written now place bytes
+    → after ≡ with_more bench (written_file bytes (new_file (origin_joined (length bench.sources)) attributes (New [])) ∷ []) (bench.handed + length bytes)
 child-written bench now after place attributes bytes last is written =
-    let file = made_file (origin_joined (length bench.sources)) attributes (New []) in
-    written ∙ ap (λ b. with_written b place bytes) is ∙ ap (λ p. with_written (with_child bench attributes) p bytes) last
+    let file = new_file (origin_joined (length bench.sources)) attributes (New []) in
+    written ∙ ap (λ b. with_written b place bytes) is ∙ ap (λ p. with_written (with_joined_child bench attributes) p bytes) last
     ∙ ap (λ files. record bench { files = files; handed = bench.handed + length bytes }) (change-seam (written_file bytes) bench.files [] file)
 
 pub child-transfer : (bench now : Bench) (place handed relationship : ℕ) (file : File) → place ≡ length bench.files → now ≡ with_more bench (file ∷ []) handed → file.«end» ≡ None → relationship < bench.relationships → refusal_of_transfer now place relationship ≡ None
@@ -259,21 +259,21 @@ child-transfer bench now place handed relationship file last is opened goes =
     ∙ transfer-free (with_more bench (file ∷ []) handed) (length bench.files) relationship file (at-seam bench.files [] file) opened goes
 
 pub child-joined : (bench now after : Bench) (place handed : ℕ) (attributes : AttributeMap) (bytes : List ℕ) (wanted : Option File) → place ≡ length bench.files
-    → now ≡ with_more bench (written_file bytes (made_file (origin_joined (length bench.sources)) attributes (New [])) ∷ []) handed → after ≡ with_end now place (To 0) → wanted ≡ Some (joined_file (length bench.sources) attributes bytes)
+    → now ≡ with_more bench (written_file bytes (new_file (origin_joined (length bench.sources)) attributes (New [])) ∷ []) handed → after ≡ with_end now place (To 0) → wanted ≡ Some (joined_file (length bench.sources) attributes bytes)
     → IsJoined bench after wanted true
 child-joined bench now after place handed attributes bytes wanted last is ended some =
-    let file = written_file bytes (made_file (origin_joined (length bench.sources)) attributes (New [])) in
+    let file = written_file bytes (new_file (origin_joined (length bench.sources)) attributes (New [])) in
     subst (λ o. IsJoined bench after o true) (sym some) (handed, ended ∙ child-ended bench now place handed file (To 0) last is)
 
 -- ---- by what describing it came to
 
-pub refused-child : (bench made now : Bench) (place : ℕ) (shared : AttributeMap) (wanted : Option AttributeMap) → place ≡ length bench.files → made ≡ with_child bench shared → IsDescribed made now place wanted false
-    → (attributes : AttributeMap) × (wanted ≡ None) × (now ≡ with_child bench attributes)
+pub refused-child : (bench made now : Bench) (place : ℕ) (shared : AttributeMap) (wanted : Option AttributeMap) → place ≡ length bench.files → made ≡ with_joined_child bench shared → IsDescribed made now place wanted false
+    → (attributes : AttributeMap) × (wanted ≡ None) × (now ≡ with_joined_child bench attributes)
 refused-child bench made now place shared (Some attributes) last is described = absurd described
 refused-child bench made now place shared None last is described = (described.0, refl, child-described bench made now place shared described.0 last is described.1)
 
-pub done-child : (bench made now : Bench) (place : ℕ) (shared : AttributeMap) (wanted : Option AttributeMap) → place ≡ length bench.files → made ≡ with_child bench shared → IsDescribed made now place wanted true
-    → (attributes : AttributeMap) × (wanted ≡ Some attributes) × (now ≡ with_child bench attributes)
+pub done-child : (bench made now : Bench) (place : ℕ) (shared : AttributeMap) (wanted : Option AttributeMap) → place ≡ length bench.files → made ≡ with_joined_child bench shared → IsDescribed made now place wanted true
+    → (attributes : AttributeMap) × (wanted ≡ Some attributes) × (now ≡ with_joined_child bench attributes)
 done-child bench made now place shared None last is described = absurd described
 done-child bench made now place shared (Some attributes) last is described = (attributes, refl, child-described bench made now place shared attributes last is described)
 
@@ -292,7 +292,7 @@ unread-none strategy files bytes none = ap (file_joined strategy files) none ∙
     of_attributes (Some attributes) = refl
 
 pub wanted-is : (bench made : Bench) (strategy : MergeStrategy) (shared : AttributeMap) (wanted : Option AttributeMap) (bytes : Option (List ℕ)) → TookSome bench → shared ≡ shared_by_all (files_seen bench) → made_size shared ≤ ATTRIBUTES_MAX
-    → made ≡ with_child bench shared → described strategy (length made.sources) shared ≡ wanted → file_joined strategy (files_seen bench) bytes ≡ file_of (length bench.sources) wanted bytes
+    → made ≡ with_joined_child bench shared → described strategy (length made.sources) shared ≡ wanted → file_joined strategy (files_seen bench) bytes ≡ file_of (length bench.sources) wanted bytes
 wanted-is bench made strategy shared wanted bytes took same fits is wanted_so =
     let files = files_seen bench in
     let sources : length files ≡ length made.sources = many-seen bench took ∙ sym (ap (λ (b : Bench). length b.sources) is) in

@@ -19,8 +19,8 @@ use Rattle.machine_model.specs.declared.kind.MergeStrategy.TheVariants.{BinPacki
 use Rattle.process_session.specs.declared.error.SessionError.{SessionError}
 use Rattle.process_session.specs.declared.error.SessionError.TheVariants.{AttributesTooLarge, Memory}
 use Rattle.process_session.specs.declared.file.File.{File}
-use Rattle.process_session.specs.Bench.{Bench, attributes_at, made_size, named_size, origin_at}
-use Rattle.process_session.specs.Changes.{attributed_file, change_at, made_file, with_attributes, with_put, with_removed}
+use Rattle.process_session.specs.Bench.{Bench, bench_attributes, made_size, named_size, origin_at}
+use Rattle.process_session.specs.Changes.{attributed_file, change_at, new_file, with_attributes, with_put, with_removed}
 use Rattle.process_session.specs.Reasons.{IsErrorFor, attributes_too_large, bad_key, session_full, where_it_holds}
 use Rattle.process_session.specs.Refusals.{refusal_of_put, refusal_of_remove_attribute}
 use Rattle.process_session.proofs.Encoded.{absent-remove, encoded_size-remove}
@@ -32,7 +32,7 @@ use Rattle.proc_merge.proofs.Benches.{at-seam, change-seam, few_attributes, know
 -- ---- a session with the joined file
 
 abbrev pub joined_as : {bench : Bench} {place : ℕ} → HasJoined bench place → AttributeMap → File
-joined_as joined attributes = made_file (Joined joined.parents) attributes (New [])
+joined_as joined attributes = new_file (Joined joined.parents) attributes (New [])
 
 pub joined-there : (bench : Bench) (place : ℕ) (joined : HasJoined bench place) → slice_get bench.files place ≡ Some (joined_as joined joined.attributes)
 joined-there bench place joined =
@@ -40,7 +40,7 @@ joined-there bench place joined =
     ∙ ap (slice_get (joined.before ++ joined_as joined joined.attributes ∷ [])) joined.last
     ∙ at-seam joined.before [] (joined_as joined joined.attributes)
 
-pub joined-attributes : (bench : Bench) (place : ℕ) (joined : HasJoined bench place) → attributes_at bench place ≡ joined.attributes
+pub joined-attributes : (bench : Bench) (place : ℕ) (joined : HasJoined bench place) → bench_attributes bench place ≡ joined.attributes
 joined-attributes bench place joined = ap (λ o. option_map_or (λ (file : File). file.attributes) o empty) (joined-there bench place joined)
 
 joined-origin : (bench : Bench) (place : ℕ) (joined : HasJoined bench place) → origin_at bench place ≡ Joined joined.parents
@@ -67,7 +67,7 @@ described-joined bench place attributes joined fits = record {
   unwritten = joined.unwritten;
 }
 
-pub attributes-described : (bench : Bench) (place : ℕ) (attributes : AttributeMap) → HasJoined bench place → attributes_at (with_attributes bench place attributes) place ≡ attributes
+pub attributes-described : (bench : Bench) (place : ℕ) (attributes : AttributeMap) → HasJoined bench place → bench_attributes (with_attributes bench place attributes) place ≡ attributes
 attributes-described bench place attributes joined =
     let file = joined_as joined attributes in
     ap (λ files. option_map_or (λ (f : File). f.attributes) (slice_get files place) empty) (change-joined bench place joined (attributed_file attributes))
@@ -83,7 +83,7 @@ described-again bench place first second joined =
     ∙ change-seam (attributed_file second) joined.before [] file
     ∙ sym (change-joined bench place joined (attributed_file second)))
 
-pub described-same : (bench : Bench) (place : ℕ) → HasJoined bench place → bench ≡ with_attributes bench place (attributes_at bench place)
+pub described-same : (bench : Bench) (place : ℕ) → HasJoined bench place → bench ≡ with_attributes bench place (bench_attributes bench place)
 described-same bench place joined =
     ap (λ files. record bench { files = files })
     (joined.files ∙ sym (change-joined bench place joined (attributed_file joined.attributes)))
@@ -116,17 +116,17 @@ smaller attributes key other fits =
 pub remove_attribute-free : (bench : Bench) (place : ℕ) (key : List ℕ) → HasJoined bench place → bytes_eq key (codes "filename") ≡ false → refusal_of_remove_attribute bench place key ≡ None
 remove_attribute-free bench place key joined other =
     let there = joined-there bench place joined in
-    let attributes = remove (attributes_at bench place) key in
+    let attributes = remove (bench_attributes bench place) key in
     let fits : made_size attributes ≤ ATTRIBUTES_MAX =
-    smaller (attributes_at bench place) key other (subst (λ a. made_size a ≤ ATTRIBUTES_MAX) (sym (joined-attributes bench place joined)) joined.named) in
+    smaller (bench_attributes bench place) key other (subst (λ a. made_size a ≤ ATTRIBUTES_MAX) (sym (joined-attributes bench place joined)) joined.named) in
     let sized : named_size (origin_at bench place) attributes ≡ made_size attributes = ap (λ o. named_size o attributes) (joined-origin bench place joined) in
     next _ _ (known bench place _ there) (next _ _ (still_open bench place _ there refl) (next _ _ (few_attributes _ (omega (arith, sized, fits))) no_refusal))
 
 pub removed-joined : (bench now : Bench) (place : ℕ) (key : List ℕ) → HasJoined bench place → bytes_eq key (codes "filename") ≡ false → now ≡ with_removed bench place key → HasJoined now place
 removed-joined bench now place key joined other is =
     subst (λ b. HasJoined b place) (sym is)
-    (described-joined bench place (remove (attributes_at bench place) key) joined
-    (smaller (attributes_at bench place) key other (subst (λ a. made_size a ≤ ATTRIBUTES_MAX) (sym (joined-attributes bench place joined)) joined.named)))
+    (described-joined bench place (remove (bench_attributes bench place) key) joined
+    (smaller (bench_attributes bench place) key other (subst (λ a. made_size a ≤ ATTRIBUTES_MAX) (sym (joined-attributes bench place joined)) joined.named)))
 
 pub removed-more : (bench now after : Bench) (place : ℕ) (first : AttributeMap) (key : List ℕ) → HasJoined bench place → now ≡ with_attributes bench place first → after ≡ with_removed now place key
     → after ≡ with_attributes bench place (remove first key)
@@ -152,11 +152,11 @@ not_true true is = sym is
 not_true false is = refl
 
 -- what refuses a put is the size of the attributes alone
-put-only : (bench : Bench) (place : ℕ) (key value : List ℕ) → HasJoined bench place → has_key_length key ≡ true → is_uuid key ≡ false → made_size (insert (attributes_at bench place) key value) ≤ ATTRIBUTES_MAX
+put-only : (bench : Bench) (place : ℕ) (key value : List ℕ) → HasJoined bench place → has_key_length key ≡ true → is_uuid key ≡ false → made_size (insert (bench_attributes bench place) key value) ≤ ATTRIBUTES_MAX
     → refusal_of_put bench place key value ≡ None
 put-only bench place key value joined good isnt fits =
     let there = joined-there bench place joined in
-    let attributes = insert (attributes_at bench place) key value in
+    let attributes = insert (bench_attributes bench place) key value in
     let file = joined_as joined attributes in
     let sized : named_size (origin_at bench place) attributes ≡ made_size attributes = ap (λ o. named_size o attributes) (joined-origin bench place joined) in
     let files = change-joined bench place joined (attributed_file attributes) in
@@ -170,11 +170,11 @@ too_large : (size : ℕ) → nat_lt ATTRIBUTES_MAX size ≡ true → Some (Attri
 unfolding attributes_too_large
 too_large size is = sym (ap (λ b. where_it_holds b (AttributesTooLarge size)) is)
 
-put-refused : (bench : Bench) (place : ℕ) (key value : List ℕ) → HasJoined bench place → has_key_length key ≡ true → is_uuid key ≡ false → nat_lt ATTRIBUTES_MAX (made_size (insert (attributes_at bench place) key value)) ≡ true
-    → refusal_of_put bench place key value ≡ Some (AttributesTooLarge (made_size (insert (attributes_at bench place) key value)))
+put-refused : (bench : Bench) (place : ℕ) (key value : List ℕ) → HasJoined bench place → has_key_length key ≡ true → is_uuid key ≡ false → nat_lt ATTRIBUTES_MAX (made_size (insert (bench_attributes bench place) key value)) ≡ true
+    → refusal_of_put bench place key value ≡ Some (AttributesTooLarge (made_size (insert (bench_attributes bench place) key value)))
 put-refused bench place key value joined good isnt large =
     let there = joined-there bench place joined in
-    let attributes = insert (attributes_at bench place) key value in
+    let attributes = insert (bench_attributes bench place) key value in
     let sized : named_size (origin_at bench place) attributes ≡ made_size attributes = ap (λ o. named_size o attributes) (joined-origin bench place joined) in
     put_refusal bench place key value isnt
     ∙ pass _ _ (sym (known bench place _ there)) ∙ pass _ _ (sym (still_open bench place _ there refl)) ∙ pass _ _ (sym (good_key key good))
@@ -187,19 +187,19 @@ set-is attributes key value fits isnt may =
     let set = insert attributes key value in
     ap (λ b. cond b (Some attributes) (cond (may_have of_parents set) (Some set) None)) isnt ∙ ap (λ b. cond b (Some set) None) may
 
-put-is : (bench : Bench) (place : ℕ) (key value : List ℕ) → is_uuid key ≡ false → with_put bench place key value ≡ with_attributes bench place (insert (attributes_at bench place) key value)
-put-is bench place key value isnt = ap (λ b. cond b bench (with_attributes bench place (insert (attributes_at bench place) key value))) isnt
+put-is : (bench : Bench) (place : ℕ) (key value : List ℕ) → is_uuid key ≡ false → with_put bench place key value ≡ with_attributes bench place (insert (bench_attributes bench place) key value)
+put-is bench place key value isnt = ap (λ b. cond b bench (with_attributes bench place (insert (bench_attributes bench place) key value))) isnt
 
 abbrev IsGoodKey : List ℕ → Type 0
 IsGoodKey key = IsTrue (has_key_length key && not (is_uuid key))
 
 -- a put that isn't refused
 pub set-done : (bench after : Bench) (place : ℕ) (key value : List ℕ) → HasJoined bench place → IsGoodKey key → IsErrorFor None (refusal_of_put bench place key value) → after ≡ with_put bench place key value
-    → IsDescribed bench after place (with_set of_parents (attributes_at bench place) (key, value)) true
+    → IsDescribed bench after place (with_set of_parents (bench_attributes bench place) (key, value)) true
 set-done bench after place key value joined good free is =
     let parts = and_parts (has_key_length key) (not (is_uuid key)) good in
     let isnt = not_true (is_uuid key) parts.1 in
-    let attributes = attributes_at bench place in
+    let attributes = bench_attributes bench place in
     let size = made_size (insert attributes key value) in
     elim (cases_lt ATTRIBUTES_MAX size) [
       | inl large ↦
@@ -214,11 +214,11 @@ set-done bench after place key value joined good free is =
 
 -- and one that is
 pub set-refused : (bench after : Bench) (place : ℕ) (key value : List ℕ) (error : SessionError) → HasJoined bench place → IsGoodKey key → IsErrorFor (Some error) (refusal_of_put bench place key value) → ¬ (error ≡ Memory) → after ≡ bench
-    → IsDescribed bench after place (with_set of_parents (attributes_at bench place) (key, value)) false
+    → IsDescribed bench after place (with_set of_parents (bench_attributes bench place) (key, value)) false
 set-refused bench after place key value error joined good refused other is =
     let parts = and_parts (has_key_length key) (not (is_uuid key)) good in
     let isnt = not_true (is_uuid key) parts.1 in
-    let attributes = attributes_at bench place in
+    let attributes = bench_attributes bench place in
     let size = made_size (insert attributes key value) in
     elim (cases_lt ATTRIBUTES_MAX size) [
       | inl large ↦
@@ -248,16 +248,16 @@ named-by Defragment shared name is =
 -- the joined file is no fragment any more
 pub record IsNoFragment (bench now : Bench) (place : ℕ) (shared : AttributeMap) : Type 0 where
   pub is : now ≡ with_attributes bench place (without_fragment shared)
-  pub attributes : attributes_at now place ≡ without_fragment shared
+  pub attributes : bench_attributes now place ≡ without_fragment shared
   pub joined : HasJoined now place
 
-pub no-fragment : (bench now : Bench) (place : ℕ) (shared : AttributeMap) → HasJoined bench place → shared ≡ attributes_at bench place → now ≡ with_attributes bench place (without_fragment (attributes_at bench place)) → IsNoFragment bench now place shared
+pub no-fragment : (bench now : Bench) (place : ℕ) (shared : AttributeMap) → HasJoined bench place → shared ≡ bench_attributes bench place → now ≡ with_attributes bench place (without_fragment (bench_attributes bench place)) → IsNoFragment bench now place shared
 no-fragment bench now place shared joined same left =
     let is : now ≡ with_attributes bench place (without_fragment shared) = left ∙ ap (λ a. with_attributes bench place (without_fragment a)) (sym same) in
     let fits : made_size shared ≤ ATTRIBUTES_MAX = subst (λ a. made_size a ≤ ATTRIBUTES_MAX) (sym (same ∙ joined-attributes bench place joined)) joined.named in
     record {
       is = is;
-      attributes = ap (λ b. attributes_at b place) is ∙ attributes-described bench place (without_fragment shared) joined;
+      attributes = ap (λ b. bench_attributes b place) is ∙ attributes-described bench place (without_fragment shared) joined;
       joined = subst (λ b. HasJoined b place) (sym is) (described-joined bench place (without_fragment shared) joined (fragment-fits shared fits));
     }
 
@@ -282,7 +282,7 @@ pub record IsNamed (bench now : Bench) (place : ℕ) (wanted : Option AttributeM
   pub attributes : AttributeMap
   pub wanted_is : wanted ≡ Some attributes
   pub is : now ≡ with_attributes bench place attributes
-  pub attributes_is : attributes_at now place ≡ attributes
+  pub attributes_is : bench_attributes now place ≡ attributes
   pub joined : HasJoined now place
 
 is-described : (before after : Bench) (place : ℕ) (wanted : Option AttributeMap) → IsDescribed before after place wanted true → (attributes : AttributeMap) × (wanted ≡ Some attributes) × (after ≡ with_attributes before place attributes)
@@ -294,9 +294,9 @@ isnt-described before after place (Some attributes) described = absurd described
 isnt-described before after place None described = refl
 
 pub named-joined : (bench now named : Bench) (place : ℕ) (strategy : MergeStrategy) (shared : AttributeMap) (name : List ℕ) → HasJoined bench place → IsNoFragment bench now place shared → name_of_whole strategy shared ≡ Some name
-    → IsDescribed now named place (with_set of_parents (attributes_at now place) (codes "filename", name)) true → IsNamed bench named place (named_as_whole strategy of_parents (without_fragment shared))
+    → IsDescribed now named place (with_set of_parents (bench_attributes now place) (codes "filename", name)) true → IsNamed bench named place (named_as_whole strategy of_parents (without_fragment shared))
 named-joined bench now named place strategy shared name joined none name-is described =
-    let by-set : with_set of_parents (attributes_at now place) (codes "filename", name) ≡ with_set of_parents (without_fragment shared) (codes "filename", name) =
+    let by-set : with_set of_parents (bench_attributes now place) (codes "filename", name) ≡ with_set of_parents (without_fragment shared) (codes "filename", name) =
     ap (λ a. with_set of_parents a (codes "filename", name)) none.attributes in
     let set = is-described now named place _ described in
     let is : named ≡ with_attributes bench place set.0 = set.2 ∙ ap (λ b. with_attributes b place set.0) none.is ∙ described-again bench place (without_fragment shared) set.0 joined in
@@ -305,7 +305,7 @@ named-joined bench now named place strategy shared name joined none name-is desc
       attributes = set.0;
       wanted_is = named-by strategy shared (Some name) name-is ∙ set_is;
       is = is;
-      attributes_is = ap (λ b. attributes_at b place) is ∙ attributes-described bench place set.0 joined;
+      attributes_is = ap (λ b. bench_attributes b place) is ∙ attributes-described bench place set.0 joined;
       joined = subst (λ b. HasJoined b place) (sym is) (described-joined bench place set.0 joined (set-fits (without_fragment shared) set.0 (codes "filename") name refl set_is));
     }
 
@@ -319,7 +319,7 @@ unnamed-joined bench now place strategy shared none name-is = record {
 }
 
 pub name-refused : (bench now after : Bench) (place : ℕ) (strategy : MergeStrategy) (shared : AttributeMap) (name : List ℕ) (count : ℕ) → HasJoined bench place → IsNoFragment bench now place shared → name_of_whole strategy shared ≡ Some name
-    → IsDescribed now after place (with_set of_parents (attributes_at now place) (codes "filename", name)) false → IsDescribed bench after place (described strategy count shared) false
+    → IsDescribed now after place (with_set of_parents (bench_attributes now place) (codes "filename", name)) false → IsDescribed bench after place (described strategy count shared) false
 name-refused bench now after place strategy shared name count joined none name-is described_so =
     let set : with_set of_parents (without_fragment shared) (codes "filename", name) ≡ None =
     ap (λ a. with_set of_parents a (codes "filename", name)) (sym none.attributes) ∙ isnt-described now after place _ described_so in
@@ -329,20 +329,20 @@ name-refused bench now after place strategy shared name count joined none name-i
     (subst (λ o. IsDescribed now after place o false) (isnt-described now after place _ described_so) described_so))
 
 pub count-described : (bench named after : Bench) (place : ℕ) (strategy : MergeStrategy) (shared : AttributeMap) (done : Bool) → HasJoined bench place → IsNamed bench named place (named_as_whole strategy of_parents (without_fragment shared))
-    → IsDescribed named after place (counted (length named.sources) of_parents (attributes_at named place)) done → IsDescribed bench after place (described strategy (length bench.sources) shared) done
+    → IsDescribed named after place (counted (length named.sources) of_parents (bench_attributes named place)) done → IsDescribed bench after place (described strategy (length bench.sources) shared) done
 count-described bench named after place strategy shared done joined name described_so =
     let count : length named.sources ≡ length bench.sources = ap (λ (b : Bench). length b.sources) name.is in
     let wanted : described strategy (length bench.sources) shared ≡ counted (length bench.sources) of_parents name.attributes =
     ap (option_and_then (counted (length bench.sources) of_parents)) name.wanted_is in
-    subst (λ o. IsDescribed bench after place o done) (ap (λ n. counted n of_parents (attributes_at named place)) count ∙ ap (counted (length bench.sources) of_parents) name.attributes_is ∙ sym wanted)
+    subst (λ o. IsDescribed bench after place o done) (ap (λ n. counted n of_parents (bench_attributes named place)) count ∙ ap (counted (length bench.sources) of_parents) name.attributes_is ∙ sym wanted)
     (described-from bench named after place name.attributes _ done joined name.is described_so)
 
 -- the count, set behind the name of the whole
 pub count-done : (bench now after : Bench) (place count : ℕ) (value : List ℕ) (done : Bool) → HasJoined bench place → now ≡ with_removed bench place (codes "segment.original.filename") → value ≡ decimal count
-    → IsDescribed now after place (with_set of_parents (attributes_at now place) (codes "merge.count", value)) done → IsDescribed bench after place (counted count of_parents (attributes_at bench place)) done
+    → IsDescribed now after place (with_set of_parents (bench_attributes now place) (codes "merge.count", value)) done → IsDescribed bench after place (counted count of_parents (bench_attributes bench place)) done
 count-done bench now after place count value done joined is value-is described_so =
-    let left = remove (attributes_at bench place) (codes "segment.original.filename") in
-    let there : attributes_at now place ≡ left = ap (λ b. attributes_at b place) is ∙ attributes-described bench place left joined in
+    let left = remove (bench_attributes bench place) (codes "segment.original.filename") in
+    let there : bench_attributes now place ≡ left = ap (λ b. bench_attributes b place) is ∙ attributes-described bench place left joined in
     subst (λ o. IsDescribed bench after place o done)
     (ap (λ a. with_set of_parents a (codes "merge.count", value)) there ∙ ap (λ v. with_set of_parents left (codes "merge.count", v)) value-is)
     (described-from bench now after place left _ done joined is described_so)

@@ -23,14 +23,14 @@ use Rattle.machine_model.specs.declared.kind.MergeStrategy.{MergeStrategy}
 use Rattle.machine_model.specs.declared.kind.MergeStrategy.TheVariants.{BinPacking, Defragment}
 use Rattle.process_session.specs.declared.file.File.{File}
 use Rattle.process_session.specs.declared.file.Taken.{Taken}
-use Rattle.process_session.specs.Bench.{Bench, bench_of, source_of, taken_file, taken_files}
+use Rattle.process_session.specs.Bench.{Bench, bench_of, taken_source, taken_file, files_taken}
 use Rattle.process_session.specs.Finish.{outcome_of}
 use Rattle.process_session.specs.Reasons.{not_accounted_from}
 use Rattle.process_session.specs.Refusals.{refusal_of_finish}
 use Rattle.processor_api.specs.Acts.{AreRead, AreTakenAs, BeganWith, Begins, EndsAs, KeepsTaken, fit_a_content}
 use Rattle.proc_merge.specs.Joining.{IsJoined, file_joined, joined_file, origin_joined, with_more}
 use Rattle.proc_merge.specs.Passing.{with_all_passed}
-use Rattle.proc_merge.specs.Taken.{TookSome, bytes_read, files_seen, seen}
+use Rattle.proc_merge.specs.Taken.{TookSome, bytes_read, files_seen, file_seen}
 use Rattle.proc_merge.proofs.Reading.{IsOpen, as-many, count-taken, many-taken, open-taken}
 use Rattle.proc_merge.proofs.Child.{many-seen}
 use Rattle.proc_merge.proofs.Outcomes.{IsGone, all-passed, ended-gone, gives-joined, gives-up, joined-ended, outcome_with, passed-finished}
@@ -63,7 +63,7 @@ three strategy minimum maximum bench given begins = ap (λ (b : Bench). b.relati
 
 pub still-open : (bench now : Bench) (took : TookSome bench) (more : List File) (handed : ℕ) → now ≡ with_more bench more handed → All IsOpen (take (length now.sources) now.files)
 still-open bench now took more handed is =
-    let files = taken_files 0 took.taken in
+    let files = files_taken 0 took.taken in
     let many : length files ≡ length bench.sources = count-taken 0 took.taken ∙ sym (many-taken bench took) in
     let parts : take (length now.sources) now.files ≡ files =
     ap (λ (b : Bench). take (length b.sources) b.files) is ∙ ap (λ fs. take (length bench.sources) (fs ++ more)) (ap (λ (b : Bench). b.files) took.begun) ∙ take_at files more (length bench.sources) many in
@@ -81,7 +81,7 @@ no-more bench = ap (λ files. record bench { files = files }) (sym (append-nil b
 -- ---- the files of the machine
 
 record Together (one other : Taken) : Type 0 where
-  source : source_of one ≡ source_of other
+  source : taken_source one ≡ taken_source other
   attributes : one.attributes ≡ other.attributes
 
 same-one : (one other : Taken) → Together one other → one ≡ other
@@ -93,15 +93,15 @@ same-one one other same =
       bytes = (same.source j).bytes;
     }
 
-same-taken : (from : ℕ) (taken others : List Taken) → map source_of taken ≡ map source_of others → taken_files from taken ≡ taken_files from others → taken ≡ others
+same-taken : (from : ℕ) (taken others : List Taken) → map taken_source taken ≡ map taken_source others → files_taken from taken ≡ files_taken from others → taken ≡ others
 same-taken from [] [] sources files = refl
 same-taken from [] (other ∷ others) sources files = cc
 same-taken from (one ∷ taken) [] sources files = cc
 same-taken from (one ∷ taken) (other ∷ others) sources files =
-    let source : source_of one ≡ source_of other = cc in
+    let source : taken_source one ≡ taken_source other = cc in
     let file : taken_file from one ≡ taken_file from other = cc in
-    let more_sources : map source_of taken ≡ map source_of others = cc in
-    let more_files : taken_files (from + 1) taken ≡ taken_files (from + 1) others = cc in
+    let more_sources : map taken_source taken ≡ map taken_source others = cc in
+    let more_files : files_taken (from + 1) taken ≡ files_taken (from + 1) others = cc in
     let first : one ≡ other = same-one one other (record { source = source; attributes = ap (λ (f : File). f.attributes) file }) in
     let rest : taken ≡ others = same-taken (from + 1) taken others more_sources more_files in
     λ j. first j ∷ rest j
@@ -111,7 +111,7 @@ took-alike bench took files began =
     let both : bench_of bench.relationships began.0 ≡ bench_of bench.relationships took.taken = sym began.1 ∙ took.begun in
     subst (AreTakenAs files) (same-taken 0 began.0 took.taken (ap (λ (b : Bench). b.sources) both) (ap (λ (b : Bench). b.files) both)) began.2
 
-count-alike : (from : ℕ) (files : List TakenFile) (taken : List Taken) → AreTakenAs files taken → length files ≡ length (map seen (taken_files from taken))
+count-alike : (from : ℕ) (files : List TakenFile) (taken : List Taken) → AreTakenAs files taken → length files ≡ length (map file_seen (files_taken from taken))
 count-alike from [] [] alike = refl
 count-alike from [] (one ∷ taken) alike = absurd alike
 count-alike from (file ∷ files) [] alike = absurd alike
@@ -119,7 +119,7 @@ count-alike from (file ∷ files) (one ∷ taken) alike = omega (arith, count-al
 
 turn-alike : (fragment : Fragment) (index from : ℕ) (files : List TakenFile) (taken : List Taken) → AreTakenAs files taken
     → list_all (λ (file : ℕ × TakenFile). is_fragment_at fragment file.0 (fragment_of file.1.attributes)) (enumerate_from index files)
-    ≡ list_all (λ (file : ℕ × TakenFile). is_fragment_at fragment file.0 (fragment_of file.1.attributes)) (enumerate_from index (map seen (taken_files from taken)))
+    ≡ list_all (λ (file : ℕ × TakenFile). is_fragment_at fragment file.0 (fragment_of file.1.attributes)) (enumerate_from index (map file_seen (files_taken from taken)))
 turn-alike fragment index from [] [] alike = refl
 turn-alike fragment index from [] (one ∷ taken) alike = absurd alike
 turn-alike fragment index from (file ∷ files) [] alike = absurd alike
@@ -127,13 +127,13 @@ turn-alike fragment index from (file ∷ files) (one ∷ taken) alike =
     ap (λ a. is_fragment_at fragment index (fragment_of a) && list_all (λ (file : ℕ × TakenFile). is_fragment_at fragment file.0 (fragment_of file.1.attributes)) (enumerate_from (index + 1) files)) alike.0.attributes
     ∙ ap (λ b. is_fragment_at fragment index (fragment_of one.attributes) && b) (turn-alike fragment (index + 1) (from + 1) files taken alike.1)
 
-fragments-alike : (found : Option Fragment) (from : ℕ) (files : List TakenFile) (taken : List Taken) → AreTakenAs files taken → are_fragments_of files found ≡ are_fragments_of (map seen (taken_files from taken)) found
+fragments-alike : (found : Option Fragment) (from : ℕ) (files : List TakenFile) (taken : List Taken) → AreTakenAs files taken → are_fragments_of files found ≡ are_fragments_of (map file_seen (files_taken from taken)) found
 fragments-alike None from files taken alike = refl
 fragments-alike (Some fragment) from files taken alike =
     ap (λ n. (n == fragment.count) && list_all (λ (file : ℕ × TakenFile). is_fragment_at fragment file.0 (fragment_of file.1.attributes)) (enumerate_from 1 files)) (count-alike from files taken alike)
-    ∙ ap (λ b. (length (map seen (taken_files from taken)) == fragment.count) && b) (turn-alike fragment 1 from files taken alike)
+    ∙ ap (λ b. (length (map file_seen (files_taken from taken)) == fragment.count) && b) (turn-alike fragment 1 from files taken alike)
 
-join-alike : (strategy : MergeStrategy) (files : List TakenFile) (taken : List Taken) → AreTakenAs files taken → may_join strategy files ≡ may_join strategy (map seen (taken_files 0 taken))
+join-alike : (strategy : MergeStrategy) (files : List TakenFile) (taken : List Taken) → AreTakenAs files taken → may_join strategy files ≡ may_join strategy (map file_seen (files_taken 0 taken))
 join-alike BinPacking files taken alike = refl
 join-alike Defragment [] [] alike = refl
 join-alike Defragment [] (one ∷ taken) alike = absurd alike
@@ -142,7 +142,7 @@ join-alike Defragment (file ∷ files) (one ∷ taken) alike =
     ap (λ a. are_fragments_of (file ∷ files) (fragment_of a)) alike.0.attributes ∙ fragments-alike (fragment_of one.attributes) 0 (file ∷ files) (one ∷ taken) alike
 
 fold-alike : (these : AttributeMap) (from : ℕ) (files : List TakenFile) (taken : List Taken) → AreTakenAs files taken
-    → fold (λ these (other : TakenFile). shared these other.attributes) these files ≡ fold (λ these (other : TakenFile). shared these other.attributes) these (map seen (taken_files from taken))
+    → fold (λ these (other : TakenFile). shared these other.attributes) these files ≡ fold (λ these (other : TakenFile). shared these other.attributes) these (map file_seen (files_taken from taken))
 fold-alike these from [] [] alike = refl
 fold-alike these from [] (one ∷ taken) alike = absurd alike
 fold-alike these from (file ∷ files) [] alike = absurd alike
@@ -150,7 +150,7 @@ fold-alike these from (file ∷ files) (one ∷ taken) alike =
     ap (λ a. fold (λ these (other : TakenFile). shared these other.attributes) (shared these a) files) alike.0.attributes
     ∙ fold-alike (shared these one.attributes) (from + 1) files taken alike.1
 
-shared-alike : (from : ℕ) (files : List TakenFile) (taken : List Taken) → AreTakenAs files taken → shared_by_all files ≡ shared_by_all (map seen (taken_files from taken))
+shared-alike : (from : ℕ) (files : List TakenFile) (taken : List Taken) → AreTakenAs files taken → shared_by_all files ≡ shared_by_all (map file_seen (files_taken from taken))
 shared-alike from [] [] alike = refl
 shared-alike from [] (one ∷ taken) alike = absurd alike
 shared-alike from (file ∷ files) [] alike = absurd alike
@@ -164,10 +164,10 @@ attributes_by strategy count common =
     cond (may_have (origin_joined count) common) (option_and_then (counted count (origin_joined count)) (named_as_whole strategy (origin_joined count) (without_fragment common))) None
 
 attributes-alike : (strategy : MergeStrategy) (files : List TakenFile) (taken : List Taken) → AreTakenAs files taken
-    → joined_attributes strategy (origin_joined (length files)) files ≡ joined_attributes strategy (origin_joined (length (map seen (taken_files 0 taken)))) (map seen (taken_files 0 taken))
+    → joined_attributes strategy (origin_joined (length files)) files ≡ joined_attributes strategy (origin_joined (length (map file_seen (files_taken 0 taken)))) (map file_seen (files_taken 0 taken))
 unfolding attributes_by
 attributes-alike strategy files taken alike =
-    let others = map seen (taken_files 0 taken) in
+    let others = map file_seen (files_taken 0 taken) in
     ap (λ n. attributes_by strategy n (shared_by_all files)) (count-alike 0 files taken alike)
     ∙ ap (attributes_by strategy (length others)) (shared-alike 0 files taken alike)
 
@@ -183,7 +183,7 @@ size-alike (file ∷ files) (one ∷ taken) alike =
 abbrev HasBytes : Taken → Type 0
 HasBytes file = is_some file.bytes ≡ true
 
-read-alike : (files : List TakenFile) (taken : List Taken) → AreTakenAs files taken → All HasBytes taken → Some (concat (map (λ (file : TakenFile). file.bytes) files)) ≡ bytes_read (map source_of taken)
+read-alike : (files : List TakenFile) (taken : List Taken) → AreTakenAs files taken → All HasBytes taken → Some (concat (map (λ (file : TakenFile). file.bytes) files)) ≡ bytes_read (map taken_source taken)
 read-alike [] [] alike all = refl
 read-alike [] (one ∷ taken) alike all = absurd alike
 read-alike (file ∷ files) [] alike all = absurd alike
@@ -199,16 +199,16 @@ read-alike (file ∷ files) (one ∷ taken) alike all =
         ap (λ b. Some (b ++ concat (map (λ (file : TakenFile). file.bytes) files))) (sym same)
         ∙ ap (option_and_then (λ bytes. option_map (λ more. bytes ++ more) (Some (concat (map (λ (file : TakenFile). file.bytes) files))))) (sym is)
 
-unread-first : (taken : List Taken) → AreRead taken → fit_a_content taken ≡ false → None ≡ bytes_read (map source_of taken)
+unread-first : (taken : List Taken) → AreRead taken → fit_a_content taken ≡ false → None ≡ bytes_read (map taken_source taken)
 unread-first [] read isnt = absurd (true≢false isnt)
 unread-first (one ∷ taken) read isnt =
     of_bytes one.bytes (All-head (λ (file : Taken). is_some file.bytes ≡ fit_a_content (one ∷ taken)) one taken read.filled ∙ isnt)
   where
-    of_bytes : (o : Option (List ℕ)) → is_some o ≡ false → None ≡ option_and_then (λ bytes. option_map (λ more. bytes ++ more) (bytes_read (map source_of taken))) o
+    of_bytes : (o : Option (List ℕ)) → is_some o ≡ false → None ≡ option_and_then (λ bytes. option_map (λ more. bytes ++ more) (bytes_read (map taken_source taken))) o
     of_bytes None isnt = refl
     of_bytes (Some bytes) isnt = absurd (true≢false isnt)
 
-content-alike : (files : List TakenFile) (taken : List Taken) → AreTakenAs files taken → AreRead taken → joined_content files ≡ bytes_read (map source_of taken)
+content-alike : (files : List TakenFile) (taken : List Taken) → AreTakenAs files taken → AreRead taken → joined_content files ≡ bytes_read (map taken_source taken)
 content-alike files taken alike read =
     let all = concat (map (λ (file : TakenFile). file.bytes) files) in
     let size = sum_by (λ (file : Taken). file.size) taken in
@@ -286,8 +286,8 @@ none-given count files (Some attributes) (Some bytes) is = cc
 
 -- ---- the processor
 
-seen-is : (bench : Bench) (took : TookSome bench) → files_seen bench ≡ map seen (taken_files 0 took.taken)
-seen-is bench took = ap (λ (b : Bench). map seen b.files) took.begun
+seen-is : (bench : Bench) (took : TookSome bench) → files_seen bench ≡ map file_seen (files_taken 0 took.taken)
+seen-is bench took = ap (λ (b : Bench). map file_seen b.files) took.begun
 
 may-is : (bench : Bench) (took : TookSome bench) (strategy : MergeStrategy) (files : List TakenFile) → AreTakenAs files took.taken → may_join strategy files ≡ may_join strategy (files_seen bench)
 may-is bench took strategy files alike = join-alike strategy files took.taken alike ∙ ap (may_join strategy) (sym (seen-is bench took))

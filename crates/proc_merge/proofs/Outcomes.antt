@@ -16,14 +16,14 @@ use Rattle.flowfile_record.specs.Outcome.{is_made, parents_of}
 use Rattle.machine_model.specs.Making.{TakenFile, made_file, passed_from, passed_on}
 use Rattle.process_session.specs.declared.file.File.{File}
 use Rattle.process_session.specs.declared.file.Taken.{Taken}
-use Rattle.process_session.specs.Bench.{Bench, taken_files}
-use Rattle.process_session.specs.Finish.{each_once, is_left_out, is_removed, joined_of, kept_files, origin_in, outcome_of, sent_in, standing_for, standing_from, worked_of, worked_with}
+use Rattle.process_session.specs.Bench.{Bench, files_taken}
+use Rattle.process_session.specs.Finish.{places_once, is_left_out, ends_removed, joined_of, kept_files, origin_in, outcome_of, sent_in, standing_for, standing_from, worked_of, worked_with}
 use Rattle.process_session.specs.Reasons.{not_accounted_from}
 use Rattle.process_session.specs.Refusals.{refusal_of_finish}
 use Rattle.process_session.proofs.Refusing.{no_refusal}
 use Rattle.processor_api.specs.Acts.{AreTakenAs, KeepsTaken}
 use Rattle.proc_merge.specs.Joining.{joined_file, origin_joined, with_more}
-use Rattle.proc_merge.specs.Passing.{passed, passed_to, with_all_passed}
+use Rattle.proc_merge.specs.Passing.{passed_first, file_passed_to, with_all_passed}
 use Rattle.proc_merge.specs.Taken.{TookSome}
 use Rattle.proc_merge.proofs.Benches.{next}
 use Rattle.proc_merge.proofs.Reading.{count-taken, many-taken}
@@ -31,7 +31,7 @@ use Rattle.proc_merge.proofs.Reading.{count-taken, many-taken}
 -- ---- the taken files, passed on
 
 abbrev pub all_passed : (relationship from : ℕ) → List Taken → List File
-all_passed relationship from taken = map (passed_to relationship) (taken_files from taken)
+all_passed relationship from taken = map (file_passed_to relationship) (files_taken from taken)
 
 -- a session that passed on all files that it took, and has these behind them
 abbrev pub passed_bench : Bench → (relationship : ℕ) → List Taken → List File → (handed : ℕ) → Bench
@@ -41,10 +41,10 @@ passed_bench bench relationship taken more handed =
 pub all-passed : (bench : Bench) (took : TookSome bench) (relationship : ℕ) (more : List File) (handed : ℕ)
     → with_all_passed (with_more bench more handed) relationship ≡ passed_bench bench relationship took.taken more handed
 all-passed bench took relationship more handed =
-    let files = taken_files 0 took.taken in
+    let files = files_taken 0 took.taken in
     let many : length files ≡ length bench.sources = count-taken 0 took.taken ∙ sym (many-taken bench took) in
-    ap (λ fs. record bench { files = passed (length bench.sources) relationship (fs ++ more); handed = handed }) (ap (λ (b : Bench). b.files) took.begun)
-    ∙ ap (λ fs. record bench { files = map (passed_to relationship) fs ++ drop (length bench.sources) (files ++ more); handed = handed }) (take_at files more (length bench.sources) many)
+    ap (λ fs. record bench { files = passed_first (length bench.sources) relationship (fs ++ more); handed = handed }) (ap (λ (b : Bench). b.files) took.begun)
+    ∙ ap (λ fs. record bench { files = map (file_passed_to relationship) fs ++ drop (length bench.sources) (files ++ more); handed = handed }) (take_at files more (length bench.sources) many)
     ∙ ap (λ rest. record bench { files = all_passed relationship 0 took.taken ++ rest; handed = handed }) (drop_at files more (length bench.sources) many)
 
 ended-passed : (relationship place from : ℕ) (taken : List Taken) (more : List File) → not_accounted_from place (all_passed relationship from taken ++ more) ≡ not_accounted_from (place + length taken) more
@@ -79,7 +79,7 @@ kept-gone stand (file ∷ gone) all =
 gone_ended : (file : File) → IsGone file → is_none file.«end» ≡ false
 gone_ended file gone = of_end (is_made file.origin) file.«end» gone
   where
-    of_end : (made : Bool) (how : Option End) → (made && is_removed how) ≡ true → is_none how ≡ false
+    of_end : (made : Bool) (how : Option End) → (made && ends_removed how) ≡ true → is_none how ≡ false
     of_end true None is = sym is
     of_end false None is = sym is
     of_end made (Some how) is = refl
@@ -134,7 +134,7 @@ apart from one (suc count) before =
     let rest = filter (λ other. not (other == one)) (range_with_len (from + 1) count) in
     ap (λ b. cond (not b) (from ∷ rest) rest) (ne_eqb from one (λ e. omega arith)) ∙ ap (λ places. from ∷ places) (apart (from + 1) one count (omega arith))
 
-once-range : (from count : ℕ) → each_once (range_with_len from count) ≡ range_with_len from count
+once-range : (from count : ℕ) → places_once (range_with_len from count) ≡ range_with_len from count
 once-range from zero = refl
 once-range from (suc count) =
     ap (λ places. from ∷ filter (λ other. not (other == from)) places) (once-range (from + 1) count) ∙ ap (λ places. from ∷ places) (apart (from + 1) from count (omega arith))
@@ -151,7 +151,7 @@ names-taken relationship taken file some stays =
     let last : standing_from (singles 0 taken) (0 + length taken) (file ∷ []) ≡ singles 0 taken ++ ((0 + length taken) ∷ []) ∷ [] =
     ap (λ b. cond b (singles 0 taken ++ standing_for (singles 0 taken) (parents_of file.origin) ∷ []) (singles 0 taken ++ ((0 + length taken) ∷ []) ∷ [])) stays in
     let is : stand ≡ [] ++ (singles 0 taken ++ ((0 + length taken) ∷ []) ∷ []) = standing-passed [] relationship 0 0 taken (file ∷ []) ∙ last in
-    ap (λ places. joined_of (each_once places)) (names-all stand [] (((0 + length taken) ∷ []) ∷ []) taken is)
+    ap (λ places. joined_of (places_once places)) (names-all stand [] (((0 + length taken) ∷ []) ∷ []) taken is)
     ∙ ap joined_of (once-range 0 (length taken)) ∙ joined-some 0 (length taken) some
 
 -- ---- the outcomes

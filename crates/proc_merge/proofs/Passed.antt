@@ -9,7 +9,7 @@ use Rattle.process_session.specs.declared.file.File.{File}
 use Rattle.process_session.specs.Bench.{Bench}
 use Rattle.process_session.specs.Changes.{change_at, with_end}
 use Rattle.process_session.specs.Refusals.{refusal_of_transfer}
-use Rattle.proc_merge.specs.Passing.{passed, passed_to}
+use Rattle.proc_merge.specs.Passing.{passed_first, file_passed_to}
 use Rattle.proc_merge.proofs.Benches.{at-seam, change-seam, transfer-free}
 
 pub left : {A : Type 0} (xs : List A) (i : ℕ) (d : A) → i < length xs → drop i xs ≡ get_or xs i d ∷ drop (i + 1) xs
@@ -17,26 +17,26 @@ left xs i d within = rw add-one (drop-cons xs i d within)
 
 -- the first so many of them have ended
 abbrev pub with_passed : Bench → (count relationship : ℕ) → Bench
-with_passed bench count relationship = record bench { files = passed count relationship bench.files }
+with_passed bench count relationship = record bench { files = passed_first count relationship bench.files }
 
 passed-parts : (count relationship : ℕ) (files : List File) (d : File) → count < length files
-    → passed count relationship files ≡ map (passed_to relationship) (take count files) ++ get_or files count d ∷ drop (count + 1) files
-passed-parts count relationship files d within = ap (λ rest. map (passed_to relationship) (take count files) ++ rest) (left files count d within)
+    → passed_first count relationship files ≡ map (file_passed_to relationship) (take count files) ++ get_or files count d ∷ drop (count + 1) files
+passed-parts count relationship files d within = ap (λ rest. map (file_passed_to relationship) (take count files) ++ rest) (left files count d within)
 
-count-passed : (count relationship : ℕ) (files : List File) → count ≤ length files → length (map (passed_to relationship) (take count files)) ≡ count
-count-passed count relationship files within = length-map (take count files) (passed_to relationship) ∙ length-take-le count files within
+count-passed : (count relationship : ℕ) (files : List File) → count ≤ length files → length (map (file_passed_to relationship) (take count files)) ≡ count
+count-passed count relationship files within = length-map (take count files) (file_passed_to relationship) ∙ length-take-le count files within
 
-pub passed-at : (count relationship : ℕ) (files : List File) (d : File) → count < length files → slice_get (passed count relationship files) count ≡ Some (get_or files count d)
+pub passed-at : (count relationship : ℕ) (files : List File) (d : File) → count < length files → slice_get (passed_first count relationship files) count ≡ Some (get_or files count d)
 passed-at count relationship files d within =
-    let before = map (passed_to relationship) (take count files) in
+    let before = map (file_passed_to relationship) (take count files) in
     let file = get_or files count d in
     ap (λ fs. slice_get fs count) (passed-parts count relationship files d within)
     ∙ ap (slice_get (before ++ file ∷ drop (count + 1) files)) (sym (count-passed count relationship files (omega (arith, within))))
     ∙ at-seam before (drop (count + 1) files) file
 
-passed-next : (count relationship : ℕ) (files : List File) (d : File) → count < length files → change_at (passed_to relationship) count (passed count relationship files) ≡ passed (count + 1) relationship files
+passed-next : (count relationship : ℕ) (files : List File) (d : File) → count < length files → change_at (file_passed_to relationship) count (passed_first count relationship files) ≡ passed_first (count + 1) relationship files
 passed-next count relationship files d within =
-    let goes = passed_to relationship in
+    let goes = file_passed_to relationship in
     let before = map goes (take count files) in
     let file = get_or files count d in
     let rest = drop (count + 1) files in

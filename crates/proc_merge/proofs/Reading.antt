@@ -11,7 +11,7 @@ use Rattle.process_session.specs.declared.error.SessionError.{SessionError}
 use Rattle.process_session.specs.declared.file.File.{File}
 use Rattle.process_session.specs.declared.file.Source.{Source}
 use Rattle.process_session.specs.declared.file.Taken.{Taken}
-use Rattle.process_session.specs.Bench.{Bench, bench_of, body_bytes, bytes_of, source_of, taken_file, taken_files}
+use Rattle.process_session.specs.Bench.{Bench, bench_of, body_bytes, bench_bytes, taken_source, taken_file, files_taken}
 use Rattle.process_session.specs.Reasons.{no_bytes, where_it_holds}
 use Rattle.process_session.specs.Refusals.{refusal_of_content}
 use Rattle.process_session.proofs.Refusing.{no_refusal}
@@ -21,7 +21,7 @@ use Rattle.proc_merge.proofs.Passed.{left}
 
 -- ---- the files as they are taken
 
-pub taken-at : (from place : ℕ) (taken : List Taken) → slice_get (taken_files from taken) place ≡ option_map (taken_file (from + place)) (slice_get taken place)
+pub taken-at : (from place : ℕ) (taken : List Taken) → slice_get (files_taken from taken) place ≡ option_map (taken_file (from + place)) (slice_get taken place)
 taken-at from place [] = refl
 taken-at from zero (one ∷ taken) =
     let first : from ≡ from + 0 = omega arith in
@@ -30,7 +30,7 @@ taken-at from (suc place) (one ∷ taken) =
     let later : (from + 1) + place ≡ from + suc place = omega arith in
     taken-at (from + 1) place taken ∙ ap (λ p. option_map (taken_file p) (slice_get taken place)) later
 
-pub count-taken : (from : ℕ) (taken : List Taken) → length (taken_files from taken) ≡ length taken
+pub count-taken : (from : ℕ) (taken : List Taken) → length (files_taken from taken) ≡ length taken
 count-taken from [] = refl
 count-taken from (one ∷ taken) = ap (λ n. suc n) (count-taken (from + 1) taken)
 
@@ -38,44 +38,44 @@ abbrev pub IsOpen : File → Type 0
 IsOpen file = file.«end» ≡ None
 
 -- none of them has ended
-pub open-taken : (from : ℕ) (taken : List Taken) → All IsOpen (taken_files from taken)
+pub open-taken : (from : ℕ) (taken : List Taken) → All IsOpen (files_taken from taken)
 open-taken from [] = All-nil IsOpen
-open-taken from (one ∷ taken) = All-cons IsOpen (taken_file from one) (taken_files (from + 1) taken) refl (open-taken (from + 1) taken)
+open-taken from (one ∷ taken) = All-cons IsOpen (taken_file from one) (files_taken (from + 1) taken) refl (open-taken (from + 1) taken)
 
 -- as many files as sources
 pub as-many : (bench : Bench) → TookSome bench → length bench.files ≡ length bench.sources
 as-many bench took =
-    ap (λ (b : Bench). length b.files) took.begun ∙ count-taken 0 took.taken ∙ sym (length-map took.taken source_of) ∙ sym (ap (λ (b : Bench). length b.sources) took.begun)
+    ap (λ (b : Bench). length b.files) took.begun ∙ count-taken 0 took.taken ∙ sym (length-map took.taken taken_source) ∙ sym (ap (λ (b : Bench). length b.sources) took.begun)
 
 pub many-taken : (bench : Bench) (took : TookSome bench) → length bench.sources ≡ length took.taken
-many-taken bench took = ap (λ (b : Bench). length b.sources) took.begun ∙ length-map took.taken source_of
+many-taken bench took = ap (λ (b : Bench). length b.sources) took.begun ∙ length-map took.taken taken_source
 
-bytes-taken : (n : ℕ) (taken : List Taken) (place : ℕ) → bytes_of (bench_of n taken) place ≡ option_and_then (λ source. source.bytes) (slice_get (map source_of taken) place)
+bytes-taken : (n : ℕ) (taken : List Taken) (place : ℕ) → bench_bytes (bench_of n taken) place ≡ option_and_then (λ source. source.bytes) (slice_get (map taken_source taken) place)
 bytes-taken n taken place =
-    let sources = map source_of taken in
+    let sources = map taken_source taken in
     let at : 0 + place ≡ place = omega arith in
     ap (option_and_then (λ (file : File). body_bytes sources file.body)) (taken-at 0 place taken ∙ ap (λ p. option_map (taken_file p) (slice_get taken place)) at)
     ∙ by_taken (slice_get taken place) refl
   where
     by_taken : (o : Option Taken) → slice_get taken place ≡ o
-        → option_and_then (λ (file : File). body_bytes (map source_of taken) file.body) (option_map (taken_file place) o) ≡ option_and_then (λ (source : Source). source.bytes) (slice_get (map source_of taken) place)
-    by_taken None is = sym (ap (option_and_then (λ (source : Source). source.bytes)) (slice_get-map source_of taken place ∙ ap (option_map source_of) is))
+        → option_and_then (λ (file : File). body_bytes (map taken_source taken) file.body) (option_map (taken_file place) o) ≡ option_and_then (λ (source : Source). source.bytes) (slice_get (map taken_source taken) place)
+    by_taken None is = sym (ap (option_and_then (λ (source : Source). source.bytes)) (slice_get-map taken_source taken place ∙ ap (option_map taken_source) is))
     by_taken (Some one) is = refl
 
-pub bytes-there : (bench : Bench) (place : ℕ) (d : Source) → TookSome bench → place < length bench.sources → bytes_of bench place ≡ (get_or bench.sources place d).bytes
+pub bytes-there : (bench : Bench) (place : ℕ) (d : Source) → TookSome bench → place < length bench.sources → bench_bytes bench place ≡ (get_or bench.sources place d).bytes
 bytes-there bench place d took within =
-    ap (λ b. bytes_of b place) took.begun ∙ bytes-taken bench.relationships took.taken place
+    ap (λ b. bench_bytes b place) took.begun ∙ bytes-taken bench.relationships took.taken place
     ∙ ap (λ s. option_and_then (λ (source : Source). source.bytes) (slice_get s place)) (sym (ap (λ (b : Bench). b.sources) took.begun))
     ∙ ap (option_and_then (λ (source : Source). source.bytes)) (slice_get-get_or bench.sources place d within)
 
-there : (bench : Bench) (place : ℕ) (bytes : List ℕ) → bytes_of bench place ≡ Some bytes → no_bytes bench place ≡ None
+there : (bench : Bench) (place : ℕ) (bytes : List ℕ) → bench_bytes bench place ≡ Some bytes → no_bytes bench place ≡ None
 unfolding no_bytes
 there bench place bytes is = ap (λ o. where_it_holds (is_none o) SessionError.NoBytes) is
 
-pub unread : {A : Type 0} (bench : Bench) (place : ℕ) (result : Result A SessionError) (error : SessionError) → place < length bench.files → result ≡ Err error → result_err result ≡ refusal_of_content bench place → bytes_of bench place ≡ None
-unread {A = A} bench place result error within is refused = by_bytes (bytes_of bench place) refl
+pub unread : {A : Type 0} (bench : Bench) (place : ℕ) (result : Result A SessionError) (error : SessionError) → place < length bench.files → result ≡ Err error → result_err result ≡ refusal_of_content bench place → bench_bytes bench place ≡ None
+unread {A = A} bench place result error within is refused = by_bytes (bench_bytes bench place) refl
   where
-    by_bytes : (o : Option (List ℕ)) → bytes_of bench place ≡ o → bytes_of bench place ≡ None
+    by_bytes : (o : Option (List ℕ)) → bench_bytes bench place ≡ o → bench_bytes bench place ≡ None
     by_bytes None there_is = there_is
     by_bytes (Some bytes) there_is =
         let free : refusal_of_content bench place ≡ None = next _ _ (known-within bench place within) (next _ _ (there bench place bytes there_is) no_refusal) in

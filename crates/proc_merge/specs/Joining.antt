@@ -15,7 +15,7 @@ use Rattle.machine_model.specs.MergeContent.{counted, joined_attributes, named_a
 use Rattle.machine_model.specs.declared.kind.MergeStrategy.{MergeStrategy}
 use Rattle.machine_model.specs.declared.kind.MergeStrategy.TheVariants.{BinPacking, Defragment}
 use Rattle.process_session.specs.Bench.{Bench, made_size}
-use Rattle.process_session.specs.Changes.{made_file, with_attributes, with_made}
+use Rattle.process_session.specs.Changes.{new_file, with_attributes, with_made}
 use Rattle.process_session.specs.Finish.{is_left_out}
 use Rattle.process_session.specs.declared.file.File.{File}
 use Rattle.proc_merge.specs.Taken.{IsSmall}
@@ -30,15 +30,15 @@ abbrev pub origin_joined : (count : ℕ) → Origin
 origin_joined count = Joined (range_with_len 0 count)
 
 -- the session with a child of all taken files, of these attributes
-abbrev pub with_child : Bench → AttributeMap → Bench
-with_child bench attributes = with_made bench (origin_joined (length bench.sources)) attributes (New [])
+abbrev pub with_joined_child : Bench → AttributeMap → Bench
+with_joined_child bench attributes = with_made bench (origin_joined (length bench.sources)) attributes (New [])
 
 -- its last file is the joined one, which hasn't ended and has no content yet
 pub record HasJoined (bench : Bench) (place : ℕ) : Type 0 where
   pub before : List File
   pub parents : List ℕ
   pub attributes : AttributeMap
-  pub files : bench.files ≡ before ++ made_file (Joined parents) attributes (New []) ∷ []
+  pub files : bench.files ≡ before ++ new_file (Joined parents) attributes (New []) ∷ []
   pub last : place ≡ length before
   pub few : length before ≤ TAKEN_MAX
   pub small : All IsSmall before

@@ -19,11 +19,11 @@ pub record TookSome (bench : Bench) : Type 0 where
   pub read : AreRead taken
 
 -- a file by its attributes
-abbrev pub seen : File → TakenFile
-seen file = record { attributes = file.attributes; uuid = []; bytes = [] }
+abbrev pub file_seen : File → TakenFile
+file_seen file = record { attributes = file.attributes; uuid = []; bytes = [] }
 
 abbrev pub files_seen : Bench → List TakenFile
-files_seen bench = map seen bench.files
+files_seen bench = map file_seen bench.files
 
 abbrev pub IsSmall : File → Type 0
 IsSmall file = file_size file ≤ ATTRIBUTES_MAX

@@ -4,7 +4,7 @@ ghost use Rattle.std.specs.Option.{option_map};
 ghost use Rattle.flowfile_record.specs.Attributes.{has_key_length, is_uuid};
 ghost use Rattle.machine_model.specs.Making.{with_set};
 ghost use Rattle.machine_model.specs.MergeContent.{counted, named_as_whole, without_fragment};
-ghost use Rattle.process_session.specs.Bench.{attributes_at, made_size};
+ghost use Rattle.process_session.specs.Bench.{bench_attributes, made_size};
 ghost use Rattle.process_session.specs.Changes.{with_attributes};
 ghost use Rattle.proc_merge.specs.Joining.{HasJoined, IsDescribed, of_parents, described, name_of_whole};
 
@@ -34,7 +34,7 @@ pub(crate) fn describe(
     shared: &Attributes,
 ) -> Result<bool, AllocError>
     requires joined { HasJoined session.old file }
-    requires shared { shared.now ≡ attributes_at session.old file }
+    requires shared { shared.now ≡ bench_attributes session.old file }
     ensures { IfOk result (λ done. IsDescribed session.old session.new file
         (described strategy (length session.old.sources) shared.now) done) }
 {
@@ -60,7 +60,7 @@ fn name_of_whole(strategy: MergeStrategy, shared: &Attributes) -> Option<&str>
 /// The joined file is no fragment.
 fn remove_fragment(session: &mut Session, file: u32)
     requires { HasJoined session.old file }
-    ensures { session.new ≡ with_attributes session.old file (without_fragment (attributes_at session.old file)) }
+    ensures { session.new ≡ with_attributes session.old file (without_fragment (bench_attributes session.old file)) }
 {
     session
         .remove_attribute(file, "fragment.identifier")
@@ -73,7 +73,7 @@ fn remove_fragment(session: &mut Session, file: u32)
 fn count(alloc: Global, session: &mut Session, file: u32) -> Result<bool, AllocError>
     requires { HasJoined session.old file }
     ensures { IfOk result (λ done. IsDescribed session.old session.new file
-        (counted (length session.old.sources) of_parents (attributes_at session.old file)) done) }
+        (counted (length session.old.sources) of_parents (bench_attributes session.old file)) done) }
 {
     session
         .remove_attribute(file, "segment.original.filename")
@@ -88,7 +88,7 @@ fn set(session: &mut Session, file: u32, key: &str, value: &str) -> Result<bool,
     requires joined { HasJoined session.old file }
     requires key { IsTrue (has_key_length key.now && not (is_uuid key.now)) }
     ensures { IfOk result (λ done. IsDescribed session.old session.new file
-        (with_set of_parents (attributes_at session.old file) (key.now, value.now)) done) }
+        (with_set of_parents (bench_attributes session.old file) (key.now, value.now)) done) }
 {
     let Err(error) = session.put_attribute(file, key, value) else {
         return Ok(true);

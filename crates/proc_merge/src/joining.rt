@@ -3,7 +3,7 @@ ghost use Rattle.std.specs.Prelude.{◌≡◌, ◌<◌, ◌≤◌, All, IfOk, On
 ghost use Rattle.machine_model.specs.MergeContent.{shared_by_all};
 ghost use Rattle.process_session.specs.Bench.{made_size};
 ghost use Rattle.proc_merge.specs.Taken.{TookSome, files_seen, bytes_read, IsSmall};
-ghost use Rattle.proc_merge.specs.Joining.{IsJoined, file_joined, with_child};
+ghost use Rattle.proc_merge.specs.Joining.{IsJoined, file_joined, with_joined_child};
 
 use crate::MERGED;
 use crate::contents::joined_content;
@@ -50,7 +50,7 @@ fn create(alloc: Global, session: &mut Session) -> Result<u32, AllocError>
     requires small { All IsSmall session.old.files }
     requires may { made_size (shared_by_all (files_seen session.old)) ≤ ATTRIBUTES_MAX }
     ensures place { IfOk result (λ place. place ≡ length session.old.files) }
-    ensures after { OnOk result (session.new ≡ with_child session.old (shared_by_all (files_seen session.old))) }
+    ensures after { OnOk result (session.new ≡ with_joined_child session.old (shared_by_all (files_seen session.old))) }
 {
     let parents = (0..session.taken()).collect::<Vec<u32>>(alloc)?;
     or_no_memory(session.create_joined(&parents))

@@ -2,7 +2,7 @@
 ghost use Rattle.std.specs.Prelude.{◌≡◌, ◌<◌, ◌≤◌, length, IfOk, OnOk, All};
 ghost use Rattle.flowfile_record.specs.Attributes.{encoded_size};
 ghost use Rattle.machine_model.specs.MergeContent.{shared_by_all};
-ghost use Rattle.process_session.specs.Bench.{attributes_at};
+ghost use Rattle.process_session.specs.Bench.{bench_attributes};
 ghost use Rattle.proc_merge.specs.Taken.{TookSome, files_seen, IsSmall};
 
 use flowfile_record::{ATTRIBUTES_MAX, Attributes};
@@ -12,7 +12,7 @@ use std::alloc::AllocError;
 /// The attributes of a file.
 pub(crate) fn attributes_of(session: &Session, place: u32) -> &Attributes
     requires { place < length session.now.files }
-    ensures attributes { result.now ≡ attributes_at session.now place }
+    ensures attributes { result.now ≡ bench_attributes session.now place }
     ensures limits { encoded_size result.now ≤ ATTRIBUTES_MAX }
 {
     let Some(attributes) = session.attributes(place) else {

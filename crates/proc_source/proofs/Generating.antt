@@ -16,8 +16,8 @@ use Rattle.machine_model.proofs.ShortTexts.{text-short}
 use Rattle.expr_lang.specs.Meaning.{tree_value}
 use Rattle.expr_lang.specs.View.{tree_of}
 use Rattle.expr_lang.specs.declared.syntax.Expr.{Expr}
-use Rattle.process_session.specs.Bench.{Bench, attributes_at, bench_of}
-use Rattle.process_session.specs.Changes.{made_file, with_created, with_end, with_put, with_written, written_file}
+use Rattle.process_session.specs.Bench.{Bench, bench_attributes, bench_of}
+use Rattle.process_session.specs.Changes.{new_file, with_created, with_end, with_put, with_written, written_file}
 use Rattle.process_session.specs.Finish.{outcome_of}
 use Rattle.process_session.specs.Refusals.{refusal_of_finish, refusal_of_put, refusal_of_transfer, refusal_of_write}
 use Rattle.process_session.specs.declared.file.File.{File}
@@ -27,7 +27,7 @@ use Rattle.processor_api.proofs.Alone.{alone, encoded_size-empty, encoded_size-i
 
 -- the file that is made, with these attributes
 abbrev pub made : AttributeMap → File
-made attributes = made_file Created attributes (New [])
+made attributes = new_file Created attributes (New [])
 
 abbrev pub created_bench : AttributeMap → Bench
 created_bench attributes = alone 1 [] (made attributes) None 0
@@ -99,9 +99,9 @@ ended-outcome attributes text = ap outcome_of (ended-is attributes text) ∙ out
 
 -- the text that is written is that of the machine
 pub text-is : (custom_text : Expr) (index place : ℕ) (bench : Bench) (text : List ℕ) → bench ≡ created_bench (generated_attributes index) → place ≡ 0
-    → text ≡ text_or_nothing (tree_value (get (attributes_at bench place)) (tree_of custom_text)) → text ≡ generated_text custom_text index
+    → text ≡ text_or_nothing (tree_value (get (bench_attributes bench place)) (tree_of custom_text)) → text ≡ generated_text custom_text index
 text-is custom_text index place bench text is first text-over =
-    let over : Bench → ℕ → List ℕ = λ b p. text_or_nothing (tree_value (get (attributes_at b p)) (tree_of custom_text)) in
+    let over : Bench → ℕ → List ℕ = λ b p. text_or_nothing (tree_value (get (bench_attributes b p)) (tree_of custom_text)) in
     text-over ∙ ap (λ b. over b place) is ∙ ap (over (created_bench (generated_attributes index))) first
 
 pub text_le : (count : ℕ) (custom_text : Expr) (index : ℕ) → IsSoundKind (GenerateFlowFile count custom_text) → length (generated_text custom_text index) ≤ 65536

@@ -15,7 +15,7 @@ use Rattle.machine_model.specs.declared.given.Given.{Given}
 use Rattle.machine_model.specs.declared.kind.Kind.TheVariants.{GetFile}
 use Rattle.machine_model.specs.declared.pattern.Pattern.{Pattern}
 use Rattle.process_session.specs.Bench.{Bench, bench_of}
-use Rattle.process_session.specs.Changes.{made_file, with_end, with_put, with_received}
+use Rattle.process_session.specs.Changes.{new_file, with_end, with_put, with_received}
 use Rattle.process_session.specs.Finish.{outcome_of}
 use Rattle.process_session.specs.Refusals.{refusal_of_finish, refusal_of_put, refusal_of_transfer}
 use Rattle.processor_api.specs.Acts.{Begins, EndsAs, KeepsTaken}
@@ -24,13 +24,13 @@ use Rattle.processor_api.proofs.Alone.{alone, encoded_size-empty, encoded_size-i
 
 -- the received file, with these attributes
 abbrev pub received_bench : AttributeMap → List ℕ → Bench
-received_bench attributes bytes = alone 1 [] (made_file Received attributes (New bytes)) None (0 + length bytes)
+received_bench attributes bytes = alone 1 [] (new_file Received attributes (New bytes)) None (0 + length bytes)
 
 pub received-first : (bytes : List ℕ) → with_received (bench_of 1 []) bytes ≡ received_bench empty bytes
 received-first bytes = refl
 
 pub received-put : (attributes : AttributeMap) (bytes key value : List ℕ) → is_uuid key ≡ false → with_put (received_bench attributes bytes) 0 key value ≡ received_bench (insert attributes key value) bytes
-received-put attributes bytes key value isnt = put-alone 1 [] (made_file Received attributes (New bytes)) None (0 + length bytes) key value isnt
+received-put attributes bytes key value isnt = put-alone 1 [] (new_file Received attributes (New bytes)) None (0 + length bytes) key value isnt
 
 abbrev pub named : List ℕ → AttributeMap
 named name = insert empty (codes "filename") name
@@ -43,27 +43,27 @@ attributes_le name is = omega (arith, named_le name is, encoded_size-insert_le (
 
 pub name-free : (bytes name : List ℕ) → length bytes ≤ CONTENT_MAX → IsName name → refusal_of_put (received_bench empty bytes) 0 (codes "filename") name ≡ None
 name-free bytes name fits is =
-    put-free 1 [] (made_file Received empty (New bytes)) None (0 + length bytes) (codes "filename") name refl refl refl
+    put-free 1 [] (new_file Received empty (New bytes)) None (0 + length bytes) (codes "filename") name refl refl refl
     (omega (arith, named_le name is, filename_to_come_le Received (named name))) (omega arith)
 
 pub path-free : (bytes name : List ℕ) → length bytes ≤ CONTENT_MAX → IsName name → refusal_of_put (received_bench (named name) bytes) 0 (codes "path") (codes "./") ≡ None
 path-free bytes name fits is =
-    put-free 1 [] (made_file Received (named name) (New bytes)) None (0 + length bytes) (codes "path") (codes "./") refl refl refl
+    put-free 1 [] (new_file Received (named name) (New bytes)) None (0 + length bytes) (codes "path") (codes "./") refl refl refl
     (omega (arith, attributes_le name is, filename_to_come_le Received (received_attributes name))) (omega arith)
 
 pub end-free : (attributes : AttributeMap) (bytes : List ℕ) → refusal_of_transfer (received_bench attributes bytes) 0 0 ≡ None
-end-free attributes bytes = transfer-free 1 [] (made_file Received attributes (New bytes)) None (0 + length bytes) 0 refl (omega arith)
+end-free attributes bytes = transfer-free 1 [] (new_file Received attributes (New bytes)) None (0 + length bytes) 0 refl (omega arith)
 
 -- the file has ended
 abbrev pub ended_bench : AttributeMap → List ℕ → Bench
 ended_bench attributes bytes = with_end (received_bench attributes bytes) 0 (To 0)
 
-ended-is : (attributes : AttributeMap) (bytes : List ℕ) → ended_bench attributes bytes ≡ alone 1 [] (record (made_file Received attributes (New bytes)) { «end» = Some (To 0) }) None (0 + length bytes)
-ended-is attributes bytes = ended-alone 1 [] (made_file Received attributes (New bytes)) None (0 + length bytes) (To 0)
+ended-is : (attributes : AttributeMap) (bytes : List ℕ) → ended_bench attributes bytes ≡ alone 1 [] (record (new_file Received attributes (New bytes)) { «end» = Some (To 0) }) None (0 + length bytes)
+ended-is attributes bytes = ended-alone 1 [] (new_file Received attributes (New bytes)) None (0 + length bytes) (To 0)
 
 pub ended-finished : (attributes : AttributeMap) (bytes : List ℕ) → refusal_of_finish (ended_bench attributes bytes) ≡ None
 ended-finished attributes bytes =
-    ap refusal_of_finish (ended-is attributes bytes) ∙ finish-free 1 [] (record (made_file Received attributes (New bytes)) { «end» = Some (To 0) }) None (0 + length bytes) refl
+    ap refusal_of_finish (ended-is attributes bytes) ∙ finish-free 1 [] (record (new_file Received attributes (New bytes)) { «end» = Some (To 0) }) None (0 + length bytes) refl
 
 pub ended-keeps : (before after : Bench) (attributes : AttributeMap) (bytes : List ℕ) → before ≡ bench_of 1 [] → after ≡ ended_bench attributes bytes → KeepsTaken before after
 ended-keeps before after attributes bytes began is = record {
@@ -73,7 +73,7 @@ ended-keeps before after attributes bytes began is = record {
 
 pub ended-outcome : (attributes : AttributeMap) (bytes : List ℕ) → outcome_of (ended_bench attributes bytes) ≡ alone_outcome (made_worked Received attributes bytes false 0)
 ended-outcome attributes bytes =
-    ap outcome_of (ended-is attributes bytes) ∙ outcome-alone 1 [] (record (made_file Received attributes (New bytes)) { «end» = Some (To 0) }) (0 + length bytes) refl (λ stand. refl)
+    ap outcome_of (ended-is attributes bytes) ∙ outcome-alone 1 [] (record (new_file Received attributes (New bytes)) { «end» = Some (To 0) }) (0 + length bytes) refl (λ stand. refl)
 
 -- the bytes that it takes out are those that it is given
 pub given-fits : (given : Option (List ℕ)) (bytes taken : List ℕ) → IsSomeAnd given (λ bytes. length bytes ≤ CONTENT_MAX) → given ≡ Some bytes → taken ≡ bytes → length taken ≤ CONTENT_MAX

@@ -11,7 +11,7 @@ use Rattle.machine_model.specs.Making.{TakenFile}
 use Rattle.machine_model.specs.declared.given.Given.{Given}
 use Rattle.machine_model.specs.declared.kind.Conflict.{Conflict}
 use Rattle.machine_model.specs.declared.kind.Kind.TheVariants.{PutFile}
-use Rattle.process_session.specs.Bench.{Bench, attributes_at, bench_of, taken_file}
+use Rattle.process_session.specs.Bench.{Bench, bench_attributes, bench_of, taken_file}
 use Rattle.process_session.specs.Changes.{with_end, with_penalty, with_sent}
 use Rattle.process_session.specs.Finish.{outcome_of}
 use Rattle.process_session.specs.Refusals.{refusal_of_finish, refusal_of_penalize, refusal_of_send, refusal_of_transfer}
@@ -77,8 +77,8 @@ penalised-transfer bench relationship there one =
 -- ---- what it ends with
 
 -- the attributes that it took
-attributes-of-one : (bench : Bench) (one : HasOneTaken bench) → attributes_at bench 0 ≡ one.taken.attributes
-attributes-of-one bench one = ap (λ b. attributes_at b 0) (one-is bench one)
+attributes-of-one : (bench : Bench) (one : HasOneTaken bench) → bench_attributes bench 0 ≡ one.taken.attributes
+attributes-of-one bench one = ap (λ b. bench_attributes b 0) (one-is bench one)
 
 -- the taken file, once it has ended
 abbrev ended : Taken → (is_penalised : Bool) → (relationship : ℕ) → File
@@ -93,9 +93,9 @@ of_sent s taken is_penalised relationship (Some sent) h here =
     subst P (sym here) (outcome-sent 2 s (ended taken is_penalised relationship) sent.name h refl (λ stand. refl))
 
 ends_with : (bench after : Bench) (taken : Taken) (is_penalised : Bool) (relationship : ℕ) → (one : HasOneTaken bench) → one.taken ≡ taken → KeepsTaken bench after
-    → after ≡ alone 2 bench.sources (ended taken is_penalised relationship) bench.sent bench.handed → EndsWith bench after (passed_and_put bench.sent (attributes_at bench 0) is_penalised relationship)
+    → after ≡ alone 2 bench.sources (ended taken is_penalised relationship) bench.sent bench.handed → EndsWith bench after (passed_and_put bench.sent (bench_attributes bench 0) is_penalised relationship)
 ends_with bench after taken is_penalised relationship one same kept is =
-    let attributes : taken.attributes ≡ attributes_at bench 0 = sym (attributes-of-one bench one ∙ ap (λ (t : Taken). t.attributes) same) in
+    let attributes : taken.attributes ≡ bench_attributes bench 0 = sym (attributes-of-one bench one ∙ ap (λ (t : Taken). t.attributes) same) in
     record {
       finished = ap refusal_of_finish is ∙ finish-free 2 bench.sources (ended taken is_penalised relationship) bench.sent bench.handed refl;
       kept = kept;
@@ -103,13 +103,13 @@ ends_with bench after taken is_penalised relationship one same kept is =
           ∙ ap (λ attributes. passed_and_put bench.sent attributes is_penalised relationship) attributes;
     }
 
-pub one-ended : (bench : Bench) (relationship : ℕ) → HasOneTaken bench → EndsWith bench (with_end bench 0 (To relationship)) (passed_and_put bench.sent (attributes_at bench 0) false relationship)
+pub one-ended : (bench : Bench) (relationship : ℕ) → HasOneTaken bench → EndsWith bench (with_end bench 0 (To relationship)) (passed_and_put bench.sent (bench_attributes bench 0) false relationship)
 one-ended bench relationship one =
     let after : with_end bench 0 (To relationship) ≡ alone 2 bench.sources (ended one.taken false relationship) bench.sent bench.handed =
     ap (λ b. with_end b 0 (To relationship)) (one-is bench one) ∙ ended-alone 2 bench.sources (taken_file 0 one.taken) bench.sent bench.handed (To relationship) in
     ends_with bench _ one.taken false relationship one refl (record { relationships = refl; sources = refl }) after
 
-pub penalised-ended : (bench : Bench) (relationship : ℕ) → HasOneTaken bench → EndsWith bench (with_end (with_penalty bench 0) 0 (To relationship)) (passed_and_put bench.sent (attributes_at bench 0) true relationship)
+pub penalised-ended : (bench : Bench) (relationship : ℕ) → HasOneTaken bench → EndsWith bench (with_end (with_penalty bench 0) 0 (To relationship)) (passed_and_put bench.sent (bench_attributes bench 0) true relationship)
 penalised-ended bench relationship one =
     let after : with_end (with_penalty bench 0) 0 (To relationship) ≡ alone 2 bench.sources (ended one.taken true relationship) bench.sent bench.handed =
     ap (λ b. with_end b 0 (To relationship)) (penalty-is bench one) ∙ ended-alone 2 bench.sources (penalised one.taken) bench.sent bench.handed (To relationship) in
@@ -118,7 +118,7 @@ penalised-ended bench relationship one =
 -- ---- the processor
 
 -- no file has no name
-pub no-file : (bench : Bench) (place : ℕ) → option_map (λ file. file.attributes) (slice_get bench.files place) ≡ None → name_in (attributes_at bench place) ≡ None
+pub no-file : (bench : Bench) (place : ℕ) → option_map (λ file. file.attributes) (slice_get bench.files place) ≡ None → name_in (bench_attributes bench place) ≡ None
 no-file bench place none = of_option (slice_get bench.files place) none
   where
     of_option : (o : Option File) → option_map (λ file. file.attributes) o ≡ None → name_in (option_map_or (λ file. file.attributes) o empty) ≡ None
@@ -137,23 +137,23 @@ put-unsent conflict before given begins = ap (λ (b : Bench). b.sent) begins.beg
 abbrev some_file : AttributeMap → TakenFile
 some_file attributes = record { attributes = attributes; uuid = []; bytes = [] }
 
-pub put-acts : (conflict : Conflict) (before : Bench) (given : Given) (after : Bench) (name : List ℕ) → Begins (PutFile conflict) before given → name_in (attributes_at before 0) ≡ Some name
-    → ((file : TakenFile) → file.attributes ≡ attributes_at before 0 → EndsWith before after (put_unless_there conflict given.there file name)) → EndsAs (PutFile conflict) before given after
+pub put-acts : (conflict : Conflict) (before : Bench) (given : Given) (after : Bench) (name : List ℕ) → Begins (PutFile conflict) before given → name_in (bench_attributes before 0) ≡ Some name
+    → ((file : TakenFile) → file.attributes ≡ bench_attributes before 0 → EndsWith before after (put_unless_there conflict given.there file name)) → EndsAs (PutFile conflict) before given after
 put-acts conflict before given after name begins named ends =
-    one-acts (PutFile conflict) before given after refl begins (ends (some_file (attributes_at before 0)) refl).finished (ends (some_file (attributes_at before 0)) refl).kept (λ taken file is alike. of_file file (taken-attributes before taken file is alike))
+    one-acts (PutFile conflict) before given after refl begins (ends (some_file (bench_attributes before 0)) refl).finished (ends (some_file (bench_attributes before 0)) refl).kept (λ taken file is alike. of_file file (taken-attributes before taken file is alike))
   where
-    of_file : (file : TakenFile) → file.attributes ≡ attributes_at before 0 → act (PutFile conflict) (file ∷ []) given ≡ Some (outcome_of after)
+    of_file : (file : TakenFile) → file.attributes ≡ bench_attributes before 0 → act (PutFile conflict) (file ∷ []) given ≡ Some (outcome_of after)
     of_file file same =
         ap (λ o. Some (put conflict given.there file o)) (ap name_in same ∙ named) ∙ ap Some (sym (ends file same).outcome)
 
-pub fail-acts : (conflict : Conflict) (before : Bench) (given : Given) (after : Bench) → Begins (PutFile conflict) before given → name_in (attributes_at before 0) ≡ None
-    → EndsWith before after (passed_and_put before.sent (attributes_at before 0) true 1) → EndsAs (PutFile conflict) before given after
+pub fail-acts : (conflict : Conflict) (before : Bench) (given : Given) (after : Bench) → Begins (PutFile conflict) before given → name_in (bench_attributes before 0) ≡ None
+    → EndsWith before after (passed_and_put before.sent (bench_attributes before 0) true 1) → EndsAs (PutFile conflict) before given after
 fail-acts conflict before given after begins unnamed ends =
     one-acts (PutFile conflict) before given after refl begins ends.finished ends.kept (λ taken file is alike. of_file file (taken-attributes before taken file is alike))
   where
-    of_file : (file : TakenFile) → file.attributes ≡ attributes_at before 0 → act (PutFile conflict) (file ∷ []) given ≡ Some (outcome_of after)
+    of_file : (file : TakenFile) → file.attributes ≡ bench_attributes before 0 → act (PutFile conflict) (file ∷ []) given ≡ Some (outcome_of after)
     of_file file same =
         ap (λ o. Some (put conflict given.there file o)) (ap name_in same ∙ unnamed)
         ∙ ap (λ attributes. Some (passed_and_put None attributes true 1)) same
-        ∙ ap (λ sent. Some (passed_and_put sent (attributes_at before 0) true 1)) (sym (put-unsent conflict before given begins))
+        ∙ ap (λ sent. Some (passed_and_put sent (bench_attributes before 0) true 1)) (sym (put-unsent conflict before given begins))
         ∙ ap Some (sym ends.outcome)

@@ -4,7 +4,7 @@ ghost use Rattle.std.specs.FinMap.{get};
 ghost use Rattle.expr_lang.specs.Meaning.{tree_value};
 ghost use Rattle.expr_lang.specs.View.{tree_of};
 ghost use Rattle.machine_model.specs.Acting.{text_or_nothing};
-ghost use Rattle.process_session.specs.Bench.{attributes_at};
+ghost use Rattle.process_session.specs.Bench.{bench_attributes};
 ghost use Rattle.proc_source.specs.Kinds.{is_generate_flow_file};
 
 use crate::SUCCESS;
@@ -91,7 +91,7 @@ fn text_over(
 ) -> Result<Vec<u8>, AllocError>
     requires { file < length session.now.files }
     ensures { IfOk result (λ text. text.items
-        ≡ text_or_nothing (tree_value (get (attributes_at session.now file)) (tree_of expression.now))) }
+        ≡ text_or_nothing (tree_value (get (bench_attributes session.now file)) (tree_of expression.now))) }
 {
     let Some(attributes) = session.attributes(file) else {
         unreachable!()

@@ -2,7 +2,7 @@
 ghost use Rattle.std.specs.Prelude.{◌≡◌, IfOk, IfSome, IsOk, OnOk, is_some, true, false, Ok, None};
 ghost use Rattle.machine_model.specs.Acting.{name_in, put_unless_there};
 ghost use Rattle.machine_model.specs.Making.{TakenFile};
-ghost use Rattle.process_session.specs.Bench.{attributes_at};
+ghost use Rattle.process_session.specs.Bench.{bench_attributes};
 ghost use Rattle.processor_api.specs.Sessions.{EndsWith};
 ghost use Rattle.proc_source.specs.Kinds.{is_put_file};
 ghost use Rattle.proc_source.specs.Putting.{HasOneTaken, passed_and_put};
@@ -42,7 +42,7 @@ impl PutFile {
     fn put(&self, session: &mut Session, name: Name, there: bool)
         requires one { HasOneTaken session.old }
         requires unsent { session.old.sent ≡ None }
-        ensures { (file : TakenFile) → file.attributes ≡ attributes_at session.old FILE
+        ensures { (file : TakenFile) → file.attributes ≡ bench_attributes session.old FILE
             → EndsWith session.old session.new (put_unless_there self.now.conflict there file name) }
     {
         match (there, self.conflict) {
@@ -68,7 +68,7 @@ impl Acts for PutFile {
         ensures acts { OnOk result (EndsAs (OfPutFile self.now.conflict) session.old given.old session.new) }
         ensures given { KeepsGiven given.old given.new }
         // A name alone takes memory.
-        ensures free { name_in (attributes_at session.old FILE) ≡ None → IsOk result }
+        ensures free { name_in (bench_attributes session.old FILE) ≡ None → IsOk result }
     {
         match outbox_name(alloc, session)? {
             Some(name) => self.put(session, name, given.there),
@@ -80,8 +80,8 @@ impl Acts for PutFile {
 
 /// The file's `filename`, where it may name a file.
 fn outbox_name(alloc: Global, session: &Session) -> Result<Option<Name>, AllocError>
-    ensures name { IfOk result (λ name. name ≡ name_in (attributes_at session.now FILE)) }
-    ensures free { name_in (attributes_at session.now FILE) ≡ None → result ≡ Ok None }
+    ensures name { IfOk result (λ name. name ≡ name_in (bench_attributes session.now FILE)) }
+    ensures free { name_in (bench_attributes session.now FILE) ≡ None → result ≡ Ok None }
 {
     let Some(attributes) = session.attributes(FILE) else {
         return Ok(None);
@@ -100,7 +100,7 @@ fn send(session: &mut Session, name: Name)
     requires one { HasOneTaken session.old }
     requires unsent { session.old.sent ≡ None }
     ensures { EndsWith session.old session.new (passed_and_put (Some (record { place = FILE; name = name }))
-        (attributes_at session.old FILE) false SUCCESS) }
+        (bench_attributes session.old FILE) false SUCCESS) }
 {
     session.send(FILE, name).unwrap();
     pass(session);
@@ -109,7 +109,7 @@ fn send(session: &mut Session, name: Name)
 fn pass(session: &mut Session)
     requires { HasOneTaken session.old }
     ensures { EndsWith session.old session.new
-        (passed_and_put session.old.sent (attributes_at session.old FILE) false SUCCESS) }
+        (passed_and_put session.old.sent (bench_attributes session.old FILE) false SUCCESS) }
 {
     session.transfer(FILE, SUCCESS).unwrap();
 }
@@ -117,7 +117,7 @@ fn pass(session: &mut Session)
 fn fail(session: &mut Session)
     requires { HasOneTaken session.old }
     ensures { EndsWith session.old session.new
-        (passed_and_put session.old.sent (attributes_at session.old FILE) true FAILURE) }
+        (passed_and_put session.old.sent (bench_attributes session.old FILE) true FAILURE) }
 {
     session.penalize(FILE).unwrap();
     session.transfer(FILE, FAILURE).unwrap();

@@ -18,7 +18,7 @@ use Rattle.machine_model.specs.Making.{TakenFile, alone as alone_outcome, may_ha
 use Rattle.machine_model.specs.declared.given.Given.{Given}
 use Rattle.machine_model.specs.declared.kind.Kind.TheVariants.{ExtractText}
 use Rattle.machine_model.specs.declared.kind.OwnPattern.{OwnPattern}
-use Rattle.process_session.specs.Bench.{Bench, attributes_at, bench_of, bytes_of, taken_file, source_of}
+use Rattle.process_session.specs.Bench.{Bench, bench_attributes, bench_of, bench_bytes, taken_file, taken_source}
 use Rattle.process_session.specs.Changes.{with_put}
 use Rattle.process_session.specs.Finish.{outcome_of}
 use Rattle.process_session.specs.Refusals.{refusal_of_put}
@@ -130,20 +130,20 @@ module _ (n : ℕ) (taken : Taken) (pair : Pair) where
       of_tests false uuid may good-is uuid-is may-is never = cc
       of_tests true true may good-is uuid-is may-is same =
           let set-is : taken.attributes ≡ set = cc in (
-            rw uuid-is (penalize-free n (source_of taken ∷ []) (taken_file 0 taken) None 0 refl),
+            rw uuid-is (penalize-free n (taken_source taken ∷ []) (taken_file 0 taken) None 0 refl),
             rw uuid-is (ap (λ a. bench_of n (with_taken taken a ∷ [])) set-is),
           )
       of_tests true false false good-is uuid-is may-is never = cc
       of_tests true false true good-is uuid-is may-is same =
           let set-is : insert taken.attributes pair.0 pair.1 ≡ set = cc in
           let small = leb-true _ _ may-is in (
-            put-free n (source_of taken ∷ []) (taken_file 0 taken) None 0 pair.0 pair.1 refl uuid-is good-is small (omega arith),
-            put-alone n (source_of taken ∷ []) (taken_file 0 taken) None 0 pair.0 pair.1 uuid-is ∙ ap (λ a. bench_of n (with_taken taken a ∷ [])) set-is,
+            put-free n (taken_source taken ∷ []) (taken_file 0 taken) None 0 pair.0 pair.1 refl uuid-is good-is small (omega arith),
+            put-alone n (taken_source taken ∷ []) (taken_file 0 taken) None 0 pair.0 pair.1 uuid-is ∙ ap (λ a. bench_of n (with_taken taken a ∷ [])) set-is,
           )
 
-pub put-one : (now : Bench) (one : BeganWithOne now) (pair : Pair) (set : AttributeMap) → with_one (attributes_at now 0) pair ≡ Some set → PutOne now one pair set
+pub put-one : (now : Bench) (one : BeganWithOne now) (pair : Pair) (set : AttributeMap) → with_one (bench_attributes now 0) pair ≡ Some set → PutOne now one pair set
 put-one now one pair set is =
-    let same : with_one one.taken.attributes pair ≡ Some set = sym (ap (λ b. with_one (attributes_at b 0) pair) one.begun) ∙ is in
+    let same : with_one one.taken.attributes pair ≡ Some set = sym (ap (λ b. with_one (bench_attributes b 0) pair) one.begun) ∙ is in
     let comes = put-comes now.relationships one.taken pair set same in
     record {
       free = ap (λ b. refusal_of_put b 0 pair.0 pair.1) one.begun ∙ comes.0;
@@ -154,7 +154,7 @@ put-one now one pair set is =
 pub record AfterPut (before now new : Bench) (set : AttributeMap) : Type 0 where
   pub began : BeganWithOne new
   pub kept : KeepsTaken before new
-  pub attributes : attributes_at new 0 ≡ set
+  pub attributes : bench_attributes new 0 ≡ set
 
 pub put-made : (before now new : Bench) (one : BeganWithOne now) (pair : Pair) (set : AttributeMap) → KeepsTaken before now → PutOne now one pair set → new ≡ with_put now 0 pair.0 pair.1 → AfterPut before now new set
 put-made before now new one pair set kept put new-is =
@@ -166,20 +166,20 @@ put-made before now new one pair set kept put new-is =
         relationships = many ∙ kept.relationships;
         sources = ap (λ (b : Bench). b.sources) is ∙ sym (ap (λ (b : Bench). b.sources) one.begun) ∙ kept.sources;
       };
-      attributes = ap (λ b. attributes_at b 0) is;
+      attributes = ap (λ b. bench_attributes b 0) is;
     }
 
 -- ---- how it ends
 
-pub set-ends : (before now after : Bench) (pairs : List Pair) → KeepsTaken before now → with_named (attributes_at before 0) pairs ≡ Some (attributes_at now 0) → EndsWith now after (alone_outcome (passed_on 0 (attributes_at now 0) false 0))
-    → EndsWith before after (matched_with (attributes_at before 0) (with_named (attributes_at before 0) pairs))
+pub set-ends : (before now after : Bench) (pairs : List Pair) → KeepsTaken before now → with_named (bench_attributes before 0) pairs ≡ Some (bench_attributes now 0) → EndsWith now after (alone_outcome (passed_on 0 (bench_attributes now 0) false 0))
+    → EndsWith before after (matched_with (bench_attributes before 0) (with_named (bench_attributes before 0) pairs))
 set-ends before now after pairs kept set ends = record {
   finished = ends.finished;
   kept = record { relationships = ends.kept.relationships ∙ kept.relationships; sources = ends.kept.sources ∙ kept.sources };
-  outcome = ends.outcome ∙ ap (matched_with (attributes_at before 0)) (sym set);
+  outcome = ends.outcome ∙ ap (matched_with (bench_attributes before 0)) (sym set);
 }
 
-pub none-ends : (before after : Bench) (wanted : Option AttributeMap) → is_some wanted ≡ false → EndsWith before after (alone_outcome (passed_on 0 (attributes_at before 0) false 1)) → EndsWith before after (matched_with (attributes_at before 0) wanted)
+pub none-ends : (before after : Bench) (wanted : Option AttributeMap) → is_some wanted ≡ false → EndsWith before after (alone_outcome (passed_on 0 (bench_attributes before 0) false 1)) → EndsWith before after (matched_with (bench_attributes before 0) wanted)
 none-ends before after None none ends = ends
 none-ends before after (Some set) none ends = cc
 
@@ -218,21 +218,21 @@ extracted-is own file = of_tests (is_utf8 file.bytes) (length (found_pairs file.
     of_tests true none is none-is = rw (is, any-found file.bytes own) (chosen (length found == 0))
 
 -- a content that gives nothing, and one that gives something
-pub empty-ends : (before after : Bench) (pairs : List Pair) → (length pairs == 0) ≡ true → EndsWith before after (alone_outcome (passed_on 0 (attributes_at before 0) false 1))
-    → EndsWith before after (matched_with (attributes_at before 0) (wanted_in pairs (attributes_at before 0)))
+pub empty-ends : (before after : Bench) (pairs : List Pair) → (length pairs == 0) ≡ true → EndsWith before after (alone_outcome (passed_on 0 (bench_attributes before 0) false 1))
+    → EndsWith before after (matched_with (bench_attributes before 0) (wanted_in pairs (bench_attributes before 0)))
 empty-ends before after pairs none ends = rw none ends
 
-pub some-ends : (before after : Bench) (pairs : List Pair) → (length pairs == 0) ≡ false → EndsWith before after (matched_with (attributes_at before 0) (with_named (attributes_at before 0) pairs))
-    → EndsWith before after (matched_with (attributes_at before 0) (wanted_in pairs (attributes_at before 0)))
+pub some-ends : (before after : Bench) (pairs : List Pair) → (length pairs == 0) ≡ false → EndsWith before after (matched_with (bench_attributes before 0) (with_named (bench_attributes before 0) pairs))
+    → EndsWith before after (matched_with (bench_attributes before 0) (wanted_in pairs (bench_attributes before 0)))
 some-ends before after pairs some ends = rw some ends
 
-pub extract-acts : (own : List OwnPattern) (before : Bench) (given : Given) (after : Bench) (content : List ℕ) (pairs : List Pair) → Begins (ExtractText own) before given → bytes_of before 0 ≡ Some content → pairs ≡ pairs_in content own
-    → EndsWith before after (matched_with (attributes_at before 0) (wanted_in pairs (attributes_at before 0))) → EndsAs (ExtractText own) before given after
+pub extract-acts : (own : List OwnPattern) (before : Bench) (given : Given) (after : Bench) (content : List ℕ) (pairs : List Pair) → Begins (ExtractText own) before given → bench_bytes before 0 ≡ Some content → pairs ≡ pairs_in content own
+    → EndsWith before after (matched_with (bench_attributes before 0) (wanted_in pairs (bench_attributes before 0))) → EndsAs (ExtractText own) before given after
 extract-acts own before given after content pairs begins shown are ends =
     one-acts (ExtractText own) before given after refl begins ends.finished ends.kept
     (λ taken file began alike. of_file file (taken-attributes before taken file began alike) (taken-content before taken file content began alike shown))
   where
-    of_file : (file : TakenFile) → file.attributes ≡ attributes_at before 0 → file.bytes ≡ content → act (ExtractText own) (file ∷ []) given ≡ Some (outcome_of after)
+    of_file : (file : TakenFile) → file.attributes ≡ bench_attributes before 0 → file.bytes ≡ content → act (ExtractText own) (file ∷ []) given ≡ Some (outcome_of after)
     of_file file attributes same =
         ap Some (ap (or_given_up 1 (file ∷ [])) (extracted-is own file)
         ∙ given-up file (wanted_in (pairs_in file.bytes own) file.attributes)

@@ -10,12 +10,12 @@ use Rattle.flowfile_record.specs.declared.worked.Origin.TheVariants.{Part as Par
 use Rattle.flowfile_record.specs.declared.worked.Worked.{Worked}
 use Rattle.machine_model.specs.Making.{TakenFile, clone_of}
 use Rattle.machine_model.specs.Parts.{Piece, all_set_beside, fragment_pairs, part_of, parts_from}
-use Rattle.process_session.specs.Bench.{Bench, attribute_size, attributes_at, content_size}
+use Rattle.process_session.specs.Bench.{Bench, attribute_size, bench_attributes, content_size}
 use Rattle.process_session.specs.Changes.{is_whole}
 use Rattle.process_session.specs.Finish.{is_left_out}
 use Rattle.process_session.specs.declared.file.File.{File}
-use Rattle.processor_api.specs.Sessions.{BeganWithOne, HasTaken}
-use Rattle.proc_text.specs.Parting.{AddsPart, AddsParts, IsPart, IsRead, opened, part_file, parts_of, taken_in, with_files}
+use Rattle.processor_api.specs.Sessions.{BeganWithOne, HasFirstTaken}
+use Rattle.proc_text.specs.Parting.{AddsPart, AddsParts, IsPart, IsReadTaken, opened, part_file, parts_of, taken_in, bench_with_files}
 use Rattle.proc_text.proofs.Telling.{MayAdd, Pair, end-size, part-attributes}
 
 -- ---- a part as the machine makes it
@@ -65,20 +65,20 @@ parts-none file relationship count index offset others piece pieces none =
 -- so many are made, and these pieces are left, from an offset on
 pub record Adding (before now : Bench) (relationship : ℕ) (pieces left : List Piece) (place offset : ℕ) : Type 0 where
   pub parts : List Worked
-  pub is : now ≡ with_files before (map opened parts)
+  pub is : now ≡ bench_with_files before (map opened parts)
   pub many : length parts ≡ place
   pub each : All (IsPart relationship) parts
   pub same : parts_of before relationship pieces ≡ behind parts (parts_from (taken_in before) relationship (length pieces) (place + 1) offset (attribute_size now) left)
 
 -- what it is while the parts are made
-with-taken : (before : Bench) (files : List File) (took : BeganWithOne before) → HasTaken (with_files before files)
+with-taken : (before : Bench) (files : List File) (took : BeganWithOne before) → HasFirstTaken (bench_with_files before files)
 with-taken before files took = record { taken = took.taken; more = files; files = ap (λ (b : Bench). b.files ++ files) took.begun }
 
-with-content : (before : Bench) (files : List File) → BeganWithOne before → content_size (with_files before files) 0 ≡ content_size before 0
-with-content before files took = ap (λ b. content_size (with_files b files) 0) took.begun ∙ sym (ap (λ b. content_size b 0) took.begun)
+with-content : (before : Bench) (files : List File) → BeganWithOne before → content_size (bench_with_files before files) 0 ≡ content_size before 0
+with-content before files took = ap (λ b. content_size (bench_with_files b files) 0) took.begun ∙ sym (ap (λ b. content_size b 0) took.begun)
 
-with-attributes : (before : Bench) (files : List File) → BeganWithOne before → attributes_at (with_files before files) 0 ≡ attributes_at before 0
-with-attributes before files took = ap (λ b. attributes_at (with_files b files) 0) took.begun ∙ sym (ap (λ b. attributes_at b 0) took.begun)
+with-attributes : (before : Bench) (files : List File) → BeganWithOne before → bench_attributes (bench_with_files before files) 0 ≡ bench_attributes before 0
+with-attributes before files took = ap (λ b. bench_attributes (bench_with_files b files) 0) took.begun ∙ sym (ap (λ b. bench_attributes b 0) took.begun)
 
 pub adding-may : (before now : Bench) (relationship : ℕ) (pieces left : List Piece) (place offset size : ℕ) → BeganWithOne before → Adding before now relationship pieces left place offset → place + 1 < FILES_MAX → offset + size ≤ content_size before 0
     → MayAdd now offset size
@@ -86,28 +86,28 @@ adding-may before now relationship pieces left place offset size took adding few
     let files = map opened adding.parts in
     let count : length now.files ≡ 1 + length files = ap (λ (b : Bench). length b.files) adding.is ∙ length-append before.files files ∙ ap (λ (b : Bench). length b.files + length files) took.begun in
     record {
-      taken = subst HasTaken (sym adding.is) (with-taken before files took);
+      taken = subst HasFirstTaken (sym adding.is) (with-taken before files took);
       few = omega (arith, count, few, length-map adding.parts opened, adding.many);
       unwritten = ap (λ (b : Bench). b.handed) adding.is ∙ ap (λ (b : Bench). b.handed) took.begun;
       fits = omega (arith, fits, ap (λ b. content_size b 0) adding.is ∙ with-content before files took);
     }
 
-set-is : (before now : Bench) (files : List File) (told pairs : List Pair) (answer : Option AttributeMap) → BeganWithOne before → now ≡ with_files before files → told ≡ pairs → all_set_beside (attribute_size now) (attributes_at now 0) told ≡ answer
+set-is : (before now : Bench) (files : List File) (told pairs : List Pair) (answer : Option AttributeMap) → BeganWithOne before → now ≡ bench_with_files before files → told ≡ pairs → all_set_beside (attribute_size now) (bench_attributes now 0) told ≡ answer
     → all_set_beside (attribute_size now) (taken_in before).attributes pairs ≡ answer
 set-is before now files told pairs answer took is are set =
     ap (λ ps. all_set_beside (attribute_size now) (taken_in before).attributes ps) (sym are)
-    ∙ ap (λ a. all_set_beside (attribute_size now) a told) (sym (ap (λ b. attributes_at b 0) is ∙ with-attributes before files took))
+    ∙ ap (λ a. all_set_beside (attribute_size now) a told) (sym (ap (λ b. bench_attributes b 0) is ∙ with-attributes before files took))
     ∙ set
 
-whole-is : (before now : Bench) (files : List File) (offset size : ℕ) → BeganWithOne before → IsRead before → now ≡ with_files before files → is_whole now 0 offset size ≡ ((offset == 0) && (size == length (taken_in before).bytes))
+whole-is : (before now : Bench) (files : List File) (offset size : ℕ) → BeganWithOne before → IsReadTaken before → now ≡ bench_with_files before files → is_whole now 0 offset size ≡ ((offset == 0) && (size == length (taken_in before).bytes))
 whole-is before now files offset size took read is =
     ap (λ n. (offset == 0) && (size == n)) (ap (λ b. content_size b 0) is ∙ with-content before files took ∙ read.sized)
 
-more-files : (before : Bench) (parts : List Worked) (part : Worked) → with_files (with_files before (map opened parts)) (opened part ∷ []) ≡ with_files before (map opened (parts ++ part ∷ []))
+more-files : (before : Bench) (parts : List Worked) (part : Worked) → bench_with_files (bench_with_files before (map opened parts)) (opened part ∷ []) ≡ bench_with_files before (map opened (parts ++ part ∷ []))
 more-files before parts part =
     ap (λ files. record before { files = files }) (append_assoc before.files (map opened parts) (opened part ∷ []) ∙ ap (λ files. before.files ++ files) (sym (map-append opened parts (part ∷ []))))
 
-pub adding-more : (before now new : Bench) (relationship : ℕ) (pieces left rest : List Piece) (place offset : ℕ) (piece : Piece) (told : List Pair) → BeganWithOne before → IsRead before → Adding before now relationship pieces left place offset → left ≡ piece ∷ rest
+pub adding-more : (before now new : Bench) (relationship : ℕ) (pieces left rest : List Piece) (place offset : ℕ) (piece : Piece) (told : List Pair) → BeganWithOne before → IsReadTaken before → Adding before now relationship pieces left place offset → left ≡ piece ∷ rest
     → told ≡ piece.told ++ fragment_pairs (taken_in before) (place + 1) (length pieces) → AddsPart now new offset piece.size told true → Adding before new relationship pieces rest (place + 1) (offset + piece.size)
 adding-more before now new relationship pieces left rest place offset piece told took read adding next are added =
     let file = taken_in before in
@@ -118,14 +118,14 @@ adding-more before now new relationship pieces left rest place offset piece told
     let set = set-is before now files told (piece.told ++ fragment_pairs file (place + 1) count) (Some attributes) took adding.is are added.1 in
     let made : part_file (is_whole now 0 offset piece.size) attributes offset piece.size ≡ opened part =
     ap (λ w. part_file w attributes offset piece.size) (whole-is before now files offset piece.size took read adding.is) ∙ sym (part-opened relationship file attributes offset piece.size) in
-    let is : new ≡ with_files now (opened part ∷ []) = added.2 ∙ ap (λ f. with_files now (f ∷ [])) made in
+    let is : new ≡ bench_with_files now (opened part ∷ []) = added.2 ∙ ap (λ f. bench_with_files now (f ∷ [])) made in
     let size : attribute_size new ≡ attribute_size now + encoded_size attributes =
     ap attribute_size added.2 ∙ end-size now (part_file (is_whole now 0 offset piece.size) attributes offset piece.size)
     ∙ ap (λ a. attribute_size now + encoded_size a) (part-attributes (is_whole now 0 offset piece.size) attributes offset piece.size) in
     let later : ℕ → Option (List Worked) = λ n. parts_from file relationship count (place + 1 + 1) (offset + piece.size) n rest in
     record {
       parts = adding.parts ++ part ∷ [];
-      is = is ∙ ap (λ b. with_files b (opened part ∷ [])) adding.is ∙ more-files before adding.parts part;
+      is = is ∙ ap (λ b. bench_with_files b (opened part ∷ [])) adding.is ∙ more-files before adding.parts part;
       many = omega (arith, length-append adding.parts (part ∷ []), adding.many);
       each = All-append (IsPart relationship) adding.parts (part ∷ []) adding.each (All-cons (IsPart relationship) part [] (part-is relationship file attributes offset piece.size) (All-nil (IsPart relationship)));
       same = adding.same ∙ ap (λ l. behind adding.parts (parts_from file relationship count (place + 1) offset (attribute_size now) l)) next
@@ -145,7 +145,7 @@ adding-refused before now new relationship pieces left rest place offset piece t
     record {
       parts = adding.parts;
       dropped = out.dropped;
-      is = out.is ∙ ap (λ b. with_files b out.dropped) adding.is ∙ ap (λ files. record before { files = files }) (append_assoc before.files files out.dropped);
+      is = out.is ∙ ap (λ b. bench_with_files b out.dropped) adding.is ∙ ap (λ files. record before { files = files }) (append_assoc before.files files out.dropped);
       many = adding.many;
       few = omega (arith, fewer);
       each = adding.each;
@@ -161,7 +161,7 @@ adding-ends before now relationship pieces left place offset made adding none al
     record {
       parts = adding.parts;
       dropped = [];
-      is = adding.is ∙ ap (λ files. with_files before files) (sym (append-nil (map opened adding.parts)));
+      is = adding.is ∙ ap (λ files. bench_with_files before files) (sym (append-nil (map opened adding.parts)));
       many = adding.many ∙ sym is;
       few = omega (arith, all, is);
       each = adding.each;

@@ -15,15 +15,15 @@ use Rattle.flowfile_record.specs.declared.worked.Worked.{Worked}
 use Rattle.machine_model.specs.Making.{or_given_up, passed_on}
 use Rattle.machine_model.specs.Parts.{Piece, parted}
 use Rattle.process_session.specs.declared.file.File.{File}
-use Rattle.process_session.specs.Bench.{Bench, attributes_at, bench_of, taken_file}
+use Rattle.process_session.specs.Bench.{Bench, bench_attributes, bench_of, taken_file}
 use Rattle.process_session.specs.Changes.{change_at, with_end}
-use Rattle.process_session.specs.Finish.{is_left_out, is_removed, kept_files, origin_in, outcome_of, sent_in, standing_from, worked_of, worked_with}
+use Rattle.process_session.specs.Finish.{is_left_out, ends_removed, kept_files, origin_in, outcome_of, sent_in, standing_from, worked_of, worked_with}
 use Rattle.process_session.specs.Reasons.{not_accounted_from}
 use Rattle.process_session.specs.Refusals.{refusal_of_finish, refusal_of_remove, refusal_of_transfer}
 use Rattle.process_session.proofs.Refusing.{no_refusal}
 use Rattle.processor_api.specs.Sessions.{BeganWithOne, EndsWith}
-use Rattle.processor_api.specs.Cloning.{ended}
-use Rattle.proc_text.specs.Parting.{AddsParts, HasOpen, IsPart, behind_first, ended_as, first_ended, opened, parts_of, taken_in, with_files, with_first_ended}
+use Rattle.processor_api.specs.Cloning.{file_ended}
+use Rattle.proc_text.specs.Parting.{AddsParts, HasOpen, IsPart, behind_first, ended_as, first_ended, opened, parts_of, taken_in, bench_with_files, with_first_ended}
 use Rattle.processor_api.proofs.Clones.{change-first, known, next, starts, still_open, taken_names, taken_stays, transfer-free}
 
 -- ---- one part after another ends
@@ -104,21 +104,21 @@ first-all how (file ∷ files) others = ap (λ (fs : List File). ended_as how fi
 -- ---- the taken file ends last
 
 abbrev done_bench : Bench → Worked → List File → Bench
-done_bench before file files = record { relationships = before.relationships; sources = before.sources; files = ended file ∷ files; sent = None; handed = 0 }
+done_bench before file files = record { relationships = before.relationships; sources = before.sources; files = file_ended file ∷ files; sent = None; handed = 0 }
 
 -- the session, as its parts have ended
 abbrev parts_ended : End → ℕ → List File → Bench → Bench
-parts_ended how made files bench = with_first_ended how made (with_files bench files)
+parts_ended how made files bench = with_first_ended how made (bench_with_files bench files)
 
-pub last-transfer : (how : End) (before now mid : Bench) (made relationship : ℕ) (files : List File) → BeganWithOne before → now ≡ with_files before files → mid ≡ with_first_ended how made now → relationship < before.relationships
+pub last-transfer : (how : End) (before now mid : Bench) (made relationship : ℕ) (files : List File) → BeganWithOne before → now ≡ bench_with_files before files → mid ≡ with_first_ended how made now → relationship < before.relationships
     → refusal_of_transfer mid 0 relationship ≡ None
 last-transfer how before now mid made relationship files took is ends goes =
     let whole : mid ≡ parts_ended how made files (bench_of before.relationships (took.taken ∷ [])) = ends ∙ ap (with_first_ended how made) is ∙ ap (parts_ended how made files) took.begun in
     let there : slice_get mid.files 0 ≡ Some (taken_file 0 took.taken) = ap (λ (b : Bench). slice_get b.files 0) whole in
     transfer-free mid 0 relationship (taken_file 0 took.taken) there refl (omega (arith, goes, ap (λ (b : Bench). b.relationships) whole))
 
-done-is : (how : End) (before now mid after : Bench) (made relationship : ℕ) (parts dropped : List File) → BeganWithOne before → length parts ≡ made → now ≡ with_files before (parts ++ dropped) → mid ≡ with_first_ended how made now → after ≡ with_end mid 0 (To relationship)
-    → after ≡ done_bench before (passed_on 0 (attributes_at before 0) false relationship) (map (ended_as how) parts ++ dropped)
+done-is : (how : End) (before now mid after : Bench) (made relationship : ℕ) (parts dropped : List File) → BeganWithOne before → length parts ≡ made → now ≡ bench_with_files before (parts ++ dropped) → mid ≡ with_first_ended how made now → after ≡ with_end mid 0 (To relationship)
+    → after ≡ done_bench before (passed_on 0 (bench_attributes before 0) false relationship) (map (ended_as how) parts ++ dropped)
 done-is how before now mid after made relationship parts dropped took many is ends last =
     let n = before.relationships in
     let bench = bench_of n (took.taken ∷ []) in
@@ -128,8 +128,8 @@ done-is how before now mid after made relationship parts dropped took many is en
     last ∙ ap (λ b. with_end b 0 (To relationship)) (ends ∙ ap (with_first_ended how made) is ∙ ap (parts_ended how made files) took.begun)
     ∙ ap with (change-first (ended_as (To relationship)) taken (first_ended how made files))
     ∙ ap (λ fs. with (ended_as (To relationship) taken ∷ fs)) (ap (λ m. first_ended how m files) (sym many) ∙ first-all how parts dropped)
-    ∙ ap (λ s. record bench { sources = s; files = ended (passed_on 0 took.taken.attributes false relationship) ∷ (map (ended_as how) parts ++ dropped) }) (sym (ap (λ (b : Bench). b.sources) took.begun))
-    ∙ ap (λ a. done_bench before (passed_on 0 a false relationship) (map (ended_as how) parts ++ dropped)) (sym (ap (λ b. attributes_at b 0) took.begun))
+    ∙ ap (λ s. record bench { sources = s; files = file_ended (passed_on 0 took.taken.attributes false relationship) ∷ (map (ended_as how) parts ++ dropped) }) (sym (ap (λ (b : Bench). b.sources) took.begun))
+    ∙ ap (λ a. done_bench before (passed_on 0 a false relationship) (map (ended_as how) parts ++ dropped)) (sym (ap (λ b. bench_attributes b 0) took.begun))
 
 -- ---- the outcome
 
@@ -137,17 +137,17 @@ and-false : (b : Bool) → (b && false) ≡ false
 and-false true = refl
 and-false false = refl
 
-part-stays : (relationship : ℕ) (part : Worked) → IsPart relationship part → is_left_out (ended part) ≡ false
-part-stays relationship part is = ap (λ (e : End). is_made part.origin && is_removed (Some e)) is.goes ∙ and-false (is_made part.origin)
+part-stays : (relationship : ℕ) (part : Worked) → IsPart relationship part → is_left_out (file_ended part) ≡ false
+part-stays relationship part is = ap (λ (e : End). is_made part.origin && ends_removed (Some e)) is.goes ∙ and-false (is_made part.origin)
 
-part-names : (rest : List (List ℕ)) (relationship : ℕ) (part : Worked) → IsPart relationship part → worked_of ((0 ∷ []) ∷ rest) (ended part) ≡ part
-part-names rest relationship part is = ap (λ o. worked_with o (ended part)) (same is.origin)
+part-names : (rest : List (List ℕ)) (relationship : ℕ) (part : Worked) → IsPart relationship part → worked_of ((0 ∷ []) ∷ rest) (file_ended part) ≡ part
+part-names rest relationship part is = ap (λ o. worked_with o (file_ended part)) (same is.origin)
   where
     same : ((part.origin ≡ Cloned 0) ⊎ (part.origin ≡ PartOf 0)) → origin_in ((0 ∷ []) ∷ rest) part.origin ≡ part.origin
     same (inl e) = ap (origin_in ((0 ∷ []) ∷ rest)) e ∙ sym e
     same (inr e) = ap (origin_in ((0 ∷ []) ∷ rest)) e ∙ sym e
 
-kept_parts : (rest : List (List ℕ)) (relationship : ℕ) (parts : List Worked) (dropped : List File) → All (IsPart relationship) parts → All (λ file. is_left_out file ≡ true) dropped → kept_files ((0 ∷ []) ∷ rest) (map ended parts ++ dropped) ≡ parts
+kept_parts : (rest : List (List ℕ)) (relationship : ℕ) (parts : List Worked) (dropped : List File) → All (IsPart relationship) parts → All (λ file. is_left_out file ≡ true) dropped → kept_files ((0 ∷ []) ∷ rest) (map file_ended parts ++ dropped) ≡ parts
 unfolding kept_files
 kept_parts rest relationship [] [] all out = refl
 kept_parts rest relationship [] (file ∷ dropped) all out =
@@ -158,19 +158,19 @@ kept_parts rest relationship [] (file ∷ dropped) all out =
 kept_parts rest relationship (part ∷ parts) dropped all out =
     let here = All-head (IsPart relationship) part parts all in
     let stand : List (List ℕ) = (0 ∷ []) ∷ rest in
-    let more = kept_files stand (map ended parts ++ dropped) in
-    ap (λ b. cond b more (worked_of stand (ended part) ∷ more)) (part-stays relationship part here)
+    let more = kept_files stand (map file_ended parts ++ dropped) in
+    ap (λ b. cond b more (worked_of stand (file_ended part) ∷ more)) (part-stays relationship part here)
     ∙ ap (λ w. w ∷ more) (part-names rest relationship part here)
     ∙ ap (λ (ws : List Worked). part ∷ ws) (kept_parts rest relationship parts dropped (All-tail (IsPart relationship) part parts all) out)
 
 out-ended : (file : File) → is_left_out file ≡ true → is_none file.«end» ≡ false
-out-ended file out = of_end file.«end» (and_parts (is_made file.origin) (is_removed file.«end») out).1
+out-ended file out = of_end file.«end» (and_parts (is_made file.origin) (ends_removed file.«end») out).1
   where
-    of_end : (o : Option End) → is_removed o ≡ true → is_none o ≡ false
+    of_end : (o : Option End) → ends_removed o ≡ true → is_none o ≡ false
     of_end None h = cc
     of_end (Some how) h = refl
 
-all-ended : (place : ℕ) (files : List Worked) (dropped : List File) → All (λ file. is_left_out file ≡ true) dropped → not_accounted_from place (map ended files ++ dropped) ≡ None
+all-ended : (place : ℕ) (files : List Worked) (dropped : List File) → All (λ file. is_left_out file ≡ true) dropped → not_accounted_from place (map file_ended files ++ dropped) ≡ None
 unfolding not_accounted_from
 all-ended place [] [] out = refl
 all-ended place [] (file ∷ dropped) out =
@@ -178,22 +178,22 @@ all-ended place [] (file ∷ dropped) out =
 all-ended place (file ∷ files) dropped out = all-ended (place + 1) files dropped out
 
 done-outcome : (before : Bench) (relationship : ℕ) (file : Worked) (parts : List Worked) (dropped : List File) → file.origin ≡ FromQueue 0 → All (IsPart relationship) parts → All (λ file. is_left_out file ≡ true) dropped
-    → outcome_of (done_bench before file (map ended parts ++ dropped)) ≡ record { files = file ∷ parts; sent = None }
+    → outcome_of (done_bench before file (map file_ended parts ++ dropped)) ≡ record { files = file ∷ parts; sent = None }
 unfolding outcome_of sent_in kept_files standing_from
 done-outcome before relationship file parts dropped taken all out =
-    let files = map ended parts ++ dropped in
+    let files = map file_ended parts ++ dropped in
     let outcome : List Worked → Outcome = λ files. record { files = files; sent = None } in
-    let stand : standing_from [] 0 (ended file ∷ files) ≡ standing_from ((0 ∷ []) ∷ []) 1 files = rw (taken_stays file taken) refl in
+    let stand : standing_from [] 0 (file_ended file ∷ files) ≡ standing_from ((0 ∷ []) ∷ []) 1 files = rw (taken_stays file taken) refl in
     let first = starts (0 ∷ []) [] 1 files in
     let after = (0 ∷ []) ∷ first.0 in
     let more = kept_files after files in
-    ap outcome (ap (λ s. kept_files s (ended file ∷ files)) (stand ∙ first.1)
-    ∙ ap (λ b. cond b more (worked_of after (ended file) ∷ more)) (taken_stays file taken)
+    ap outcome (ap (λ s. kept_files s (file_ended file ∷ files)) (stand ∙ first.1)
+    ∙ ap (λ b. cond b more (worked_of after (file_ended file) ∷ more)) (taken_stays file taken)
     ∙ ap (λ w. w ∷ more) (taken_names after file taken)
     ∙ ap (λ (ws : List Worked). file ∷ ws) (kept_parts first.0 relationship parts dropped all out))
 
 ends-done : (before after : Bench) (relationship : ℕ) (file : Worked) (parts : List Worked) (dropped : List File) → file.origin ≡ FromQueue 0 → All (IsPart relationship) parts → All (λ file. is_left_out file ≡ true) dropped
-    → after ≡ done_bench before file (map ended parts ++ dropped) → EndsWith before after (record { files = file ∷ parts; sent = None })
+    → after ≡ done_bench before file (map file_ended parts ++ dropped) → EndsWith before after (record { files = file ∷ parts; sent = None })
 ends-done before after relationship file parts dropped taken all out is = record {
   finished = ap refusal_of_finish is ∙ next _ _ (all-ended 0 (file ∷ parts) dropped out) no_refusal;
   kept = record { relationships = ap (λ (b : Bench). b.relationships) is; sources = ap (λ (b : Bench). b.sources) is };
@@ -202,12 +202,12 @@ ends-done before after relationship file parts dropped taken all out is = record
 
 -- ---- all parts were made, or they were removed
 
-parts-go : (relationship : ℕ) (parts : List Worked) → All (IsPart relationship) parts → map (ended_as (To relationship)) (map opened parts) ≡ map ended parts
+parts-go : (relationship : ℕ) (parts : List Worked) → All (IsPart relationship) parts → map (ended_as (To relationship)) (map opened parts) ≡ map file_ended parts
 parts-go relationship [] all = refl
 parts-go relationship (part ∷ parts) all =
     let here = All-head (IsPart relationship) part parts all in
-    ap (λ (e : End). record (ended part) { «end» = Some e } ∷ map (ended_as (To relationship)) (map opened parts)) (sym here.goes)
-    ∙ ap (λ (fs : List File). ended part ∷ fs) (parts-go relationship parts (All-tail (IsPart relationship) part parts all))
+    ap (λ (e : End). record (file_ended part) { «end» = Some e } ∷ map (ended_as (To relationship)) (map opened parts)) (sym here.goes)
+    ∙ ap (λ (fs : List File). file_ended part ∷ fs) (parts-go relationship parts (All-tail (IsPart relationship) part parts all))
 
 part-removed : (relationship : ℕ) (part : Worked) → IsPart relationship part → is_left_out (ended_as Removed (opened part)) ≡ true
 part-removed relationship part is = of_origin is.origin
@@ -235,16 +235,16 @@ some-parted before original relationship pieces parts few is =
 pub all-parted : (before now mid after : Bench) (original relationship : ℕ) (pieces : List Piece) (made : ℕ) → BeganWithOne before → length pieces < FILES_MAX → AddsParts before now relationship pieces made → made ≡ length pieces
     → mid ≡ with_first_ended (To relationship) made now → after ≡ with_end mid 0 (To original) → EndsParted before after original relationship pieces
 all-parted before now mid after original relationship pieces made took few adds all ends last =
-    let file = passed_on 0 (attributes_at before 0) false original in
+    let file = passed_on 0 (bench_attributes before 0) false original in
     let done = done-is (To relationship) before now mid after made original (map opened adds.parts) adds.dropped took (length-map adds.parts opened ∙ adds.many) adds.is ends last in
-    let is : after ≡ done_bench before file (map ended adds.parts ++ adds.dropped) = done ∙ ap (λ fs. done_bench before file (fs ++ adds.dropped)) (parts-go relationship adds.parts adds.each) in
+    let is : after ≡ done_bench before file (map file_ended adds.parts ++ adds.dropped) = done ∙ ap (λ fs. done_bench before file (fs ++ adds.dropped)) (parts-go relationship adds.parts adds.each) in
     subst (EndsWith before after) (sym (ap (or_given_up 2 (taken_in before ∷ [])) (some-parted before original relationship pieces (Some adds.parts) few (adds.all all).1)))
     (ends-done before after relationship file adds.parts adds.dropped refl adds.each adds.left_out is)
 
 pub none-parted : (before now mid after : Bench) (original relationship : ℕ) (pieces : List Piece) (made : ℕ) → BeganWithOne before → length pieces < FILES_MAX → AddsParts before now relationship pieces made → made < length pieces
     → mid ≡ with_first_ended Removed made now → after ≡ with_end mid 0 (To 2) → EndsParted before after original relationship pieces
 none-parted before now mid after original relationship pieces made took few adds fewer ends last =
-    let file = passed_on 0 (attributes_at before 0) false 2 in
+    let file = passed_on 0 (bench_attributes before 0) false 2 in
     let done = done-is Removed before now mid after made 2 (map opened adds.parts) adds.dropped took (length-map adds.parts opened ∙ adds.many) adds.is ends last in
     subst (EndsWith before after) (sym (ap (or_given_up 2 (taken_in before ∷ [])) (some-parted before original relationship pieces None few (adds.fewer fewer))))
     (ends-done before after relationship file [] (map (ended_as Removed) (map opened adds.parts) ++ adds.dropped) refl (All-nil (IsPart relationship)) (parts-removed relationship adds.parts adds.dropped adds.each adds.left_out) done)

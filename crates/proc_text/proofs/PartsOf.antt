@@ -11,7 +11,7 @@ use Rattle.process_session.proofs.Refusing.{no_refusal}
 use Rattle.processor_api.specs.Sessions.{BeganWithOne}
 use Rattle.proc_text.specs.declared.parting.Whole.{Whole}
 use Rattle.proc_text.specs.declared.pieces.Piece.{Piece as CutPiece}
-use Rattle.proc_text.specs.Parting.{IsRead, TellsOf, fragments_by, taken_in}
+use Rattle.proc_text.specs.Parting.{IsReadTaken, TellsOfParts, fragments_by, taken_in}
 use Rattle.proc_text.specs.Pieces.{lines_told, piece_of}
 use Rattle.processor_api.proofs.Clones.{known, next, none_holds}
 use Rattle.proc_text.proofs.Cutting.{size_of}
@@ -33,14 +33,14 @@ offset-next pieces place offset other there sum =
 pub piece-fits : (pieces : List CutPiece) (place offset limit : ℕ) (other : CutPiece) → place < length pieces → offset ≡ sum_by size_of (take place pieces) → sum_by size_of pieces ≤ limit → offset + (get_or pieces place other).size ≤ limit
 piece-fits pieces place offset limit other there sum fits = omega (arith, offset-next pieces place offset other there sum, sum_by-take-le size_of pieces (place + 1), fits)
 
-pub told-is : (whole : Whole) (before : Bench) (pieces : List CutPiece) (piece : CutPiece) (index : ℕ) → TellsOf whole before (length pieces)
+pub told-is : (whole : Whole) (before : Bench) (pieces : List CutPiece) (piece : CutPiece) (index : ℕ) → TellsOfParts whole before (length pieces)
     → lines_told piece.lines ++ fragments_by whole index ≡ (piece_of piece).told ++ fragment_pairs (taken_in before) index (length (map piece_of pieces))
 told-is whole before pieces piece index tells =
     ap (λ ps. lines_told piece.lines ++ ps) (tells index ∙ ap (fragment_pairs (taken_in before) index) (sym (length-map pieces piece_of)))
 
 -- ---- the content
 
-pub content-there : (bench : Bench) → BeganWithOne bench → IsRead bench → refusal_of_content bench 0 ≡ None
+pub content-there : (bench : Bench) → BeganWithOne bench → IsReadTaken bench → refusal_of_content bench 0 ≡ None
 unfolding no_bytes
 content-there bench took read =
     next _ _ (known bench 0 (taken_file 0 took.taken) (ap (λ (b : Bench). slice_get b.files 0) took.begun)) (next _ _ (none_holds _ _ (ap is_none read.bytes)) no_refusal)

@@ -14,20 +14,20 @@ use Rattle.machine_model.specs.declared.given.Given.{Given}
 use Rattle.machine_model.specs.declared.kind.Kind.{Kind}
 use Rattle.machine_model.specs.declared.kind.Kind.TheVariants.{SegmentContent, SplitText}
 use Rattle.machine_model.specs.declared.kind.TakeRule.TheVariants.{One}
-use Rattle.process_session.specs.Bench.{Bench, HasItsSize, IsWhole, bench_of, bytes_of, content_size}
+use Rattle.process_session.specs.Bench.{Bench, HasItsSize, IsWhole, bench_of, bench_bytes, content_size}
 use Rattle.process_session.specs.declared.file.Taken.{Taken}
 use Rattle.processor_api.specs.Acts.{AreRead, Begins, EndsAs, IsTakenAs, fit_a_content}
 use Rattle.processor_api.proofs.Began.{one-acts, taken-attributes, taken-content}
 use Rattle.proc_text.specs.declared.pieces.Cut.TheVariants.{Bytes, Lines}
-use Rattle.proc_text.specs.Parting.{IsRead, taken_in}
+use Rattle.proc_text.specs.Parting.{IsReadTaken, taken_in}
 use Rattle.proc_text.specs.Pieces.{pieces_in}
 use Rattle.proc_text.proofs.PartsEnd.{EndsParted}
 
 -- ---- as it begins
 
-is-read : (bench : Bench) (n : ℕ) (one : Taken) (bytes : List ℕ) → bench ≡ bench_of n (one ∷ []) → one.bytes ≡ Some bytes → length bytes ≡ one.size → length bytes ≤ CONTENT_MAX → IsRead bench
+is-read : (bench : Bench) (n : ℕ) (one : Taken) (bytes : List ℕ) → bench ≡ bench_of n (one ∷ []) → one.bytes ≡ Some bytes → length bytes ≡ one.size → length bytes ≤ CONTENT_MAX → IsReadTaken bench
 is-read bench n one bytes is has sized short =
-    let shown : bytes_of bench 0 ≡ Some bytes = ap (λ b. bytes_of b 0) is ∙ has in
+    let shown : bench_bytes bench 0 ≡ Some bytes = ap (λ b. bench_bytes b 0) is ∙ has in
     let same : (taken_in bench).bytes ≡ bytes = ap (λ o. unwrap_or o []) shown in
     record {
       bytes = shown ∙ ap Some (sym same);
@@ -35,10 +35,10 @@ is-read bench n one bytes is has sized short =
       short = omega (arith, ap length same, short);
     }
 
-pub began-read : (kind : Kind) (bench : Bench) (given : Given) → take_rule_of kind ≡ One → Begins kind bench given → IsRead bench
+pub began-read : (kind : Kind) (bench : Bench) (given : Given) → take_rule_of kind ≡ One → Begins kind bench given → IsReadTaken bench
 began-read kind bench given rule begins = of_taken begins.taken begins.begun begins.handed.read (subst (λ r. MayTake r (length begins.taken)) rule begins.handed.count)
   where
-    of_bytes : (one : Taken) (bytes : Option (List ℕ)) → one.bytes ≡ bytes → bench ≡ bench_of (length (relationships_of kind)) (one ∷ []) → AreRead (one ∷ []) → IsRead bench
+    of_bytes : (one : Taken) (bytes : Option (List ℕ)) → one.bytes ≡ bytes → bench ≡ bench_of (length (relationships_of kind)) (one ∷ []) → AreRead (one ∷ []) → IsReadTaken bench
     of_bytes one None none is read =
         let small = All-head (λ (file : Taken). file.size ≤ CONTENT_MAX) one [] read.small in
         let fits : fit_a_content (one ∷ []) ≡ true = le-leb _ CONTENT_MAX (omega (arith, small, sum_by-cons (λ (file : Taken). file.size) one [])) in
@@ -49,14 +49,14 @@ began-read kind bench given rule begins = of_taken begins.taken begins.begun beg
         let sized : length bytes ≡ one.size = subst (λ b. HasItsSize b one.size) has (All-head IsWhole one [] read.whole) in
         is-read bench (length (relationships_of kind)) one bytes is has sized (omega (arith, small, sized))
 
-    of_taken : (taken : List Taken) → bench ≡ bench_of (length (relationships_of kind)) taken → AreRead taken → length taken ≡ 1 → IsRead bench
+    of_taken : (taken : List Taken) → bench ≡ bench_of (length (relationships_of kind)) taken → AreRead taken → length taken ≡ 1 → IsReadTaken bench
     of_taken [] is read count = absurd (omega (arith, count))
     of_taken (one ∷ []) is read count = of_bytes one one.bytes refl is read
     of_taken (one ∷ other ∷ more) is read count = absurd (omega (arith, count))
 
 -- ---- as it ends
 
-taken-is : (before : Bench) (taken : Taken) (file : TakenFile) → IsRead before → before ≡ bench_of before.relationships (taken ∷ []) → IsTakenAs file taken → file ≡ taken_in before
+taken-is : (before : Bench) (taken : Taken) (file : TakenFile) → IsReadTaken before → before ≡ bench_of before.relationships (taken ∷ []) → IsTakenAs file taken → file ≡ taken_in before
 taken-is before taken file read is alike =
     let attributes = taken-attributes before taken file is alike in
     let uuid : file.uuid ≡ (taken_in before).uuid = alike.uuid ∙ sym (ap (λ b. (taken_in b).uuid) is) in

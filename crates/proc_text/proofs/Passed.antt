@@ -6,7 +6,7 @@ use Rattle.flowfile_record.specs.declared.attributes.TheConstants.{ATTRIBUTES_MA
 use Rattle.flowfile_record.specs.declared.worked.End.TheVariants.{To}
 use Rattle.machine_model.specs.AttributesToJson.{written_on}
 use Rattle.machine_model.specs.Making.{alone as alone_outcome}
-use Rattle.process_session.specs.Bench.{Bench, attributes_at, source_of, taken_file}
+use Rattle.process_session.specs.Bench.{Bench, bench_attributes, taken_source, taken_file}
 use Rattle.process_session.specs.Changes.{with_end, with_written, written_file}
 use Rattle.process_session.specs.Finish.{outcome_of}
 use Rattle.process_session.specs.Refusals.{refusal_of_finish, refusal_of_transfer, refusal_of_write}
@@ -21,10 +21,10 @@ abbrev replaced_file : (bench : Bench) → BeganWithOne bench → List ℕ → F
 replaced_file bench one bytes = written_file bytes (taken_file 0 one.taken)
 
 abbrev sources_in : (bench : Bench) → BeganWithOne bench → List Source
-sources_in bench one = source_of one.taken ∷ []
+sources_in bench one = taken_source one.taken ∷ []
 
 abbrev SmallFrom : Bench → Type 0
-SmallFrom bench = encoded_size (attributes_at bench 0) ≤ ATTRIBUTES_MAX
+SmallFrom bench = encoded_size (bench_attributes bench 0) ≤ ATTRIBUTES_MAX
 
 pub replace-free : (before : Bench) (one : BeganWithOne before) (bytes : List ℕ) → SmallFrom before → length bytes ≤ CONTENT_MAX → refusal_of_write before 0 bytes ≡ None
 replace-free before one bytes small fits =
@@ -41,7 +41,7 @@ replaced-transfer before now one bytes relationship is there =
     ap (λ b. refusal_of_transfer b 0 relationship) (is ∙ replaced-is before one bytes)
     ∙ transfer-free before.relationships (sources_in before one) (replaced_file before one bytes) None (0 + length bytes) relationship refl there
 
-pub replaced-ends : (before now after : Bench) (one : BeganWithOne before) (bytes : List ℕ) → now ≡ with_written before 0 bytes → after ≡ with_end now 0 (To 0) → EndsWith before after (alone_outcome (written_on (attributes_at before 0) bytes))
+pub replaced-ends : (before now after : Bench) (one : BeganWithOne before) (bytes : List ℕ) → now ≡ with_written before 0 bytes → after ≡ with_end now 0 (To 0) → EndsWith before after (alone_outcome (written_on (bench_attributes before 0) bytes))
 replaced-ends before now after one bytes now-is after-is =
     let n = before.relationships in
     let s = sources_in before one in
@@ -56,5 +56,5 @@ replaced-ends before now after one bytes now-is after-is =
         relationships = ap (λ (b : Bench). b.relationships) is;
         sources = ap (λ (b : Bench). b.sources) is ∙ sym (ap (λ (b : Bench). b.sources) one.begun);
       };
-      outcome = ap outcome_of is ∙ outcome-alone n s done size refl (λ stand. refl) ∙ sym (ap (λ b. alone_outcome (written_on (attributes_at b 0) bytes)) one.begun);
+      outcome = ap outcome_of is ∙ outcome-alone n s done size refl (λ stand. refl) ∙ sym (ap (λ b. alone_outcome (written_on (bench_attributes b 0) bytes)) one.begun);
     }

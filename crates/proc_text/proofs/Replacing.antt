@@ -13,7 +13,7 @@ use Rattle.machine_model.specs.ReplaceText.{replaced_content, text_replaced}
 use Rattle.machine_model.specs.declared.given.Given.{Given}
 use Rattle.machine_model.specs.declared.kind.Kind.TheVariants.{ReplaceText}
 use Rattle.machine_model.specs.declared.kind.Replacement.{Replacement}
-use Rattle.process_session.specs.Bench.{Bench, attributes_at, bytes_of}
+use Rattle.process_session.specs.Bench.{Bench, bench_attributes, bench_bytes}
 use Rattle.process_session.specs.Finish.{outcome_of}
 use Rattle.processor_api.specs.Acts.{Begins, EndsAs}
 use Rattle.processor_api.proofs.Began.{one-acts, taken-attributes, taken-content}
@@ -59,13 +59,13 @@ replaced-up : (file : TakenFile) (content : Option (List ℕ)) → or_given_up 1
 replaced-up file None = refl
 replaced-up file (Some bytes) = refl
 
-pub text-acts : (replacement : Replacement) (before : Bench) (given : Given) (after : Bench) (content : List ℕ) (made : Option (List ℕ)) → Begins (ReplaceText replacement) before given → bytes_of before 0 ≡ Some content
-    → replaced_content replacement content ≡ made → EndsWith before after (replaced_with (attributes_at before 0) made) → EndsAs (ReplaceText replacement) before given after
+pub text-acts : (replacement : Replacement) (before : Bench) (given : Given) (after : Bench) (content : List ℕ) (made : Option (List ℕ)) → Begins (ReplaceText replacement) before given → bench_bytes before 0 ≡ Some content
+    → replaced_content replacement content ≡ made → EndsWith before after (replaced_with (bench_attributes before 0) made) → EndsAs (ReplaceText replacement) before given after
 text-acts replacement before given after content made begins shown is ends =
     one-acts (ReplaceText replacement) before given after refl begins ends.finished ends.kept
     (λ taken file began alike. of_file file (taken-attributes before taken file began alike) (taken-content before taken file content began alike shown))
   where
-    of_file : (file : TakenFile) → file.attributes ≡ attributes_at before 0 → file.bytes ≡ content → act (ReplaceText replacement) (file ∷ []) given ≡ Some (outcome_of after)
+    of_file : (file : TakenFile) → file.attributes ≡ bench_attributes before 0 → file.bytes ≡ content → act (ReplaceText replacement) (file ∷ []) given ≡ Some (outcome_of after)
     of_file file attributes same =
         ap Some (replaced-up file (replaced_content replacement file.bytes)
         ∙ ap (λ b. replaced_with file.attributes (replaced_content replacement b)) same

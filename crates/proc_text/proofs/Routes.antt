@@ -16,7 +16,7 @@ use Rattle.machine_model.specs.declared.given.Given.{Given}
 use Rattle.machine_model.specs.declared.kind.Kind.TheVariants.{RouteOnContent}
 use Rattle.machine_model.specs.declared.kind.MatchRequirement.{MatchRequirement}
 use Rattle.machine_model.specs.declared.kind.OwnPattern.{OwnPattern}
-use Rattle.process_session.specs.Bench.{Bench, attributes_at, bench_of, bytes_of}
+use Rattle.process_session.specs.Bench.{Bench, bench_attributes, bench_of, bench_bytes}
 use Rattle.process_session.specs.Finish.{outcome_of}
 use Rattle.process_session.specs.declared.file.Taken.{Taken}
 use Rattle.processor_api.specs.Acts.{Begins, EndsAs, IsTakenAs}
@@ -66,14 +66,14 @@ pub few-found : (requirement : MatchRequirement) (own : List OwnPattern) (conten
 few-found requirement own content places sound are =
     omega (arith, ap length are, places-few (is_found_in content) own, own-few requirement own sound)
 
-pub route-acts : (requirement : MatchRequirement) (own : List OwnPattern) (before : Bench) (given : Given) (after : Bench) (content places : List ℕ) → Begins (RouteOnContent requirement own) before given → bytes_of before 0 ≡ Some content
-    → places ≡ found_places content own → ((file : TakenFile) → file.attributes ≡ attributes_at before 0 → EndsWith before after (routed (length own) file places)) → EndsAs (RouteOnContent requirement own) before given after
+pub route-acts : (requirement : MatchRequirement) (own : List OwnPattern) (before : Bench) (given : Given) (after : Bench) (content places : List ℕ) → Begins (RouteOnContent requirement own) before given → bench_bytes before 0 ≡ Some content
+    → places ≡ found_places content own → ((file : TakenFile) → file.attributes ≡ bench_attributes before 0 → EndsWith before after (routed (length own) file places)) → EndsAs (RouteOnContent requirement own) before given after
 route-acts requirement own before given after content places begins shown are ends =
-    let some = ends (record { attributes = attributes_at before 0; uuid = []; bytes = [] }) refl in
+    let some = ends (record { attributes = bench_attributes before 0; uuid = []; bytes = [] }) refl in
     one-acts (RouteOnContent requirement own) before given after refl begins some.finished some.kept of_file
   where
     of_file : (taken : Taken) (file : TakenFile) → before ≡ bench_of before.relationships (taken ∷ []) → IsTakenAs file taken → act (RouteOnContent requirement own) (file ∷ []) given ≡ Some (outcome_of after)
     of_file taken file began alike =
-        let same : file.attributes ≡ attributes_at before 0 = alike.attributes ∙ sym (ap (λ b. attributes_at b 0) began) in
+        let same : file.attributes ≡ bench_attributes before 0 = alike.attributes ∙ sym (ap (λ b. bench_attributes b 0) began) in
         ap (λ bytes. Some (routed (length own) file (found_places bytes own))) (taken-content before taken file content began alike shown)
         ∙ ap (λ p. Some (routed (length own) file p)) (sym are) ∙ ap Some (sym (ends file same).outcome)

@@ -21,16 +21,16 @@ use Rattle.process_session.specs.declared.error.Full.TheVariants.{Attributes}
 use Rattle.process_session.specs.declared.error.SessionError.{SessionError}
 use Rattle.process_session.specs.declared.error.SessionError.TheVariants.{SessionFull}
 use Rattle.process_session.specs.declared.file.File.{File}
-use Rattle.process_session.specs.Bench.{Bench, attribute_size, attributes_at, body_at, content_size, file_size, made_size, named_size, origin_at, taken_file}
-use Rattle.process_session.specs.Changes.{attributed_file, is_whole, part_of, with_attributes, with_clone, with_end, with_made, with_part, with_put, with_range}
+use Rattle.process_session.specs.Bench.{Bench, attribute_size, bench_attributes, body_at, content_size, file_size, made_size, named_size, origin_at, taken_file}
+use Rattle.process_session.specs.Changes.{attributed_file, is_whole, body_part, with_attributes, with_clone, with_end, with_made, with_part, with_put, with_range}
 use Rattle.process_session.specs.Finish.{is_left_out}
 use Rattle.process_session.specs.Reasons.{Refusal, IsErrorFor, IsRefusal, attributes_too_large, bad_key, first_refusal, past_limits, range_outside, session_full, where_it_holds}
 use Rattle.process_session.specs.Refusals.{refusal_of_clone_range, refusal_of_put, refusal_of_remove}
 use Rattle.process_session.proofs.Refused.{put_refusal, range_refusal}
 use Rattle.process_session.proofs.Refusing.{no_refusal, one, pass}
-use Rattle.processor_api.specs.Sessions.{HasTaken}
+use Rattle.processor_api.specs.Sessions.{HasFirstTaken}
 use Rattle.proc_text.specs.declared.parting.Told.{Told}
-use Rattle.proc_text.specs.Parting.{AddsPart, IsAnswered, ended_as, may_be_keys, part_file, told_by}
+use Rattle.proc_text.specs.Parting.{AddsPart, IsAnswered, ended_as, may_be_keys, part_file, pair_told}
 use Rattle.processor_api.proofs.Clones.{at-end, changed-end, clone-is, known, next, none_holds, still_open, with_file}
 
 abbrev pub Pair : Type 0
@@ -100,26 +100,26 @@ inside : (bench : Bench) (offset size : ℕ) → offset + size ≤ content_size 
 unfolding range_outside
 inside bench offset size fits = none_holds _ _ (le-ltb (content_size bench 0) (offset + size) fits)
 
-pub first-there : (bench : Bench) (has : HasTaken bench) → slice_get bench.files 0 ≡ Some (taken_file 0 has.taken)
+pub first-there : (bench : Bench) (has : HasFirstTaken bench) → slice_get bench.files 0 ≡ Some (taken_file 0 has.taken)
 first-there bench has = ap (λ (files : List File). slice_get files 0) has.files
 
-pub range-room : (bench : Bench) (offset size : ℕ) → HasTaken bench → length bench.files < FILES_MAX → bench.handed ≡ 0 → offset + size ≤ content_size bench 0
-    → is_none (refusal_of_clone_range bench 0 offset size) ≡ has_room (attribute_size bench) (attributes_at bench 0)
+pub range-room : (bench : Bench) (offset size : ℕ) → HasFirstTaken bench → length bench.files < FILES_MAX → bench.handed ≡ 0 → offset + size ≤ content_size bench 0
+    → is_none (refusal_of_clone_range bench 0 offset size) ≡ has_room (attribute_size bench) (bench_attributes bench 0)
 range-room bench offset size has few unwritten fits =
     ap is_none (range_refusal bench 0 offset size)
     ∙ free _ _ (known bench 0 (taken_file 0 has.taken) (first-there bench has))
     ∙ free _ _ (still_open bench 0 (taken_file 0 has.taken) (first-there bench has) refl)
     ∙ free _ _ (inside bench offset size fits)
-    ∙ room-refused (length bench.files + 1) (attribute_size bench) (bench.handed + 0) (attributes_at bench 0) (made_size (attributes_at bench 0)) refl (omega arith) (omega arith)
+    ∙ room-refused (length bench.files + 1) (attribute_size bench) (bench.handed + 0) (bench_attributes bench 0) (made_size (bench_attributes bench 0)) refl (omega arith) (omega arith)
 
-pub range-is : (bench : Bench) (offset size : ℕ) → HasTaken bench → with_range bench 0 offset size ≡ with_file bench (part_file (is_whole bench 0 offset size) (attributes_at bench 0) offset size)
+pub range-is : (bench : Bench) (offset size : ℕ) → HasFirstTaken bench → with_range bench 0 offset size ≡ with_file bench (part_file (is_whole bench 0 offset size) (bench_attributes bench 0) offset size)
 range-is bench offset size has = of_whole (is_whole bench 0 offset size)
   where
-    of_whole : (whole : Bool) → cond whole (with_clone bench 0) (with_part bench 0 offset size) ≡ with_file bench (part_file whole (attributes_at bench 0) offset size)
+    of_whole : (whole : Bool) → cond whole (with_clone bench 0) (with_part bench 0 offset size) ≡ with_file bench (part_file whole (bench_attributes bench 0) offset size)
     of_whole true = clone-is bench has
     of_whole false =
         let body : body_at bench 0 ≡ Whole 0 = ap (λ (files : List File). option_map_or (λ (f : File). f.body) (slice_get files 0) (New [])) has.files in
-        ap (λ b. with_made bench (PartOf 0) (attributes_at bench 0) (part_of b offset size)) body
+        ap (λ b. with_made bench (PartOf 0) (bench_attributes bench 0) (body_part b offset size)) body
 
 -- ---- what is known of it
 
@@ -145,7 +145,7 @@ part-left-out false attributes offset size = refl
 
 -- ---- an attribute of it is set
 
-end-attributes : (base : Bench) (file : File) → attributes_at (with_file base file) (length base.files) ≡ file.attributes
+end-attributes : (base : Bench) (file : File) → bench_attributes (with_file base file) (length base.files) ≡ file.attributes
 end-attributes base file = ap (λ o. option_map_or (λ (f : File). f.attributes) o empty) (at-end base.files file)
 
 end-origin : (base : Bench) (file : File) → origin_at (with_file base file) (length base.files) ≡ file.origin
@@ -185,16 +185,16 @@ file-put : (base : Bench) (file : File) (key value : List ℕ) → is_uuid key �
 file-put base file key value isnt =
     let bench = with_file base file in
     let place = length base.files in
-    ap (λ b. cond b bench (with_attributes bench place (insert (attributes_at bench place) key value))) isnt
+    ap (λ b. cond b bench (with_attributes bench place (insert (bench_attributes bench place) key value))) isnt
     ∙ ap (λ a. with_attributes bench place (insert a key value)) (end-attributes base file)
     ∙ changed-end base file (attributed_file (insert file.attributes key value))
 
 -- ---- one attribute after another
 
-pub next-pair : (told : List Told) (i : ℕ) (one : Told) (value : List ℕ) → i < length told → one ≡ get_or told i one → value ≡ string_bytes one.text → map told_by (drop i told) ≡ (one.name.now, value) ∷ map told_by (drop (i + 1) told)
+pub next-pair : (told : List Told) (i : ℕ) (one : Told) (value : List ℕ) → i < length told → one ≡ get_or told i one → value ≡ string_bytes one.text → map pair_told (drop i told) ≡ (one.name.now, value) ∷ map pair_told (drop (i + 1) told)
 next-pair told i one value within is text =
     let left : drop i told ≡ one ∷ drop (i + 1) told = rw add-one (drop-cons told i one within ∙ ap (λ (t : Told). t ∷ drop (suc i) told) (sym is)) in
-    ap (map told_by) left ∙ ap (λ (v : List ℕ). (one.name.now, v) ∷ map told_by (drop (i + 1) told)) (sym text)
+    ap (map pair_told) left ∙ ap (λ (v : List ℕ). (one.name.now, v) ∷ map pair_told (drop (i + 1) told)) (sym text)
 
 pub none-is : {A : Type 0} (o : Option A) (none : Bool) → is_some o ≡ not none → none ≡ true → o ≡ None
 none-is None none is h = refl
@@ -208,13 +208,13 @@ some-is (Some value) none is h = (value, refl)
 pub record Telling (base now : Bench) (offset size : ℕ) (pairs left : List Pair) : Type 0 where
   pub attributes : AttributeMap
   pub is : now ≡ with_file base (part_file (is_whole base 0 offset size) attributes offset size)
-  pub same : all_set_beside (attribute_size base) (attributes_at base 0) pairs ≡ all_set_beside (attribute_size base) attributes left
+  pub same : all_set_beside (attribute_size base) (bench_attributes base 0) pairs ≡ all_set_beside (attribute_size base) attributes left
   pub room : has_room (attribute_size base) attributes ≡ true
   pub keys : may_be_keys left ≡ true
 
 -- what the session that it is made in has
 pub record MayAdd (base : Bench) (offset size : ℕ) : Type 0 where
-  pub taken : HasTaken base
+  pub taken : HasFirstTaken base
   pub few : length base.files < FILES_MAX
   pub unwritten : base.handed ≡ 0
   pub fits : offset + size ≤ content_size base 0
@@ -222,7 +222,7 @@ pub record MayAdd (base : Bench) (offset size : ℕ) : Type 0 where
 pub telling-begins : (base now : Bench) (offset size : ℕ) (pairs : List Pair) → MayAdd base offset size → may_be_keys pairs ≡ true → now ≡ with_range base 0 offset size → is_none (refusal_of_clone_range base 0 offset size) ≡ true
     → Telling base now offset size pairs pairs
 telling-begins base now offset size pairs may keys is free = record {
-  attributes = attributes_at base 0;
+  attributes = bench_attributes base 0;
   is = is ∙ range-is base offset size may.taken;
   same = refl;
   room = sym (range-room base offset size may.taken may.few may.unwritten may.fits) ∙ free;
@@ -235,7 +235,7 @@ no-room others attributes (pair ∷ pairs) isnt = rw isnt refl
 
 pub none-begun : (base now : Bench) (offset size : ℕ) (pairs : List Pair) → MayAdd base offset size → now ≡ base → is_none (refusal_of_clone_range base 0 offset size) ≡ false → AddsPart base now offset size pairs false
 none-begun base now offset size pairs may is isnt = (
-  no-room (attribute_size base) (attributes_at base 0) pairs (sym (range-room base offset size may.taken may.few may.unwritten may.fits) ∙ isnt),
+  no-room (attribute_size base) (bench_attributes base 0) pairs (sym (range-room base offset size may.taken may.few may.unwritten may.fits) ∙ isnt),
   record { dropped = []; is = is ∙ ap (λ files. record base { files = files }) (sym (append-nil base.files)); left_out = All-nil _ },
 )
 
@@ -247,7 +247,7 @@ left-not false h = refl
 pub record Next (base now : Bench) (offset size : ℕ) (pairs left rest : List Pair) (pair : Pair) (telling : Telling base now offset size pairs left) (place : ℕ) : Type 0 where
   pub room : is_none (refusal_of_put now place pair.0 pair.1) ≡ has_room (attribute_size base) (insert telling.attributes pair.0 pair.1)
   pub after : with_put now place pair.0 pair.1 ≡ with_file base (part_file (is_whole base 0 offset size) (insert telling.attributes pair.0 pair.1) offset size)
-  pub same : all_set_beside (attribute_size base) (attributes_at base 0) pairs ≡ all_set_beside (attribute_size base) (insert telling.attributes pair.0 pair.1) rest
+  pub same : all_set_beside (attribute_size base) (bench_attributes base 0) pairs ≡ all_set_beside (attribute_size base) (insert telling.attributes pair.0 pair.1) rest
   pub keys : may_be_keys rest ≡ true
 
 pub telling-next : (base now : Bench) (offset size : ℕ) (pairs left rest : List Pair) (pair : Pair) (place : ℕ) → MayAdd base offset size → (telling : Telling base now offset size pairs left) → left ≡ pair ∷ rest → place ≡ length base.files
@@ -318,9 +318,9 @@ telling-ends base now offset size pairs left telling none = (
 
 -- ---- what a part is told
 
-pub told-more : (items new : List Told) (one : Told) (pairs : List Pair) (pair : Pair) → map told_by items ≡ pairs → new ≡ items ++ one ∷ [] → told_by one ≡ pair → map told_by new ≡ pairs ++ pair ∷ []
+pub told-more : (items new : List Told) (one : Told) (pairs : List Pair) (pair : Pair) → map pair_told items ≡ pairs → new ≡ items ++ one ∷ [] → pair_told one ≡ pair → map pair_told new ≡ pairs ++ pair ∷ []
 told-more items new one pairs pair are is told =
-    ap (map told_by) is ∙ map-append told_by items (one ∷ []) ∙ ap (λ ps. ps ++ told_by one ∷ []) are ∙ ap (λ (p : Pair). pairs ++ p ∷ []) told
+    ap (map pair_told) is ∙ map-append pair_told items (one ∷ []) ∙ ap (λ ps. ps ++ pair_told one ∷ []) are ∙ ap (λ (p : Pair). pairs ++ p ∷ []) told
 
 pub told-four : (lines : List Pair) (a b c d : Pair) → (((lines ++ a ∷ []) ++ b ∷ []) ++ c ∷ []) ++ d ∷ [] ≡ lines ++ a ∷ b ∷ c ∷ d ∷ []
 told-four [] a b c d = refl

@@ -11,14 +11,14 @@ use Rattle.flowfile_record.specs.declared.worked.Origin.TheVariants.{Cloned, Par
 use Rattle.flowfile_record.specs.declared.worked.Worked.{Worked}
 use Rattle.machine_model.specs.Making.{TakenFile}
 use Rattle.machine_model.specs.Parts.{Piece, all_set_beside, fragment_pairs, parts_from}
-use Rattle.process_session.specs.Bench.{Bench, attribute_size, attributes_at, bytes_of, content_size}
-use Rattle.process_session.specs.Changes.{is_whole, made_file}
+use Rattle.process_session.specs.Bench.{Bench, attribute_size, bench_attributes, bench_bytes, content_size}
+use Rattle.process_session.specs.Changes.{is_whole, new_file}
 use Rattle.process_session.specs.Finish.{is_left_out}
 use Rattle.process_session.specs.declared.error.SessionError.{SessionError}
 use Rattle.process_session.specs.declared.error.SessionError.TheVariants.{Memory}
 use Rattle.process_session.specs.declared.file.File.{File}
 use Rattle.process_session.specs.declared.file.Source.{Source}
-use Rattle.processor_api.specs.Cloning.{ended}
+use Rattle.processor_api.specs.Cloning.{file_ended}
 use Rattle.proc_text.specs.declared.parting.Told.{Told}
 use Rattle.proc_text.specs.declared.parting.Whole.{Whole}
 
@@ -27,21 +27,21 @@ use Rattle.proc_text.specs.declared.parting.Whole.{Whole}
 -- as the machine sees it
 abbrev pub taken_in : Bench → TakenFile
 taken_in bench = record {
-  attributes = attributes_at bench 0;
+  attributes = bench_attributes bench 0;
   uuid = option_map_or (λ (source : Source). source.uuid) (slice_get bench.sources 0) [];
-  bytes = unwrap_or (bytes_of bench 0) [];
+  bytes = unwrap_or (bench_bytes bench 0) [];
 }
 
 -- its content was read
-pub record IsRead (bench : Bench) : Type 0 where
-  pub bytes : bytes_of bench 0 ≡ Some (taken_in bench).bytes
+pub record IsReadTaken (bench : Bench) : Type 0 where
+  pub bytes : bench_bytes bench 0 ≡ Some (taken_in bench).bytes
   pub sized : content_size bench 0 ≡ length (taken_in bench).bytes
   pub short : length (taken_in bench).bytes ≤ CONTENT_MAX
 
 -- ---- what a part is told
 
-abbrev pub told_by : Told → List ℕ × List ℕ
-told_by told = (told.name.now, string_bytes told.text)
+abbrev pub pair_told : Told → List ℕ × List ℕ
+pair_told told = (told.name.now, string_bytes told.text)
 
 abbrev pub fragments_by : Whole → (index : ℕ) → List (List ℕ × List ℕ)
 fragments_by whole index =
@@ -50,8 +50,8 @@ fragments_by whole index =
     ∷ (codes "segment.original.filename", string_bytes whole.filename) ∷ []
 
 -- it is what so many parts of the file that the session took are told
-abbrev pub TellsOf : Whole → Bench → (count : ℕ) → Type 0
-TellsOf whole bench count = (index : ℕ) → fragments_by whole index ≡ fragment_pairs (taken_in bench) index count
+abbrev pub TellsOfParts : Whole → Bench → (count : ℕ) → Type 0
+TellsOfParts whole bench count = (index : ℕ) → fragments_by whole index ≡ fragment_pairs (taken_in bench) index count
 
 -- each name may be the key of an attribute that is set
 abbrev pub may_be_keys : List (List ℕ × List ℕ) → Bool
@@ -66,18 +66,18 @@ IsAnswered answer None = (error : SessionError) × (answer ≡ Err error) × (er
 
 -- ---- its files
 
-abbrev pub with_files : Bench → List File → Bench
-with_files bench files = record bench { files = bench.files ++ files }
+abbrev pub bench_with_files : Bench → List File → Bench
+bench_with_files bench files = record bench { files = bench.files ++ files }
 
 -- a part as it is made
 abbrev pub part_file : (whole : Bool) → AttributeMap → (offset size : ℕ) → File
-part_file true attributes offset size = made_file (Cloned 0) attributes (WholeOf 0)
-part_file false attributes offset size = made_file (PartOf 0) attributes (Part 0 offset size)
+part_file true attributes offset size = new_file (Cloned 0) attributes (WholeOf 0)
+part_file false attributes offset size = new_file (PartOf 0) attributes (Part 0 offset size)
 
 -- files that an outcome leaves out, behind those of a session
 pub record LeavesOut (before after : Bench) : Type 0 where
   pub dropped : List File
-  pub is : after ≡ with_files before dropped
+  pub is : after ≡ bench_with_files before dropped
   pub left_out : All (λ file. is_left_out file ≡ true) dropped
 
 -- One more part, with these attributes set one after another. Where there is no room for that, the session has nothing
@@ -85,14 +85,14 @@ pub record LeavesOut (before after : Bench) : Type 0 where
 abbrev pub AddsPart : (before after : Bench) (offset size : ℕ) → List (List ℕ × List ℕ) → (added : Bool) → Type 0
 AddsPart before after offset size pairs true =
     (attributes : AttributeMap)
-    × (all_set_beside (attribute_size before) (attributes_at before 0) pairs ≡ Some attributes)
-    × (after ≡ with_files before (part_file (is_whole before 0 offset size) attributes offset size ∷ []))
+    × (all_set_beside (attribute_size before) (bench_attributes before 0) pairs ≡ Some attributes)
+    × (after ≡ bench_with_files before (part_file (is_whole before 0 offset size) attributes offset size ∷ []))
 AddsPart before after offset size pairs false =
-    (all_set_beside (attribute_size before) (attributes_at before 0) pairs ≡ None) × LeavesOut before after
+    (all_set_beside (attribute_size before) (bench_attributes before 0) pairs ≡ None) × LeavesOut before after
 
 -- a file of an outcome before it has ended
 abbrev pub opened : Worked → File
-opened file = record (ended file) { «end» = None }
+opened file = record (file_ended file) { «end» = None }
 
 -- what is known of a part that is to go to a relationship
 pub record IsPart (relationship : ℕ) (file : Worked) : Type 0 where
@@ -110,7 +110,7 @@ parts_of bench relationship pieces =
 pub record AddsParts (before after : Bench) (relationship : ℕ) (pieces : List Piece) (made : ℕ) : Type 0 where
   pub parts : List Worked
   pub dropped : List File
-  pub is : after ≡ with_files before (map opened parts ++ dropped)
+  pub is : after ≡ bench_with_files before (map opened parts ++ dropped)
   pub many : length parts ≡ made
   pub few : made ≤ length pieces
   pub each : All (IsPart relationship) parts
@@ -120,9 +120,9 @@ pub record AddsParts (before after : Bench) (relationship : ℕ) (pieces : List 
 
 -- ---- how they end
 
-abbrev pub end_of : Option ℕ → End
-end_of (Some relationship) = To relationship
-end_of None = Removed
+abbrev pub end_or_removed : Option ℕ → End
+end_or_removed (Some relationship) = To relationship
+end_or_removed None = Removed
 
 abbrev pub ended_as : End → File → File
 ended_as how file = record file { «end» = Some how }

@@ -4,7 +4,7 @@ ghost use Rattle.std.specs.List.{flat_map};
 ghost use Rattle.std.specs.Str.{is_utf8};
 ghost use Rattle.machine_model.specs.declared.limits.TheConstants.{EXTRACTED_MAX};
 ghost use Rattle.machine_model.specs.ExtractText.{found_pairs, front_within};
-ghost use Rattle.process_session.specs.Bench.{attributes_at};
+ghost use Rattle.process_session.specs.Bench.{bench_attributes};
 ghost use Rattle.processor_api.specs.Acts.{KeepsTaken};
 ghost use Rattle.processor_api.specs.Sessions.{BeganWithOne, EndsWith};
 ghost use Rattle.regex.specs.Strings.{match_bytes};
@@ -164,7 +164,7 @@ fn value_of(alloc: Global, part: Match) -> Result<String, AllocError>
 fn set_if_fit(session: &mut Session, extracts: &[Extract]) -> Result<(), AllocError>
     requires one { BeganWithOne session.old }
     requires there { UNMATCHED < session.old.relationships }
-    ensures { let attributes = attributes_at session.old FILE in
+    ensures { let attributes = bench_attributes session.old FILE in
         OnOk result (EndsWith session.old session.new
         (matched_with attributes (with_named attributes (map pair_of extracts.now)))) }
 {
@@ -195,11 +195,11 @@ fn may_set(attributes: &Attributes, extracts: &[Extract]) -> Result<bool, AllocE
 /// Sets attributes that can all be set.
 fn set(session: &mut Session, extracts: &[Extract]) -> Result<(), AllocError>
     requires one { BeganWithOne session.old }
-    requires may { IsSome (with_named (attributes_at session.old FILE) (map pair_of extracts.now)) }
+    requires may { IsSome (with_named (bench_attributes session.old FILE) (map pair_of extracts.now)) }
     ensures one { OnOk result (BeganWithOne session.new) }
     ensures kept { OnOk result (KeepsTaken session.old session.new) }
-    ensures set { OnOk result (with_named (attributes_at session.old FILE) (map pair_of extracts.now)
-        ≡ Some (attributes_at session.new FILE)) }
+    ensures set { OnOk result (with_named (bench_attributes session.old FILE) (map pair_of extracts.now)
+        ≡ Some (bench_attributes session.new FILE)) }
 {
     for extract in extracts {
         or_no_memory(session.put_attribute(FILE, extract.name.as_str(), extract.value.as_str()))?;

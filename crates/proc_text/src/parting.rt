@@ -6,8 +6,8 @@ ghost use Rattle.machine_model.specs.Making.{or_given_up};
 ghost use Rattle.machine_model.specs.Parts.{parted};
 ghost use Rattle.process_session.specs.Bench.{content_size};
 ghost use Rattle.process_session.specs.Changes.{with_end};
-ghost use Rattle.processor_api.specs.Sessions.{BeganWithOne, EndsWith, HasTaken};
-ghost use Rattle.proc_text.specs.Parting.{AddsPart, AddsParts, HasOpen, IsAnswered, IsRead, TellsOf, end_of, fragments_by, may_be_keys, taken_in, told_by, with_first_ended};
+ghost use Rattle.processor_api.specs.Sessions.{BeganWithOne, EndsWith, HasFirstTaken};
+ghost use Rattle.proc_text.specs.Parting.{AddsPart, AddsParts, HasOpen, IsAnswered, IsReadTaken, TellsOfParts, end_or_removed, fragments_by, may_be_keys, taken_in, pair_told, with_first_ended};
 ghost use Rattle.proc_text.specs.Pieces.{cut_size, lines_told, piece_of, pieces_in};
 
 use crate::passing::attributes_of;
@@ -50,7 +50,7 @@ pub(crate) fn part(
     cut: Cut,
 ) -> Result<(), AllocError>
     requires one { BeganWithOne session.old }
-    requires read { IsRead session.old }
+    requires read { IsReadTaken session.old }
     requires some { 1 ≤ cut_size cut }
     requires original { ways.original < session.old.relationships }
     requires parts { ways.parts < session.old.relationships }
@@ -78,7 +78,7 @@ fn part_into(
     pieces: &[Piece],
 ) -> Result<(), AllocError>
     requires one { BeganWithOne session.old }
-    requires read { IsRead session.old }
+    requires read { IsReadTaken session.old }
     requires few { length pieces.now < FILES_MAX }
     requires inside { sum_by (λ piece. piece.size) pieces.now ≤ content_size session.old FILE }
     requires original { ways.original < session.old.relationships }
@@ -102,7 +102,7 @@ fn part_into(
 /// What so many parts are told of the taken file.
 fn whole_of(alloc: Global, session: &Session, count: u64) -> Result<Whole, AllocError>
     requires { BeganWithOne session.now }
-    ensures { IfOk result (λ whole. TellsOf whole session.now count) }
+    ensures { IfOk result (λ whole. TellsOfParts whole session.now count) }
 {
     let Some(uuid) = session.uuid(FILE) else {
         unreachable!()
@@ -123,10 +123,10 @@ fn add_parts(
     pieces: &[Piece],
 ) -> Result<u32, AllocError>
     requires one { BeganWithOne session.old }
-    requires read { IsRead session.old }
+    requires read { IsReadTaken session.old }
     requires few { length pieces.now < FILES_MAX }
     requires inside { sum_by (λ piece. piece.size) pieces.now ≤ content_size session.old FILE }
-    requires tells { TellsOf whole.now session.old (length pieces.now) }
+    requires tells { TellsOfParts whole.now session.old (length pieces.now) }
     ensures { IfOk result (λ made. (relationship : ℕ)
         → AddsParts session.old session.new relationship (map piece_of pieces.now) made) }
 {
@@ -149,7 +149,7 @@ fn add_part(
     offset: u64,
     piece: Piece,
 ) -> Result<bool, AllocError>
-    requires taken { HasTaken session.old }
+    requires taken { HasFirstTaken session.old }
     requires few { length session.old.files < FILES_MAX }
     requires unwritten { session.old.handed ≡ 0 }
     requires inside { offset + piece.size ≤ content_size session.old FILE }
@@ -167,7 +167,7 @@ fn told_of(
     index: u64,
     lines: Option<u64>,
 ) -> Result<Vec<Told>, AllocError>
-    ensures { IfOk result (λ told. map told_by told.items ≡ lines_told lines ++ fragments_by whole.now index) }
+    ensures { IfOk result (λ told. map pair_told told.items ≡ lines_told lines ++ fragments_by whole.now index) }
 {
     let mut told = told_of_lines(alloc, lines)?;
     told.push(told_as("fragment.identifier", whole.identifier.clone()?))?;
@@ -179,7 +179,7 @@ fn told_of(
 
 /// How many lines a part is told that it has.
 fn told_of_lines(alloc: Global, lines: Option<u64>) -> Result<Vec<Told>, AllocError>
-    ensures { IfOk result (λ told. map told_by told.items ≡ lines_told lines) }
+    ensures { IfOk result (λ told. map pair_told told.items ≡ lines_told lines) }
 {
     let mut told = Vec::new(alloc);
     if let Some(lines) = lines {
@@ -189,7 +189,7 @@ fn told_of_lines(alloc: Global, lines: Option<u64>) -> Result<Vec<Told>, AllocEr
 }
 
 fn told_as(name: &'static str, text: String) -> Told
-    ensures { told_by result ≡ (name.now, string_bytes text) }
+    ensures { pair_told result ≡ (name.now, string_bytes text) }
 {
     Told { name, text }
 }
@@ -201,12 +201,12 @@ fn add_told_part(
     size: u64,
     told: &[Told],
 ) -> Result<bool, AllocError>
-    requires taken { HasTaken session.old }
+    requires taken { HasFirstTaken session.old }
     requires few { length session.old.files < FILES_MAX }
     requires unwritten { session.old.handed ≡ 0 }
     requires inside { offset + size ≤ content_size session.old FILE }
-    requires keys { may_be_keys (map told_by told.now) ≡ true }
-    ensures { IfOk result (λ added. AddsPart session.old session.new offset size (map told_by told.now) added) }
+    requires keys { may_be_keys (map pair_told told.now) ≡ true }
+    ensures { IfOk result (λ added. AddsPart session.old session.new offset size (map pair_told told.now) added) }
 {
     let Some(part) = unless_refused(session.clone_range(FILE, offset, size))? else {
         return Ok(false);
@@ -236,7 +236,7 @@ fn unless_refused<T: Drop>(answer: Result<T, SessionError>) -> Result<Option<T>,
 fn end_parts(session: &mut Session, count: u32, relationship: Option<u16>)
     requires open { HasOpen count session.old }
     requires there { IfSome relationship (λ place. place < session.old.relationships) }
-    ensures { session.new ≡ with_first_ended (end_of relationship) count session.old }
+    ensures { session.new ≡ with_first_ended (end_or_removed relationship) count session.old }
 {
     for index in 0..count {
         end_part(session, FILE + 1 + index, relationship);
@@ -247,7 +247,7 @@ fn end_parts(session: &mut Session, count: u32, relationship: Option<u16>)
 fn end_part(session: &mut Session, place: u32, relationship: Option<u16>)
     requires open { IsSomeAnd (slice_get session.old.files place) (λ file. file.«end» ≡ None) }
     requires there { IfSome relationship (λ place. place < session.old.relationships) }
-    ensures { session.new ≡ with_end session.old place (end_of relationship) }
+    ensures { session.new ≡ with_end session.old place (end_or_removed relationship) }
 {
     match relationship {
         Some(relationship) => session.transfer(place, relationship).unwrap(),

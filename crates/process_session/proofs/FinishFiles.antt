@@ -12,7 +12,7 @@ use Rattle.process_session.specs.declared.session.finish.standing.Stand.{Stand}
 use Rattle.process_session.specs.Bench.{Bench}
 use Rattle.process_session.specs.Finish.{is_left_out, standing, standing_for, standing_from, origin_in, kept_files, outcome_of, place_in, sent_in, worked_with}
 use Rattle.flowfile_record.specs.Outcome.{parents_of}
-use Rattle.process_session.specs.Finishing.{kept_origins, next_place, place_of_sent, places_of, sent_at, stand_for, Keeps}
+use Rattle.process_session.specs.Finishing.{kept_origins, next_place, place_of_sent, places_of, sent_at, stand_for, KeepsFile}
 use Rattle.process_session.specs.Reasons.{not_accounted_from}
 
 pub rest_is : (files : List File) (i : ℕ) (file : File) → i < length files → file ≡ get_or files i file → drop i files ≡ file ∷ drop (i + 1) files
@@ -74,13 +74,13 @@ files_kept : (stand : List (List ℕ)) (file : File) (files : List File) → is_
 unfolding kept_files
 files_kept stand file files out = ap (λ b. cond b (kept_files stand files) (worked_with (origin_in stand file.origin) file ∷ kept_files stand files)) out
 
-pub keeps_out : (file : File) (kept : List Worked) (origins : List Origin) (stand : List (List ℕ)) (more : List File) → is_left_out file ≡ true → origins ≡ kept_origins stand (file ∷ more) → Keeps file kept kept origins origins stand more
+pub keeps_out : (file : File) (kept : List Worked) (origins : List Origin) (stand : List (List ℕ)) (more : List File) → is_left_out file ≡ true → origins ≡ kept_origins stand (file ∷ more) → KeepsFile file kept kept origins origins stand more
 keeps_out file kept origins stand more out is = record {
   rest = is ∙ origins_out stand file more out;
   files = ap (λ l. kept ++ l) (sym (files_out stand file more out));
 }
 
-pub keeps_more : (file : File) (kept kept' : List Worked) (origins origins' : List Origin) (origin : Origin) (stand : List (List ℕ)) (more : List File) → is_left_out file ≡ false → origins ≡ kept_origins stand (file ∷ more) → origins ≡ origin ∷ origins' → kept' ≡ kept ++ worked_with origin file ∷ [] → Keeps file kept kept' origins origins' stand more
+pub keeps_more : (file : File) (kept kept' : List Worked) (origins origins' : List Origin) (origin : Origin) (stand : List (List ℕ)) (more : List File) → is_left_out file ≡ false → origins ≡ kept_origins stand (file ∷ more) → origins ≡ origin ∷ origins' → kept' ≡ kept ++ worked_with origin file ∷ [] → KeepsFile file kept kept' origins origins' stand more
 keeps_more file kept kept' origins origins' origin stand more out is first added =
     let both : ◌≡◌ {A = List Origin} (origin ∷ origins') (origin_in stand file.origin ∷ kept_origins stand more) = sym first ∙ is ∙ origins_kept stand file more out in
     let head : origin ≡ origin_in stand file.origin = cc in

@@ -25,10 +25,10 @@ use Rattle.process_session.specs.declared.error.SessionError.TheVariants.{NotAcc
 use Rattle.process_session.specs.declared.file.File.{File}
 use Rattle.process_session.specs.declared.file.Source.{Source}
 use Rattle.process_session.specs.Bench.{Bench, IsBodyOf, file_size, sizes_of, taken_size}
-use Rattle.process_session.specs.Finish.{child_of, each_once, is_left_out, is_removed, joined_of, kept_files, origin_in, outcome_of, place_if_kept, sent_in, standing, standing_for, standing_from, worked_of}
+use Rattle.process_session.specs.Finish.{child_of, places_once, is_left_out, ends_removed, joined_of, kept_files, origin_in, outcome_of, place_if_kept, sent_in, standing, standing_for, standing_from, worked_of}
 use Rattle.process_session.specs.Finishing.{stand_at}
 use Rattle.process_session.specs.Reasons.{not_accounted, not_accounted_from}
-use Rattle.process_session.specs.Sound.{IsHeld, IsSound, MayEnd, as_worked}
+use Rattle.process_session.specs.Sound.{IsHeldFile, IsSoundBench, MayEnd, as_worked}
 
 -- all of these places are before a place
 abbrev AreBefore : ℕ → List ℕ → Type 0
@@ -58,9 +58,9 @@ before_filter : (place : ℕ) (test : ℕ → Bool) (places : List ℕ) → AreB
 before_filter place test [] before = tt
 before_filter place test (other ∷ more) before = before_test place other (filter test more) (test other) before.0 (before_filter place test more before.1)
 
-before_once : (place : ℕ) (places : List ℕ) → AreBefore place places → AreBefore place (each_once places)
+before_once : (place : ℕ) (places : List ℕ) → AreBefore place places → AreBefore place (places_once places)
 before_once place [] before = tt
-before_once place (other ∷ more) before = (before.0, before_filter place (λ o. not (o == other)) (each_once more) (before_once place more before.1))
+before_once place (other ∷ more) before = (before.0, before_filter place (λ o. not (o == other)) (places_once more) (before_once place more before.1))
 
 before_append : (place : ℕ) (xs ys : List ℕ) → AreBefore place xs → AreBefore place ys → AreBefore place (xs ++ ys)
 before_append place [] ys before others = others
@@ -216,7 +216,7 @@ earlier_kept stand next file files before earlier =
     let all = standing_from (stand ++ (next ∷ []) ∷ []) (next + 1) files in
     let front = standing_front (stand ++ (next ∷ []) ∷ []) (next + 1) files in
     let whole : all ≡ stand ++ ((next ∷ []) ∷ front.0) = front.1 ∙ append_assoc stand ((next ∷ []) ∷ []) front.0 in
-    let same : standing_for all (parents_of file.origin) ≡ standing_for stand (parents_of file.origin) = ap (λ s. standing_for s (parents_of file.origin)) whole ∙ ap each_once (all_front stand ((next ∷ []) ∷ front.0) (parents_of file.origin) earlier) in
+    let same : standing_for all (parents_of file.origin) ≡ standing_for stand (parents_of file.origin) = ap (λ s. standing_for s (parents_of file.origin)) whole ∙ ap places_once (all_front stand ((next ∷ []) ∷ front.0) (parents_of file.origin) earlier) in
     origin_before next all file.origin (subst (AreBefore next) (sym same) (for_before next stand (parents_of file.origin) before))
 
 turn_test : (count : ℕ) (stand : List (List ℕ)) (next : ℕ) (file : File) (files : List File) (out : Bool) → is_left_out file ≡ out → InTurn count (stand ++ standing_for stand (parents_of file.origin) ∷ []) next files → InTurn count (stand ++ (next ∷ []) ∷ []) (next + 1) files
@@ -224,7 +224,7 @@ turn_test : (count : ℕ) (stand : List (List ℕ)) (next : ℕ) (file : File) (
     → (let all = cond out (standing_from (stand ++ standing_for stand (parents_of file.origin) ∷ []) next files) (standing_from (stand ++ (next ∷ []) ∷ []) (next + 1) files) in AreInTurn next count (cond out (kept_files all files) (worked_of all file ∷ kept_files all files)))
 turn_test count stand next file files true is gone kept before counted turn =
     let places = standing_for stand (parents_of file.origin) in
-    let passed : count ≤ length stand = made_behind (length stand) count file.origin (left_out_made (is_made file.origin) (is_removed file.«end») is) turn.0 in
+    let passed : count ≤ length stand = made_behind (length stand) count file.origin (left_out_made (is_made file.origin) (ends_removed file.«end») is) turn.0 in
     gone (stand_push next stand places before (for_before next stand (parents_of file.origin) before)) (longer_next next count stand places (next_out next (length stand) count passed counted)) (longer count stand places (map as_worked files) turn.2)
 turn_test count stand next file files false is gone kept before counted turn =
     let all = standing_from (stand ++ (next ∷ []) ∷ []) (next + 1) files in
@@ -277,12 +277,12 @@ none_same : (place : ℕ) (places : List ℕ) → AllByRecursion (λ one. same p
 none_same place [] = tt
 none_same place (other ∷ places) = apart_test place other (filter (λ one. not (one == place)) places) (other == place) refl (none_same place places)
 
-once_distinct : (places : List ℕ) → IsDistinct same (each_once places)
+once_distinct : (places : List ℕ) → IsDistinct same (places_once places)
 unfolding IsDistinct
 once_distinct [] = tt
 once_distinct (place ∷ places) =
-    let rest = filter (λ other. not (other == place)) (each_once places) in
-    IsDistinct-cons same place rest (none_same place (each_once places)) (distinct_filter (λ other. not (other == place)) (each_once places) (once_distinct places))
+    let rest = filter (λ other. not (other == place)) (places_once places) in
+    IsDistinct-cons same place rest (none_same place (places_once places)) (distinct_filter (λ other. not (other == place)) (places_once places) (once_distinct places))
 
 child_names : (one : ℕ → Origin) (left : List ℕ) → ((parent : ℕ) → NamesEachOnce (one parent)) → IsDistinct same left → NamesEachOnce (child_of one left)
 child_names one [] is distinct = tt
@@ -343,13 +343,13 @@ not_made : (made : Bool) → (made && true) ≡ false → made ≡ false
 not_made true out = out
 not_made false out = refl
 
-end_of : (relationships : ℕ) (stand : List (List ℕ)) (origin : Origin) (how : Option End) → is_none how ≡ false → (is_made origin && is_removed how) ≡ false → IfSome how (MayEnd relationships origin) → IsEndOf relationships (origin_in stand origin) (unwrap_or how Removed)
+end_of : (relationships : ℕ) (stand : List (List ℕ)) (origin : Origin) (how : Option End) → is_none how ≡ false → (is_made origin && ends_removed how) ≡ false → IfSome how (MayEnd relationships origin) → IsEndOf relationships (origin_in stand origin) (unwrap_or how Removed)
 end_of relationships stand origin None ended kept may = cc
 end_of relationships stand origin (Some (To relationship)) ended kept may = may
 end_of relationships stand origin (Some Back) ended kept may = made_in stand origin ∙ may
 end_of relationships stand origin (Some Removed) ended kept may = made_in stand origin ∙ not_made (is_made origin) kept
 
-worked_is : (relationships : ℕ) (sources : List Source) (stand : List (List ℕ)) (file : File) → IsHeld relationships file → IsBodyOf sources file.body → is_none file.«end» ≡ false → is_left_out file ≡ false → IsWorked relationships (sizes_of sources) (worked_of stand file)
+worked_is : (relationships : ℕ) (sources : List Source) (stand : List (List ℕ)) (file : File) → IsHeldFile relationships file → IsBodyOf sources file.body → is_none file.«end» ≡ false → is_left_out file ≡ false → IsWorked relationships (sizes_of sources) (worked_of stand file)
 worked_is relationships sources stand file held content ended kept = record {
   names = names_in stand file.origin;
   body = body_over sources file.body content;
@@ -371,15 +371,15 @@ each_test : (P : Worked → Type 0) (first : Worked) (rest : List Worked) (out :
 each_test P first rest true here all = all
 each_test P first rest false here all = All-cons P first rest (here refl) all
 
-each_kept : (relationships : ℕ) (sources : List Source) (stand : List (List ℕ)) (place : ℕ) (files : List File) → not_accounted_from place files ≡ None → All (IsHeld relationships) files → All (λ file. IsBodyOf sources file.body) files → All (IsWorked relationships (sizes_of sources)) (kept_files stand files)
+each_kept : (relationships : ℕ) (sources : List Source) (stand : List (List ℕ)) (place : ℕ) (files : List File) → not_accounted_from place files ≡ None → All (IsHeldFile relationships) files → All (λ file. IsBodyOf sources file.body) files → All (IsWorked relationships (sizes_of sources)) (kept_files stand files)
 unfolding kept_files
 each_kept relationships sources stand place [] ended held bodies = All-nil (IsWorked relationships (sizes_of sources))
 each_kept relationships sources stand place (file ∷ files) ended held bodies =
     let HasBody : File → Type 0 = λ one. IsBodyOf sources one.body in
     let open_none = ended_each place file files ended in
     each_test (IsWorked relationships (sizes_of sources)) (worked_of stand file) (kept_files stand files) (is_left_out file)
-    (λ kept. worked_is relationships sources stand file (All-head (IsHeld relationships) file files held) (All-head HasBody file files bodies) open_none.0 kept)
-    (each_kept relationships sources stand (place + 1) files open_none.1 (All-tail (IsHeld relationships) file files held) (All-tail HasBody file files bodies))
+    (λ kept. worked_is relationships sources stand file (All-head (IsHeldFile relationships) file files held) (All-head HasBody file files bodies) open_none.0 kept)
+    (each_kept relationships sources stand (place + 1) files open_none.1 (All-tail (IsHeldFile relationships) file files held) (All-tail HasBody file files bodies))
 
 -- ---- all together
 
@@ -441,7 +441,7 @@ unfolding sent_in
 sent_within bench count None before = tt
 sent_within bench count (Some sent) before = sent_kept count sent (option_map is_left_out (slice_get bench.files sent.place)) (stand_at (standing bench) sent.place) (at_before count (standing bench) sent.place before)
 
-pub is_outcome : (bench : Bench) (counted : ℕ) → not_accounted bench ≡ None → IsSound bench counted → IsOutcome bench.relationships (sizes_of bench.sources) (outcome_of bench)
+pub is_outcome : (bench : Bench) (counted : ℕ) → not_accounted bench ≡ None → IsSoundBench bench counted → IsOutcome bench.relationships (sizes_of bench.sources) (outcome_of bench)
 unfolding outcome_of
 is_outcome bench counted ended sound =
     let stand = standing bench in

@@ -4,8 +4,8 @@ use Rattle.std.specs.List.{All, flat_map}
 use Rattle.std.proofs.lemmas.Bool.Decides.{nat_tests}
 use Rattle.std.proofs.lemmas.List.{append-nil, at_drop_more, get_or-replicate, length-replicate, length-set}
 use Rattle.std.proofs.lemmas.List.Elements.{filter-append, All-push, All-nil}
-use Rattle.process_session.specs.Finish.{each_once, standing_for}
-use Rattle.process_session.specs.Finishing.{has, with_once, with_each, stand_at, IsMarked, AreMarkedBelow, AreMarkedUpto}
+use Rattle.process_session.specs.Finish.{places_once, standing_for}
+use Rattle.process_session.specs.Finishing.{lists_place, with_once, with_each, stand_at, IsMarked, AreMarkedBelow, AreMarkedUpto}
 
 abbrev others : ℕ → ℕ → Bool
 others place other = not (other == place)
@@ -18,16 +18,16 @@ and_false : (b : Bool) → (b && false) ≡ false
 and_false true = refl
 and_false false = refl
 
-pub has-append : (xs ys : List ℕ) (place : ℕ) → has (xs ++ ys) place ≡ (has xs place || has ys place)
+pub has-append : (xs ys : List ℕ) (place : ℕ) → lists_place (xs ++ ys) place ≡ (lists_place xs place || lists_place ys place)
 has-append [] ys place = refl
-has-append (x ∷ xs) ys place = ap (λ b. (x == place) || b) (has-append xs ys place) ∙ sym (or_assoc (x == place) (has xs place) (has ys place))
+has-append (x ∷ xs) ys place = ap (λ b. (x == place) || b) (has-append xs ys place) ∙ sym (or_assoc (x == place) (lists_place xs place) (lists_place ys place))
 
-has_kept : (x y z : ℕ) (rest : List ℕ) (h : Bool) → has rest y ≡ (not (y == x) && h) → has (cond (not (z == x)) (z ∷ rest) rest) y ≡ (not (y == x) && ((z == y) || h))
+has_kept : (x y z : ℕ) (rest : List ℕ) (h : Bool) → lists_place rest y ≡ (not (y == x) && h) → lists_place (cond (not (z == x)) (z ∷ rest) rest) y ≡ (not (y == x) && ((z == y) || h))
 has_kept x y z rest h e = grind (arith, nat_tests)
 
-has-filter : (xs : List ℕ) (x y : ℕ) → has (filter (others x) xs) y ≡ (not (y == x) && has xs y)
+has-filter : (xs : List ℕ) (x y : ℕ) → lists_place (filter (others x) xs) y ≡ (not (y == x) && lists_place xs y)
 has-filter [] x y = sym (and_false (not (y == x)))
-has-filter (z ∷ zs) x y = has_kept x y z (filter (others x) zs) (has zs y) (has-filter zs x y)
+has-filter (z ∷ zs) x y = has_kept x y z (filter (others x) zs) (lists_place zs y) (has-filter zs x y)
 
 either : (x y : ℕ) (b : Bool) → ((x == y) || (not (y == x) && b)) ≡ ((y == x) || b)
 either x y b = grind (arith, nat_tests)
@@ -40,20 +40,20 @@ filter-added false false x y e q = ap (λ (l : List ℕ). x ∷ l) (filter-appen
 
 filter-once : (x y : ℕ) (e : List ℕ) → ◌≡◌ {A = List ℕ} (x ∷ filter (others x) (with_once e y)) (with_once (x ∷ filter (others x) e) y)
 filter-once x y e =
-    let tests : ((x == y) || has (filter (others x) e) y) ≡ ((y == x) || has e y) = ap (λ b. (x == y) || b) (has-filter e x y) ∙ either x y (has e y) in
-    filter-added (has e y) (y == x) x y e refl ∙ ap (λ t. cond t (x ∷ filter (others x) e) (x ∷ (filter (others x) e ++ y ∷ []))) (sym tests)
+    let tests : ((x == y) || lists_place (filter (others x) e) y) ≡ ((y == x) || lists_place e y) = ap (λ b. (x == y) || b) (has-filter e x y) ∙ either x y (lists_place e y) in
+    filter-added (lists_place e y) (y == x) x y e refl ∙ ap (λ t. cond t (x ∷ filter (others x) e) (x ∷ (filter (others x) e ++ y ∷ []))) (sym tests)
 
 -- one more place at the end
-pub each_once-push : (xs : List ℕ) (y : ℕ) → each_once (xs ++ y ∷ []) ≡ with_once (each_once xs) y
+pub each_once-push : (xs : List ℕ) (y : ℕ) → places_once (xs ++ y ∷ []) ≡ with_once (places_once xs) y
 each_once-push [] y = refl
-each_once-push (x ∷ xs) y = ap (λ (l : List ℕ). x ∷ filter (others x) l) (each_once-push xs y) ∙ filter-once x y (each_once xs)
+each_once-push (x ∷ xs) y = ap (λ (l : List ℕ). x ∷ filter (others x) l) (each_once-push xs y) ∙ filter-once x y (places_once xs)
 
-pub each_once-append : (xs ys : List ℕ) → each_once (xs ++ ys) ≡ with_each (each_once xs) ys
-each_once-append xs [] = ap each_once (append-nil xs)
-each_once-append xs (y ∷ ys) = ap each_once (sym (append_assoc xs (y ∷ []) ys)) ∙ each_once-append (xs ++ y ∷ []) ys ∙ ap (λ l. with_each l ys) (each_once-push xs y)
+pub each_once-append : (xs ys : List ℕ) → places_once (xs ++ ys) ≡ with_each (places_once xs) ys
+each_once-append xs [] = ap places_once (append-nil xs)
+each_once-append xs (y ∷ ys) = ap places_once (sym (append_assoc xs (y ∷ []) ys)) ∙ each_once-append (xs ++ y ∷ []) ys ∙ ap (λ l. with_each l ys) (each_once-push xs y)
 
 -- places that are added one by one, each once
-pub with_each_once : (ys : List ℕ) → with_each [] ys ≡ each_once ys
+pub with_each_once : (ys : List ℕ) → with_each [] ys ≡ places_once ys
 with_each_once ys = sym (each_once-append [] ys)
 
 pub with_each-append : (left xs ys : List ℕ) → with_each left (xs ++ ys) ≡ with_each (with_each left xs) ys
@@ -94,7 +94,7 @@ pub below_next : (met : List ℕ) (round next : ℕ) → next ≡ round + 1 → 
 unfolding AreMarkedUpto AreMarkedBelow
 below_next met round next is upto = λ place within. let most = upto place within in omega arith
 
-mark_is : (met left : List ℕ) (round place other : ℕ) → place < length met → (slice_index met other == round) ≡ has left other → (slice_index (set met place round) other == round) ≡ (has left other || ((place == other) || false))
+mark_is : (met left : List ℕ) (round place other : ℕ) → place < length met → (slice_index met other == round) ≡ lists_place left other → (slice_index (set met place round) other == round) ≡ (lists_place left other || ((place == other) || false))
 mark_is met left round place other within was = grind (arith, nat_tests, get_or-set_same, get_or-set_other)
 
 mark_upto : (met : List ℕ) (round place other : ℕ) → place < length met → slice_index met other ≤ round → slice_index (set met place round) other ≤ round

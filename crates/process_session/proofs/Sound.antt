@@ -20,17 +20,17 @@ use Rattle.flowfile_record.specs.declared.worked.End.{End}
 use Rattle.flowfile_record.specs.declared.worked.Origin.{Origin}
 use Rattle.flowfile_record.specs.declared.worked.Origin.TheVariants.{Taken as FromQueue, Part, Cloned, Joined}
 use Rattle.process_session.specs.declared.file.File.{File}
-use Rattle.process_session.specs.Bench.{Bench, IsBodyOf, attributes_at, body_at, file_size, attribute_size, made_size, named_size, origin_at}
-use Rattle.process_session.specs.Changes.{attributed_file, change_at, made_file, with_attributes, with_changed, with_content, with_end, with_handed, with_made, with_penalty, with_route, with_clone, with_part, with_range, is_whole, part_of, written_file}
+use Rattle.process_session.specs.Bench.{Bench, IsBodyOf, bench_attributes, body_at, file_size, attribute_size, made_size, named_size, origin_at}
+use Rattle.process_session.specs.Changes.{attributed_file, change_at, new_file, with_attributes, with_changed, with_content, with_end, with_handed, with_made, with_penalty, with_route, with_clone, with_part, with_range, is_whole, body_part, written_file}
 use Rattle.process_session.specs.Reasons.{no_room_for, past_limits, session_full}
-use Rattle.process_session.specs.Sound.{IsHeld, IsSound, MayCome, MayEnd, MayInherit}
+use Rattle.process_session.specs.Sound.{IsHeldFile, IsSoundBench, MayCome, MayEnd, MayInherit}
 use Rattle.process_session.proofs.Changing.{change_at-there, length-change_at, origins-change_at, sum_by-change_at, sum_by-set_there, All-change_at}
 use Rattle.process_session.proofs.Turns.{in_turn-origins, in_turn-push}
 
 -- a change that keeps where a file comes from, and what else holds of it
 sound-changed : (bench : Bench) (counted new handed place : ℕ) (change : File → File) → ((file : File) → (change file).origin ≡ file.origin) → ((file : File) → IsBodyOf bench.sources file.body → IsBodyOf bench.sources (change file).body)
-    → ((file : File) → slice_get bench.files place ≡ Some file → IsHeld bench.relationships file → IsHeld bench.relationships (change file)) → new ≡ sum_by file_size (change_at change place bench.files) → new ≤ SESSION_ATTRIBUTES_MAX → handed ≤ WRITTEN_MAX
-    → IsSound bench counted → IsSound (record bench { files = change_at change place bench.files; handed = handed }) new
+    → ((file : File) → slice_get bench.files place ≡ Some file → IsHeldFile bench.relationships file → IsHeldFile bench.relationships (change file)) → new ≡ sum_by file_size (change_at change place bench.files) → new ≤ SESSION_ATTRIBUTES_MAX → handed ≤ WRITTEN_MAX
+    → IsSoundBench bench counted → IsSoundBench (record bench { files = change_at change place bench.files; handed = handed }) new
 sound-changed bench counted new handed place change origins bodies held summed attributes room sound = record {
   summed = summed;
   attributes = attributes;
@@ -40,28 +40,28 @@ sound-changed bench counted new handed place change origins bodies held summed a
   whole = sound.whole;
   bodies = All-change_at (λ file. IsBodyOf bench.sources file.body) change place bench.files (λ file is. bodies file) sound.bodies;
   in_turn = in_turn-origins 0 (length bench.sources) bench.files (change_at change place bench.files) (sym (origins-change_at change origins place bench.files)) sound.in_turn;
-  each = All-change_at (IsHeld bench.relationships) change place bench.files held sound.each;
+  each = All-change_at (IsHeldFile bench.relationships) change place bench.files held sound.each;
 }
 
 -- a change that touches neither the attributes nor the body
 pub sound-noted : (bench : Bench) (counted place : ℕ) (change : File → File) → ((file : File) → (change file).attributes ≡ file.attributes) → ((file : File) → (change file).origin ≡ file.origin) → ((file : File) → (change file).body ≡ file.body)
-    → ((file : File) → slice_get bench.files place ≡ Some file → IsHeld bench.relationships file → IsHeld bench.relationships (change file)) → IsSound bench counted → IsSound (with_changed bench place change) counted
+    → ((file : File) → slice_get bench.files place ≡ Some file → IsHeldFile bench.relationships file → IsHeldFile bench.relationships (change file)) → IsSoundBench bench counted → IsSoundBench (with_changed bench place change) counted
 sound-noted bench counted place change attributes origins bodies held sound =
     sound-changed bench counted counted bench.handed place change origins (λ file is. subst (IsBodyOf bench.sources) (sym (bodies file)) is) held
     (sound.summed ∙ sym (sum_by-change_at file_size change (λ file. ap encoded_size (attributes file)) place bench.files)) sound.attributes sound.handed sound
 
 -- a file ends in a way that it may end
-pub sound-ended : (bench : Bench) (counted place : ℕ) (how : End) → ((file : File) → slice_get bench.files place ≡ Some file → MayEnd bench.relationships file.origin how) → IsSound bench counted → IsSound (with_end bench place how) counted
+pub sound-ended : (bench : Bench) (counted place : ℕ) (how : End) → ((file : File) → slice_get bench.files place ≡ Some file → MayEnd bench.relationships file.origin how) → IsSoundBench bench counted → IsSoundBench (with_end bench place how) counted
 sound-ended bench counted place how may sound =
     sound-noted bench counted place (λ file. record file { «end» = Some how }) (λ file. refl) (λ file. refl) (λ file. refl)
     (λ file is held. record { names = held.names; ends = may file is; routed = held.routed; limits = held.limits; named = held.named }) sound
 
-pub sound-routed : (bench : Bench) (counted place relationship : ℕ) → relationship < bench.relationships → IsSound bench counted → IsSound (with_route bench place relationship) counted
+pub sound-routed : (bench : Bench) (counted place relationship : ℕ) → relationship < bench.relationships → IsSoundBench bench counted → IsSoundBench (with_route bench place relationship) counted
 sound-routed bench counted place relationship below sound =
     sound-noted bench counted place (λ file. record file { routed = Some relationship }) (λ file. refl) (λ file. refl) (λ file. refl)
     (λ file is held. record { names = held.names; ends = held.ends; routed = below; limits = held.limits; named = held.named }) sound
 
-pub sound-penalised : (bench : Bench) (counted place : ℕ) → IsSound bench counted → IsSound (with_penalty bench place) counted
+pub sound-penalised : (bench : Bench) (counted place : ℕ) → IsSoundBench bench counted → IsSoundBench (with_penalty bench place) counted
 sound-penalised bench counted place sound =
     sound-noted bench counted place (λ file. record file { penalised = true }) (λ file. refl) (λ file. refl) (λ file. refl)
     (λ file is held. record { names = held.names; ends = held.ends; routed = held.routed; limits = held.limits; named = held.named }) sound
@@ -70,7 +70,7 @@ pub taken_there : (bench : Bench) (place : ℕ) (file : File) → slice_get benc
 taken_there bench place file is taken = sym (ap (λ o. is_made (option_map_or (λ (f : File). f.origin) o (FromQueue place))) is) ∙ taken
 
 -- a content of its own
-pub sound-content : (bench : Bench) (counted place : ℕ) (bytes : List ℕ) (size : ℕ) → length bytes ≤ CONTENT_MAX → bench.handed + size ≤ WRITTEN_MAX → IsSound bench counted → IsSound (with_content bench place bytes size) counted
+pub sound-content : (bench : Bench) (counted place : ℕ) (bytes : List ℕ) (size : ℕ) → length bytes ≤ CONTENT_MAX → bench.handed + size ≤ WRITTEN_MAX → IsSoundBench bench counted → IsSoundBench (with_content bench place bytes size) counted
 sound-content bench counted place bytes size fits room sound =
     sound-changed bench counted counted (bench.handed + size) place (written_file bytes) (λ file. refl) (λ file is. fits)
     (λ file is held. record { names = held.names; ends = held.ends; routed = held.routed; limits = held.limits; named = held.named })
@@ -90,7 +90,7 @@ file_at (file ∷ files) (suc place) within = file_at files place (omega arith)
 
 -- what the attributes of the file at a place take is replaced
 sum-attributes : (bench : Bench) (place : ℕ) (attributes : AttributeMap) → place < length bench.files
-    → attribute_size (with_attributes bench place attributes) + encoded_size (attributes_at bench place) ≡ attribute_size bench + encoded_size attributes
+    → attribute_size (with_attributes bench place attributes) + encoded_size (bench_attributes bench place) ≡ attribute_size bench + encoded_size attributes
 sum-attributes bench place attributes within =
     let found = file_at bench.files place within in
     let file : File = found.0 in
@@ -98,11 +98,11 @@ sum-attributes bench place attributes within =
     let change : File → File = attributed_file attributes in
     let sums : sum_by file_size (set bench.files place (change file)) + encoded_size file.attributes ≡ sum_by file_size bench.files + encoded_size attributes = sum_by-set_there file_size place bench.files file (change file) within (sym is) in
     let same : sum_by file_size (change_at change place bench.files) ≡ sum_by file_size (set bench.files place (change file)) = ap (sum_by file_size) (change_at-there change place bench.files file within (sym is)) in
-    let old : encoded_size (attributes_at bench place) ≡ encoded_size file.attributes = ap (λ o. encoded_size (option_map_or (λ (f : File). f.attributes) o empty)) found.1 in
+    let old : encoded_size (bench_attributes bench place) ≡ encoded_size file.attributes = ap (λ o. encoded_size (option_map_or (λ (f : File). f.attributes) o empty)) found.1 in
     omega arith
 
-pub sound-attributes : (bench : Bench) (counted new place : ℕ) (attributes : AttributeMap) → place < length bench.files → new + encoded_size (attributes_at bench place) ≡ counted + encoded_size attributes → new ≤ SESSION_ATTRIBUTES_MAX
-    → IsWithinLimits attributes → named_size (origin_at bench place) attributes ≤ ATTRIBUTES_MAX → IsSound bench counted → IsSound (with_attributes bench place attributes) new
+pub sound-attributes : (bench : Bench) (counted new place : ℕ) (attributes : AttributeMap) → place < length bench.files → new + encoded_size (bench_attributes bench place) ≡ counted + encoded_size attributes → new ≤ SESSION_ATTRIBUTES_MAX
+    → IsWithinLimits attributes → named_size (origin_at bench place) attributes ≤ ATTRIBUTES_MAX → IsSoundBench bench counted → IsSoundBench (with_attributes bench place attributes) new
 sound-attributes bench counted new place attributes within sum room limits named sound =
     let sums = sum-attributes bench place attributes within in
     let was : counted ≡ attribute_size bench = sound.summed in
@@ -112,8 +112,8 @@ sound-attributes bench counted new place attributes within sum room limits named
     (λ file is held. record { names = held.names; ends = held.ends; routed = held.routed; limits = limits; named = subst (λ origin. named_size origin attributes ≤ ATTRIBUTES_MAX) (same file is) named })
     summed room sound.handed sound
 
-pub full-attributes : (bench : Bench) (place : ℕ) (attributes : AttributeMap) → place < length bench.files → encoded_size (attributes_at bench place) ≤ attribute_size bench
-    → session_full (with_attributes bench place attributes) ≡ past_limits (length bench.files) (attribute_size bench - encoded_size (attributes_at bench place) + encoded_size attributes) bench.handed
+pub full-attributes : (bench : Bench) (place : ℕ) (attributes : AttributeMap) → place < length bench.files → encoded_size (bench_attributes bench place) ≤ attribute_size bench
+    → session_full (with_attributes bench place attributes) ≡ past_limits (length bench.files) (attribute_size bench - encoded_size (bench_attributes bench place) + encoded_size attributes) bench.handed
 full-attributes bench place attributes within part =
     let sums = sum-attributes bench place attributes within in
     limits-same _ _ _ _ bench.handed (length-change_at (attributed_file attributes) place bench.files) (omega arith)
@@ -121,7 +121,7 @@ full-attributes bench place attributes within part =
 -- one more file
 summed-made : (bench : Bench) (counted : ℕ) (origin : Origin) (attributes : AttributeMap) (body : Body) → counted ≡ attribute_size bench → counted + encoded_size attributes ≡ attribute_size (with_made bench origin attributes body)
 summed-made bench counted origin attributes body summed =
-    let file = made_file origin attributes body in
+    let file = new_file origin attributes body in
     let sums : sum_by file_size (bench.files ++ file ∷ []) ≡ sum_by file_size bench.files + sum_by file_size (file ∷ []) = sum_by-append file_size bench.files (file ∷ []) in
     let one : sum_by file_size (file ∷ []) ≡ file_size file + sum_by file_size [] = sum_by-cons file_size file [] in
     let none : sum_by file_size [] ≡ 0 = refl in
@@ -134,9 +134,9 @@ handed-none bench = ap (λ n. record bench { handed = n }) (add-zero bench.hande
 length-made : (files : List File) (file : File) → length (files ++ file ∷ []) ≡ length files + 1
 length-made files file = length-append files (file ∷ [])
 
-pub sound-made : (bench : Bench) (counted size : ℕ) (origin : Origin) (attributes : AttributeMap) (body : Body) → MayCome bench origin attributes body size → IsWithinLimits attributes → IsSound bench counted → IsSound (with_handed (with_made bench origin attributes body) size) (counted + encoded_size attributes)
+pub sound-made : (bench : Bench) (counted size : ℕ) (origin : Origin) (attributes : AttributeMap) (body : Body) → MayCome bench origin attributes body size → IsWithinLimits attributes → IsSoundBench bench counted → IsSoundBench (with_handed (with_made bench origin attributes body) size) (counted + encoded_size attributes)
 sound-made bench counted size origin attributes body may limits sound =
-    let file = made_file origin attributes body in
+    let file = new_file origin attributes body in
     let more : length (bench.files ++ file ∷ []) ≡ length bench.files + 1 = length-made bench.files file in
     let was : counted ≡ attribute_size bench = sound.summed in
     let room : attribute_size bench + encoded_size attributes ≤ SESSION_ATTRIBUTES_MAX = may.summed in
@@ -150,25 +150,25 @@ sound-made bench counted size origin attributes body may limits sound =
       whole = sound.whole;
       bodies = All-push (λ file. IsBodyOf bench.sources file.body) bench.files file sound.bodies may.inside;
       in_turn = in_turn-push 0 (length bench.sources) bench.files file may.made (subst (λ n. All (λ parent. parent < n) (parents_of origin)) (sym (zero-add (length bench.files))) may.behind) sound.in_turn;
-      each = All-push (IsHeld bench.relationships) bench.files file sound.each (record { names = may.names; ends = tt; routed = tt; limits = limits; named = may.named });
+      each = All-push (IsHeldFile bench.relationships) bench.files file sound.each (record { names = may.names; ends = tt; routed = tt; limits = limits; named = may.named });
     }
 
 pub full-made : (bench : Bench) (size : ℕ) (origin : Origin) (attributes : AttributeMap) (body : Body) → session_full (with_handed (with_made bench origin attributes body) size) ≡ no_room_for bench (encoded_size attributes) size
 full-made bench size origin attributes body =
-    limits-same _ _ _ _ (bench.handed + size) (length-made bench.files (made_file origin attributes body)) (sym (summed-made bench (attribute_size bench) origin attributes body refl))
+    limits-same _ _ _ _ (bench.handed + size) (length-made bench.files (new_file origin attributes body)) (sym (summed-made bench (attribute_size bench) origin attributes body refl))
 
 -- the same of a file that no bytes were handed over for
 pub full-added : (bench : Bench) (origin : Origin) (attributes : AttributeMap) (body : Body) → session_full (with_made bench origin attributes body) ≡ no_room_for bench (encoded_size attributes) 0
 full-added bench origin attributes body = ap session_full (sym (handed-none (with_made bench origin attributes body))) ∙ full-made bench 0 origin attributes body
 
 -- a file that comes with another's attributes
-pub may_inherit : (bench : Bench) (of : ℕ) (origin : Origin) (attributes : AttributeMap) (body : Body) → is_made origin ≡ true → parents_of origin ≡ of ∷ [] → NamesEachOnce origin → attributes ≡ attributes_at bench of → IsBodyOf bench.sources body → MayInherit bench of → MayCome bench origin attributes body 0
+pub may_inherit : (bench : Bench) (of : ℕ) (origin : Origin) (attributes : AttributeMap) (body : Body) → is_made origin ≡ true → parents_of origin ≡ of ∷ [] → NamesEachOnce origin → attributes ≡ bench_attributes bench of → IsBodyOf bench.sources body → MayInherit bench of → MayCome bench origin attributes body 0
 may_inherit bench of origin attributes body made parents names same inside may = subst (λ (m : AttributeMap). MayCome bench origin m body 0) (sym same) (record {
   made = made;
   behind = subst (All (λ parent. parent < length bench.files)) (sym parents) (All-cons (λ parent. parent < length bench.files) of [] may.there (All-nil (λ parent. parent < length bench.files)));
   names = names;
   inside = inside;
-  named = subst (λ b. encoded_size (attributes_at bench of) + cond (b && not (contains_key (attributes_at bench of) (codes "filename"))) FILENAME_SIZE 0 ≤ ATTRIBUTES_MAX) (sym made) may.named;
+  named = subst (λ b. encoded_size (bench_attributes bench of) + cond (b && not (contains_key (bench_attributes bench of) (codes "filename"))) FILENAME_SIZE 0 ≤ ATTRIBUTES_MAX) (sym made) may.named;
   files = may.files;
   summed = may.summed;
   room = may.room;
@@ -220,9 +220,9 @@ may_join bench parents numbers attributes size made same some distinct there is 
 }
 
 -- a copy, or a part
-pub full-range : (bench : Bench) (of offset size : ℕ) → session_full (with_range bench of offset size) ≡ no_room_for bench (encoded_size (attributes_at bench of)) 0
+pub full-range : (bench : Bench) (of offset size : ℕ) → session_full (with_range bench of offset size) ≡ no_room_for bench (encoded_size (bench_attributes bench of)) 0
 full-range bench of offset size = full_of (is_whole bench of offset size)
   where
-    full_of : (whole : Bool) → session_full (cond whole (with_clone bench of) (with_part bench of offset size)) ≡ no_room_for bench (encoded_size (attributes_at bench of)) 0
-    full_of true = full-added bench (Cloned of) (attributes_at bench of) (body_at bench of)
-    full_of false = full-added bench (Part of) (attributes_at bench of) (part_of (body_at bench of) offset size)
+    full_of : (whole : Bool) → session_full (cond whole (with_clone bench of) (with_part bench of offset size)) ≡ no_room_for bench (encoded_size (bench_attributes bench of)) 0
+    full_of true = full-added bench (Cloned of) (bench_attributes bench of) (body_at bench of)
+    full_of false = full-added bench (Part of) (bench_attributes bench of) (body_part (body_at bench of) offset size)

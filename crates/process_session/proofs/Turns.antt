@@ -7,7 +7,7 @@ use Rattle.flowfile_record.specs.declared.worked.Origin.{Origin}
 use Rattle.flowfile_record.specs.declared.worked.Origin.TheVariants.{Taken as FromQueue, Created, Received, Forked, Part, Cloned, Joined}
 use Rattle.process_session.specs.declared.file.File.{File}
 use Rattle.process_session.specs.declared.file.Taken.{Taken}
-use Rattle.process_session.specs.Bench.{taken_files}
+use Rattle.process_session.specs.Bench.{files_taken}
 use Rattle.process_session.specs.Sound.{as_worked}
 use Rattle.process_session.proofs.Changing.{origin_of}
 
@@ -48,6 +48,6 @@ in_turn-push place count (first ∷ files) file made behind turn =
     (turn.0, turn.1, in_turn-push (place + 1) count files file made (subst (λ n. AreBehind n file.origin) later behind) turn.2)
 
 -- the taken files
-pub in_turn-taken : (place count : ℕ) (files : List Taken) → place + length files ≡ count → AreInTurn place count (map as_worked (taken_files place files))
+pub in_turn-taken : (place count : ℕ) (files : List Taken) → place + length files ≡ count → AreInTurn place count (map as_worked (files_taken place files))
 in_turn-taken place count [] all = omega arith
 in_turn-taken place count (file ∷ files) all = ((refl, omega arith), All-nil _, in_turn-taken (place + 1) count files (omega arith))

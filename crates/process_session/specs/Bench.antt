@@ -23,8 +23,8 @@ pub record Bench : Type 0 where
   pub sent : Option Sent
   pub handed : ℕ
 
-abbrev pub source_of : Taken → Source
-source_of taken = record { uuid = taken.uuid; size = taken.size; bytes = taken.bytes }
+abbrev pub taken_source : Taken → Source
+taken_source taken = record { uuid = taken.uuid; size = taken.size; bytes = taken.bytes }
 
 -- a taken file as the session begins
 abbrev pub taken_file : ℕ → Taken → File
@@ -39,17 +39,17 @@ taken_file place taken =
       routed = None;
     }
 
-abbrev pub taken_files : ℕ → List Taken → List File
-taken_files place [] = []
-taken_files place (taken ∷ more) = taken_file place taken ∷ taken_files (place + 1) more
+abbrev pub files_taken : ℕ → List Taken → List File
+files_taken place [] = []
+files_taken place (taken ∷ more) = taken_file place taken ∷ files_taken (place + 1) more
 
 -- the bench as the session begins
 abbrev pub bench_of : ℕ → List Taken → Bench
 bench_of relationships taken =
     record {
       relationships = relationships;
-      sources = map source_of taken;
-      files = taken_files 0 taken;
+      sources = map taken_source taken;
+      files = files_taken 0 taken;
       sent = None;
       handed = 0;
     }
@@ -81,8 +81,8 @@ body_at bench place = option_map_or (λ file. file.body) (slice_get bench.files 
 abbrev pub bytes_in : List Source → List File → ℕ → Option (List ℕ)
 bytes_in sources files place = option_and_then (λ file. body_bytes sources file.body) (slice_get files place)
 
-abbrev pub bytes_of : Bench → ℕ → Option (List ℕ)
-bytes_of bench place = bytes_in bench.sources bench.files place
+abbrev pub bench_bytes : Bench → ℕ → Option (List ℕ)
+bench_bytes bench place = bytes_in bench.sources bench.files place
 
 abbrev pub content_size : Bench → ℕ → ℕ
 content_size bench place = body_size bench.sources (body_at bench place)
@@ -90,8 +90,8 @@ content_size bench place = body_size bench.sources (body_at bench place)
 abbrev pub attributes_in : List File → ℕ → AttributeMap
 attributes_in files place = option_map_or (λ file. file.attributes) (slice_get files place) empty
 
-abbrev pub attributes_at : Bench → ℕ → AttributeMap
-attributes_at bench place = attributes_in bench.files place
+abbrev pub bench_attributes : Bench → ℕ → AttributeMap
+bench_attributes bench place = attributes_in bench.files place
 
 -- where the file at a place comes from; a place without a file counts as taken
 abbrev pub origin_at : Bench → ℕ → Origin

@@ -9,7 +9,7 @@ use Rattle.flowfile_record.specs.declared.worked.End.{End}
 use Rattle.flowfile_record.specs.declared.worked.Origin.{Origin}
 use Rattle.flowfile_record.specs.declared.worked.Origin.TheVariants.{Created, Received, Forked, Part as PartOf, Cloned, Joined}
 use Rattle.process_session.specs.declared.file.File.{File}
-use Rattle.process_session.specs.Bench.{Bench, attributes_at, body_at, content_size, bytes_of}
+use Rattle.process_session.specs.Bench.{Bench, bench_attributes, body_at, content_size, bench_bytes}
 
 -- one file is another
 unfoldable pub change_at : (File → File) → ℕ → List File → List File
@@ -48,10 +48,10 @@ with_attributes bench place attributes = with_changed bench place (attributed_fi
 -- `uuid` can't be set
 abbrev pub with_put : Bench → ℕ → List ℕ → List ℕ → Bench
 with_put bench place key value =
-    if is_uuid key then bench else with_attributes bench place (insert (attributes_at bench place) key value)
+    if is_uuid key then bench else with_attributes bench place (insert (bench_attributes bench place) key value)
 
 abbrev pub with_removed : Bench → ℕ → List ℕ → Bench
-with_removed bench place key = with_attributes bench place (remove (attributes_at bench place) key)
+with_removed bench place key = with_attributes bench place (remove (bench_attributes bench place) key)
 
 -- a content of its own, by a write of so many bytes
 abbrev pub with_content : Bench → ℕ → List ℕ → ℕ → Bench
@@ -61,11 +61,12 @@ abbrev pub with_written : Bench → ℕ → List ℕ → Bench
 with_written bench place bytes = with_content bench place bytes (length bytes)
 
 abbrev pub with_appended : Bench → ℕ → List ℕ → Bench
-with_appended bench place bytes = with_content bench place (unwrap_or (bytes_of bench place) [] ++ bytes) (length bytes)
+with_appended bench place bytes =
+    with_content bench place (unwrap_or (bench_bytes bench place) [] ++ bytes) (length bytes)
 
 -- a file that the session makes
-abbrev pub made_file : Origin → AttributeMap → Body → File
-made_file origin attributes body =
+abbrev pub new_file : Origin → AttributeMap → Body → File
+new_file origin attributes body =
     record {
       origin = origin;
       attributes = attributes;
@@ -78,7 +79,7 @@ made_file origin attributes body =
 
 -- one more file, at the end
 abbrev pub with_made : Bench → Origin → AttributeMap → Body → Bench
-with_made bench origin attributes body = record bench { files = bench.files ++ made_file origin attributes body ∷ [] }
+with_made bench origin attributes body = record bench { files = bench.files ++ new_file origin attributes body ∷ [] }
 
 abbrev pub with_created : Bench → Bench
 with_created bench = with_made bench Created empty (New [])
@@ -87,32 +88,32 @@ abbrev pub with_received : Bench → List ℕ → Bench
 with_received bench bytes = with_handed (with_made bench Received empty (New bytes)) (length bytes)
 
 abbrev pub with_child : Bench → ℕ → Bench
-with_child bench parent = with_made bench (Forked parent) (attributes_at bench parent) (New [])
+with_child bench parent = with_made bench (Forked parent) (bench_attributes bench parent) (New [])
 
 -- the attributes that all these files have
 abbrev pub common_attributes : Bench → List ℕ → AttributeMap
 common_attributes bench [] = empty
 common_attributes bench (parent ∷ more) =
-    fold (λ attributes other. shared attributes (attributes_at bench other)) (attributes_at bench parent) more
+    fold (λ attributes other. shared attributes (bench_attributes bench other)) (bench_attributes bench parent) more
 
 abbrev pub with_joined : Bench → List ℕ → Bench
 with_joined bench parents = with_made bench (Joined parents) (common_attributes bench parents) (New [])
 
 abbrev pub with_clone : Bench → ℕ → Bench
-with_clone bench of = with_made bench (Cloned of) (attributes_at bench of) (body_at bench of)
+with_clone bench of = with_made bench (Cloned of) (bench_attributes bench of) (body_at bench of)
 
 -- a part of a content: a part of a taken content stays a reference to it
-abbrev pub part_of : Body → ℕ → ℕ → Body
-part_of (Whole of) offset size = Part of offset size
-part_of (Part of start whole) offset size = Part of (start + offset) size
-part_of (New bytes) offset size = New (slice_range bytes offset (offset + size))
+abbrev pub body_part : Body → ℕ → ℕ → Body
+body_part (Whole of) offset size = Part of offset size
+body_part (Part of start whole) offset size = Part of (start + offset) size
+body_part (New bytes) offset size = New (slice_range bytes offset (offset + size))
 
 abbrev pub is_whole : Bench → ℕ → ℕ → ℕ → Bool
 is_whole bench of offset size = (offset == 0) && (size == content_size bench of)
 
 abbrev pub with_part : Bench → ℕ → ℕ → ℕ → Bench
 with_part bench of offset size =
-    with_made bench (PartOf of) (attributes_at bench of) (part_of (body_at bench of) offset size)
+    with_made bench (PartOf of) (bench_attributes bench of) (body_part (body_at bench of) offset size)
 
 abbrev pub with_range : Bench → ℕ → ℕ → ℕ → Bench
 with_range bench of offset size =

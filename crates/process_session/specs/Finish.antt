@@ -13,22 +13,22 @@ use Rattle.process_session.specs.declared.file.File.{File}
 use Rattle.process_session.specs.Bench.{Bench}
 use Rattle.flowfile_record.specs.Outcome.{is_made, parents_of}
 
-abbrev pub is_removed : Option End → Bool
-is_removed (Some Removed) = true
-is_removed _ = false
+abbrev pub ends_removed : Option End → Bool
+ends_removed (Some Removed) = true
+ends_removed _ = false
 
 -- a made file that is removed isn't in the outcome
 abbrev pub is_left_out : File → Bool
-is_left_out file = is_made file.origin && is_removed file.«end»
+is_left_out file = is_made file.origin && ends_removed file.«end»
 
 -- each once, at its first place
-abbrev pub each_once : List ℕ → List ℕ
-each_once [] = []
-each_once (place ∷ places) = place ∷ filter (λ other. not (other == place)) (each_once places)
+abbrev pub places_once : List ℕ → List ℕ
+places_once [] = []
+places_once (place ∷ places) = place ∷ filter (λ other. not (other == place)) (places_once places)
 
 -- the places of the outcome that stand for these places of the session
 abbrev pub standing_for : List (List ℕ) → List ℕ → List ℕ
-standing_for stand places = each_once (flat_map (λ place. unwrap_or (slice_get stand place) []) places)
+standing_for stand places = places_once (flat_map (λ place. unwrap_or (slice_get stand place) []) places)
 
 -- for each of these files, behind what is known of the ones before, the places of the outcome that stand for it: its
 -- own, and for a file that is left out those that stand for its parents
@@ -80,13 +80,13 @@ kept_files stand (file ∷ files) =
     if is_left_out file then kept_files stand files else worked_of stand file ∷ kept_files stand files
 
 -- the first of the places that stand for the file at a place
-abbrev pub first_place : List ℕ → Option ℕ
-first_place [] = None
-first_place (place ∷ more) = Some place
+abbrev pub first_of_places : List ℕ → Option ℕ
+first_of_places [] = None
+first_of_places (place ∷ more) = Some place
 
 -- the place in the outcome of a file that isn't left out
 abbrev pub place_if_kept : Option Bool → List ℕ → Option ℕ
-place_if_kept (Some false) places = first_place places
+place_if_kept (Some false) places = first_of_places places
 place_if_kept _ places = None
 
 abbrev pub place_in : List (List ℕ) → List File → ℕ → Option ℕ

@@ -23,13 +23,13 @@ IsInside size stand = All (λ place. place < size) (places_of stand)
 abbrev pub stand_at : List (List ℕ) → ℕ → List ℕ
 stand_at stand place = unwrap_or (slice_get stand place) []
 
-abbrev pub has : List ℕ → ℕ → Bool
-has [] place = false
-has (other ∷ places) place = (other == place) || has places place
+abbrev pub lists_place : List ℕ → ℕ → Bool
+lists_place [] place = false
+lists_place (other ∷ places) place = (other == place) || lists_place places place
 
 -- one more place, where it isn't there
 abbrev pub with_once : List ℕ → ℕ → List ℕ
-with_once left place = if has left place then left else left ++ place ∷ []
+with_once left place = if lists_place left place then left else left ++ place ∷ []
 
 abbrev pub with_each : List ℕ → List ℕ → List ℕ
 with_each left [] = left
@@ -52,7 +52,7 @@ next_place next file = if is_left_out file then next else next + 1
 
 -- the places that are marked in a round are those that are left, and no mark is of a later round
 pub record IsMarked (met : List ℕ) (round : ℕ) (left : List ℕ) : Type 0 where
-  pub marked : (place : ℕ) → place < length met → (slice_index met place == round) ≡ has left place
+  pub marked : (place : ℕ) → place < length met → (slice_index met place == round) ≡ lists_place left place
   pub upto : (place : ℕ) → place < length met → slice_index met place ≤ round
   pub inside : All (λ place. place < length met) left
 
@@ -84,7 +84,7 @@ kept_origins stand (file ∷ files) =
 
 -- a file is kept with the first of these origins, or left out: what is kept and the origins that are left are those
 -- of the files behind it
-pub record Keeps (file : File) (kept kept' : List Worked) (origins origins' : List Origin) (stand : List (List ℕ))
+pub record KeepsFile (file : File) (kept kept' : List Worked) (origins origins' : List Origin) (stand : List (List ℕ))
     (more : List File) : Type 0 where
   pub rest : origins' ≡ kept_origins stand more
   pub files : kept' ++ kept_files stand more ≡ kept ++ kept_files stand (file ∷ more)

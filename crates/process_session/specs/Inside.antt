@@ -1,7 +1,7 @@
 -- A session's fields, and the bench that they stand for.
 use Rattle.process_session.specs.declared.session.Session.TheInside.{Inside}
 use Rattle.process_session.specs.Bench.{Bench}
-use Rattle.process_session.specs.Sound.{IsSound}
+use Rattle.process_session.specs.Sound.{IsSoundBench}
 
 abbrev pub bench_in : Inside → Bench
 bench_in session =
@@ -13,5 +13,5 @@ bench_in session =
       handed = session.handed;
     }
 
-abbrev pub IsSoundInside : Inside → Type 0
-IsSoundInside session = IsSound (bench_in session) session.counted
+abbrev pub IsSoundSession : Inside → Type 0
+IsSoundSession session = IsSoundBench (bench_in session) session.counted

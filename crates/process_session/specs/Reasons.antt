@@ -10,7 +10,7 @@ use Rattle.process_session.specs.declared.error.SessionError.{SessionError}
 use Rattle.process_session.specs.declared.error.SessionError.TheVariants.{UnknownFile, AlreadyEnded, NoRelationship, MadeHere, NoBytes, RangeOutside, ContentTooLarge, BadKey, AttributesTooLarge, AlreadySent, SessionFull, NotAccounted, Memory}
 use Rattle.process_session.specs.declared.file.File.{File}
 use Rattle.flowfile_record.specs.declared.limits.TheConstants.{FILES_MAX, SESSION_ATTRIBUTES_MAX, WRITTEN_MAX}
-use Rattle.process_session.specs.Bench.{Bench, is_made_at, bytes_of, content_size, attribute_size}
+use Rattle.process_session.specs.Bench.{Bench, is_made_at, bench_bytes, content_size, attribute_size}
 
 -- a reason to refuse, where it holds
 abbrev pub Refusal : Type 0
@@ -55,7 +55,7 @@ unfoldable pub made_here : Bench → ℕ → Refusal
 made_here bench place = where_it_holds (is_made_at bench place) MadeHere
 
 unfoldable pub no_bytes : Bench → ℕ → Refusal
-no_bytes bench place = where_it_holds (is_none (bytes_of bench place)) NoBytes
+no_bytes bench place = where_it_holds (is_none (bench_bytes bench place)) NoBytes
 
 unfoldable pub range_outside : Bench → ℕ → ℕ → ℕ → Refusal
 range_outside bench of offset size =

@@ -2,7 +2,7 @@
 use Rattle.std.specs.Prelude.{ℕ, ◌+◌, List, [], ◌∷◌, length, None, if◌then◌else◌}
 use Rattle.std.specs.FinMap.{insert, remove}
 use Rattle.flowfile_record.specs.Attributes.{is_uuid}
-use Rattle.process_session.specs.Bench.{Bench, attributes_at, content_size, made_size, named_size, origin_at}
+use Rattle.process_session.specs.Bench.{Bench, bench_attributes, content_size, made_size, named_size, origin_at}
 use Rattle.process_session.specs.Changes.{with_put, with_written, with_appended, with_created, with_received, with_child, with_joined, with_clone, with_range, common_attributes}
 use Rattle.process_session.specs.Reasons.{Refusal, first_refusal, unknown_file, already_ended, no_relationship, made_here, no_bytes, range_outside, content_too_large, bad_key, attributes_too_large, already_sent, session_full, not_accounted}
 
@@ -33,7 +33,7 @@ refusal_of_send bench place =
 
 abbrev pub refusal_of_put : Bench → ℕ → List ℕ → List ℕ → Refusal
 refusal_of_put bench place key value =
-    let attributes = insert (attributes_at bench place) key value in
+    let attributes = insert (bench_attributes bench place) key value in
     let of_key = if is_uuid key then [] else bad_key key ∷
     attributes_too_large (named_size (origin_at bench place) attributes) ∷
     session_full (with_put bench place key value) ∷ [] in
@@ -41,7 +41,7 @@ refusal_of_put bench place key value =
 
 abbrev pub refusal_of_remove_attribute : Bench → ℕ → List ℕ → Refusal
 refusal_of_remove_attribute bench place key =
-    let attributes = remove (attributes_at bench place) key in
+    let attributes = remove (bench_attributes bench place) key in
     first_refusal (unknown_file bench place ∷ already_ended bench place ∷
     attributes_too_large (named_size (origin_at bench place) attributes) ∷ [])
 
@@ -66,36 +66,36 @@ refusal_of_receive bench bytes =
 abbrev pub refusal_of_create_from : Bench → ℕ → Refusal
 refusal_of_create_from bench parent =
     first_refusal (unknown_file bench parent ∷ already_ended bench parent ∷
-    attributes_too_large (made_size (attributes_at bench parent)) ∷ session_full (with_child bench parent) ∷ [])
+    attributes_too_large (made_size (bench_attributes bench parent)) ∷ session_full (with_child bench parent) ∷ [])
 
 -- the first of several files that is unknown, and the first that has ended
 abbrev pub unknown_files : Bench → List ℕ → Refusal
 unknown_files bench [] = None
 unknown_files bench (place ∷ places) = first_refusal (unknown_file bench place ∷ unknown_files bench places ∷ [])
 
-abbrev pub ended_files : Bench → List ℕ → Refusal
-ended_files bench [] = None
-ended_files bench (place ∷ places) = first_refusal (already_ended bench place ∷ ended_files bench places ∷ [])
+abbrev pub ended_refusal : Bench → List ℕ → Refusal
+ended_refusal bench [] = None
+ended_refusal bench (place ∷ places) = first_refusal (already_ended bench place ∷ ended_refusal bench places ∷ [])
 
 -- what is known of its parents before their common attributes are copied
 abbrev pub refusal_of_parents : Bench → List ℕ → Refusal
-refusal_of_parents bench parents = first_refusal (unknown_files bench parents ∷ ended_files bench parents ∷ [])
+refusal_of_parents bench parents = first_refusal (unknown_files bench parents ∷ ended_refusal bench parents ∷ [])
 
 abbrev pub refusal_of_create_joined : Bench → List ℕ → Refusal
 refusal_of_create_joined bench parents =
-    first_refusal (unknown_files bench parents ∷ ended_files bench parents ∷
+    first_refusal (unknown_files bench parents ∷ ended_refusal bench parents ∷
     attributes_too_large (made_size (common_attributes bench parents)) ∷
     session_full (with_joined bench parents) ∷ [])
 
 abbrev pub refusal_of_clone : Bench → ℕ → Refusal
 refusal_of_clone bench of =
     first_refusal (unknown_file bench of ∷ already_ended bench of ∷
-    attributes_too_large (made_size (attributes_at bench of)) ∷ session_full (with_clone bench of) ∷ [])
+    attributes_too_large (made_size (bench_attributes bench of)) ∷ session_full (with_clone bench of) ∷ [])
 
 abbrev pub refusal_of_clone_range : Bench → ℕ → ℕ → ℕ → Refusal
 refusal_of_clone_range bench of offset size =
     first_refusal (unknown_file bench of ∷ already_ended bench of ∷ range_outside bench of offset size ∷
-    attributes_too_large (made_size (attributes_at bench of)) ∷
+    attributes_too_large (made_size (bench_attributes bench of)) ∷
     session_full (with_range bench of offset size) ∷ [])
 
 abbrev pub refusal_of_finish : Bench → Refusal

@@ -2,7 +2,7 @@
 ghost use Rattle.std.specs.Prelude.{◌≡◌, ◌+◌, ◌<◌, ◌≤◌, List, length, IfOk, OnOk, OnErr, IfErr, MatchResult, All, slice_get, vec_len};
 ghost use Rattle.std.specs.Option.{option_map};
 ghost use Rattle.std.specs.Result.{result_err};
-ghost use Rattle.process_session.specs.Bench.{Bench, bench_of, bytes_of, IsWhole};
+ghost use Rattle.process_session.specs.Bench.{Bench, bench_of, bench_bytes, IsWhole};
 ghost use Rattle.process_session.specs.Refusals.{refusal_of_content};
 ghost use Rattle.process_session.specs.Reasons.{no_bytes};
 
@@ -43,11 +43,11 @@ impl Model for Session {
 
     ghost coded = { Prim.hlevel (codes, attributes.the_row.coded) };
 
-    ghost use Rattle.process_session.specs.Inside.{bench_in, IsSoundInside};
+    ghost use Rattle.process_session.specs.Inside.{bench_in, IsSoundSession};
 
     ghost view = { bench_in };
 
-    ghost invariant = { IsSoundInside };
+    ghost invariant = { IsSoundSession };
 }
 
 impl Session {
@@ -98,7 +98,7 @@ impl Session {
     #[tactic(auto, using(crate::proofs::Refusing::steps))]
     pub fn content(&self, place: u32) -> Result<&[u8], SessionError>
         ensures refusal { result_err result ≡ refusal_of_content self.now place }
-        ensures content { IfOk result (λ bytes. bytes_of self.now place ≡ Some bytes.now) }
+        ensures content { IfOk result (λ bytes. bench_bytes self.now place ≡ Some bytes.now) }
     {
         self.check_known(place)?;
         self.bytes_at(place)
@@ -109,7 +109,7 @@ impl Session {
     fn bytes_at(&self, place: u32) -> Result<&[u8], SessionError>
         requires { place < length self.now.files }
         ensures refusal { result_err result ≡ no_bytes self.now place }
-        ensures content { IfOk result (λ bytes. bytes_of self.now place ≡ Some bytes.now) }
+        ensures content { IfOk result (λ bytes. bench_bytes self.now place ≡ Some bytes.now) }
     {
         match body_bytes(&self.sources, &self.files[place as usize].body) {
             Some(bytes) => Ok(bytes),

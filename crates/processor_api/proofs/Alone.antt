@@ -22,7 +22,7 @@ use Rattle.process_session.specs.declared.error.SessionError.{SessionError}
 use Rattle.process_session.specs.declared.file.File.{File}
 use Rattle.process_session.specs.declared.file.Source.{Source}
 use Rattle.process_session.specs.Bench.{Bench, bench_of, attribute_size, file_size, named_size}
-use Rattle.process_session.specs.Changes.{attributed_file, change_at, made_file, with_attributes, with_put, with_written, written_file, with_end, with_penalty}
+use Rattle.process_session.specs.Changes.{attributed_file, change_at, new_file, with_attributes, with_put, with_written, written_file, with_end, with_penalty}
 use Rattle.process_session.specs.Finish.{is_left_out, kept_files, origin_in, outcome_of, sent_in, standing_from, worked_with}
 use Rattle.process_session.specs.Reasons.{Refusal, where_it_holds, first_refusal, unknown_file, already_ended, no_relationship, content_too_large, bad_key, attributes_too_large, already_sent, past_limits, session_full, not_accounted_from}
 use Rattle.process_session.specs.Refusals.{refusal_of_create, refusal_of_receive, refusal_of_put, refusal_of_write, refusal_of_transfer, refusal_of_penalize, refusal_of_send, refusal_of_finish}
@@ -152,11 +152,11 @@ no_attributes : encoded_size empty ≤ ATTRIBUTES_MAX
 no_attributes = omega (arith, encoded_size-empty)
 
 pub create-free : (n : ℕ) → refusal_of_create (bench_of n []) ≡ None
-create-free n = next _ _ (roomy n [] (made_file Created empty (New [])) None 0 no_attributes (omega arith)) no_refusal
+create-free n = next _ _ (roomy n [] (new_file Created empty (New [])) None 0 no_attributes (omega arith)) no_refusal
 
 pub receive-free : (n : ℕ) (bytes : List ℕ) → length bytes ≤ CONTENT_MAX → refusal_of_receive (bench_of n []) bytes ≡ None
 receive-free n bytes fits =
-    next _ _ (short_content _ fits) (next _ _ (roomy n [] (made_file Received empty (New bytes)) None (0 + length bytes) no_attributes (omega arith)) no_refusal)
+    next _ _ (short_content _ fits) (next _ _ (roomy n [] (new_file Received empty (New bytes)) None (0 + length bytes) no_attributes (omega arith)) no_refusal)
 
 -- ---- attributes of a file
 

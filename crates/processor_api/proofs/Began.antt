@@ -15,12 +15,12 @@ use Rattle.machine_model.specs.declared.given.Given.{Given}
 use Rattle.machine_model.specs.declared.kind.Kind.{Kind}
 use Rattle.machine_model.specs.declared.kind.TakeRule.{TakeRule}
 use Rattle.machine_model.specs.declared.kind.TakeRule.TheVariants.{Source as MakesFiles, One}
-use Rattle.process_session.specs.Bench.{Bench, attributes_at, bench_of, bytes_of, source_of}
+use Rattle.process_session.specs.Bench.{Bench, bench_attributes, bench_of, bench_bytes, taken_source}
 use Rattle.process_session.specs.Finish.{outcome_of}
 use Rattle.process_session.specs.Reasons.{first_refusal, no_bytes, unknown_file}
 use Rattle.process_session.specs.Refusals.{refusal_of_content, refusal_of_finish}
 use Rattle.process_session.specs.declared.file.Taken.{Taken}
-use Rattle.processor_api.specs.Acts.{AreRead, Begins, EndsAs, KeepsTaken, MayBeHanded, AreTakenAs, IsOutcomeOf, IsTakenAs, fit_a_content}
+use Rattle.processor_api.specs.Acts.{AreRead, Begins, EndsAs, KeepsTaken, MayBeHandedTo, AreTakenAs, IsOutcomeOf, IsTakenAs, fit_a_content}
 use Rattle.processor_api.specs.Sessions.{TookOne}
 
 -- ---- how many files it took
@@ -38,7 +38,7 @@ one_of (file ∷ []) one = (file, refl)
 one_of (file ∷ other ∷ taken) one = absurd (omega arith)
 
 taken_count : (n : ℕ) (taken : List Taken) (bench : Bench) → bench ≡ bench_of n taken → length bench.sources ≡ length taken
-taken_count n taken bench is = ap (λ (b : Bench). length b.sources) is ∙ length-map taken source_of
+taken_count n taken bench is = ap (λ (b : Bench). length b.sources) is ∙ length-map taken taken_source
 
 -- alike many alike this
 may_take_none : (rule : TakeRule) (count : ℕ) → rule ≡ MakesFiles → MayTake rule count → count ≡ 0
@@ -110,8 +110,8 @@ content-free kind bench given rule begins =
     ∙ content_there (length (relationships_of kind)) one.0 (lone_read one.0 (subst AreRead one.1 begins.handed.read))
 
 -- what a file of the machine is, by what the session shows of it
-pub taken-attributes : (before : Bench) (taken : Taken) (file : TakenFile) → before ≡ bench_of before.relationships (taken ∷ []) → IsTakenAs file taken → file.attributes ≡ attributes_at before 0
-taken-attributes before taken file is alike = alike.attributes ∙ sym (ap (λ b. attributes_at b 0) is)
+pub taken-attributes : (before : Bench) (taken : Taken) (file : TakenFile) → before ≡ bench_of before.relationships (taken ∷ []) → IsTakenAs file taken → file.attributes ≡ bench_attributes before 0
+taken-attributes before taken file is alike = alike.attributes ∙ sym (ap (λ b. bench_attributes b 0) is)
 
 pub taken-uuid : (before : Bench) (taken : Taken) (file : TakenFile) (uuid : List ℕ) → before ≡ bench_of before.relationships (taken ∷ []) → IsTakenAs file taken
     → option_map (λ source. source.uuid) (slice_get before.sources 0) ≡ Some uuid → file.uuid ≡ uuid
@@ -120,9 +120,9 @@ taken-uuid before taken file uuid is alike shown =
     let uuid-is : taken.uuid ≡ uuid = cc in
     alike.uuid ∙ uuid-is
 
-pub taken-content : (before : Bench) (taken : Taken) (file : TakenFile) (content : List ℕ) → before ≡ bench_of before.relationships (taken ∷ []) → IsTakenAs file taken → bytes_of before 0 ≡ Some content → file.bytes ≡ content
+pub taken-content : (before : Bench) (taken : Taken) (file : TakenFile) (content : List ℕ) → before ≡ bench_of before.relationships (taken ∷ []) → IsTakenAs file taken → bench_bytes before 0 ≡ Some content → file.bytes ≡ content
 taken-content before taken file content is alike shown =
-    let same : taken.bytes ≡ Some content = sym (ap (λ b. bytes_of b 0) is) ∙ shown in
+    let same : taken.bytes ≡ Some content = sym (ap (λ b. bench_bytes b 0) is) ∙ shown in
     let P : Option (List ℕ) → Type 0 = λ o. IfSome o (λ bytes. bytes ≡ file.bytes) in
     sym (subst P same alike.bytes)
 
@@ -149,7 +149,7 @@ one-acts kind before given after rule begins finished kept outcome = record {
 
 -- ---- one session, from its beginning to its end
 
-pub work-begins : (kind : Kind) (relationships : ℕ) (taken : List Taken) (given : Given) (bench : Bench) → relationships ≡ length (relationships_of kind) → bench ≡ bench_of relationships taken → MayBeHanded kind taken given
+pub work-begins : (kind : Kind) (relationships : ℕ) (taken : List Taken) (given : Given) (bench : Bench) → relationships ≡ length (relationships_of kind) → bench ≡ bench_of relationships taken → MayBeHandedTo kind taken given
     → Begins kind bench given
 work-begins kind relationships taken given bench many is handed =
     record { taken = taken; begun = is ∙ ap (λ n. bench_of n taken) many; handed = handed }
@@ -160,7 +160,7 @@ work-outcome kind relationships taken given before after outcome is ends outcome
     let n : relationships ≡ before.relationships = sym (ap (λ (b : Bench). b.relationships) is) in
     ends.outcome files (taken, is ∙ ap (λ n. bench_of n taken) n, alike) ∙ ap Some (sym outcome-is)
 
-pub work-sources : (relationships : ℕ) (taken : List Taken) (before after : Bench) → before ≡ bench_of relationships taken → KeepsTaken before after → after.sources ≡ map source_of taken
+pub work-sources : (relationships : ℕ) (taken : List Taken) (before after : Bench) → before ≡ bench_of relationships taken → KeepsTaken before after → after.sources ≡ map taken_source taken
 work-sources relationships taken before after is kept = kept.sources ∙ ap (λ (b : Bench). b.sources) is
 
 pub work-relationships : (relationships : ℕ) (taken : List Taken) (before after : Bench) → before ≡ bench_of relationships taken → KeepsTaken before after → after.relationships ≡ relationships

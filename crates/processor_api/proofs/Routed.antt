@@ -11,7 +11,7 @@ use Rattle.flowfile_record.specs.declared.worked.Outcome.{Outcome}
 use Rattle.flowfile_record.specs.declared.worked.Worked.{Worked}
 use Rattle.machine_model.specs.Making.{TakenFile, may_have, or_given_up, passed_on}
 use Rattle.machine_model.specs.RouteOnAttribute.{routed, routed_clone, routed_file}
-use Rattle.process_session.specs.Bench.{Bench, attributes_at}
+use Rattle.process_session.specs.Bench.{Bench, bench_attributes}
 use Rattle.process_session.specs.Changes.{with_end, with_route}
 use Rattle.processor_api.specs.Sessions.{BeganWithOne, EndsWith}
 use Rattle.processor_api.specs.Cloning.{with_ended}
@@ -29,21 +29,21 @@ are-clones attributes others = All-map (IsClone attributes) (routed_clone attrib
 
 -- no clones
 pub routes-alone : (before after : Bench) (relationship : ℕ) → BeganWithOne before → after ≡ with_end (with_route before 0 relationship) 0 (To relationship)
-    → EndsWith before after (record { files = routed_file (attributes_at before 0) relationship ∷ []; sent = None })
+    → EndsWith before after (record { files = routed_file (bench_attributes before 0) relationship ∷ []; sent = None })
 routes-alone before after relationship took is =
-    ends-with before after (attributes_at before 0) (routed_file (attributes_at before 0) relationship) [] refl (All-nil _)
+    ends-with before after (bench_attributes before 0) (routed_file (bench_attributes before 0) relationship) [] refl (All-nil _)
     (is ∙ ap (λ b. with_end (with_route b 0 relationship) 0 (To relationship)) (sym (no-clones before)) ∙ routed-is before [] relationship took)
 
-pub routes-cloned : (before after : Bench) (first : ℕ) (others : List ℕ) → BeganWithOne before → after ≡ with_end (with_route (with_ended before (routed_clones (attributes_at before 0) others)) 0 first) 0 (To first)
-    → EndsWith before after (record { files = routed_file (attributes_at before 0) first ∷ routed_clones (attributes_at before 0) others; sent = None })
+pub routes-cloned : (before after : Bench) (first : ℕ) (others : List ℕ) → BeganWithOne before → after ≡ with_end (with_route (with_ended before (routed_clones (bench_attributes before 0) others)) 0 first) 0 (To first)
+    → EndsWith before after (record { files = routed_file (bench_attributes before 0) first ∷ routed_clones (bench_attributes before 0) others; sent = None })
 routes-cloned before after first others took is =
-    let clones = routed_clones (attributes_at before 0) others in
-    ends-with before after (attributes_at before 0) (routed_file (attributes_at before 0) first) clones refl (are-clones (attributes_at before 0) others) (is ∙ routed-is before clones first took)
+    let clones = routed_clones (bench_attributes before 0) others in
+    ends-with before after (bench_attributes before 0) (routed_file (bench_attributes before 0) first) clones refl (are-clones (bench_attributes before 0) others) (is ∙ routed-is before clones first took)
 
 pub gives-up : (before after : Bench) (unmatched : ℕ) → BeganWithOne before → after ≡ with_end before 0 (To unmatched)
-    → EndsWith before after (record { files = passed_on 0 (attributes_at before 0) false unmatched ∷ []; sent = None })
+    → EndsWith before after (record { files = passed_on 0 (bench_attributes before 0) false unmatched ∷ []; sent = None })
 gives-up before after unmatched took is =
-    ends-with before after (attributes_at before 0) (passed_on 0 (attributes_at before 0) false unmatched) [] refl (All-nil _)
+    ends-with before after (bench_attributes before 0) (passed_on 0 (bench_attributes before 0) false unmatched) [] refl (All-nil _)
     (is ∙ ap (λ b. with_end b 0 (To unmatched)) (sym (no-clones before)) ∙ passed-is before [] unmatched took)
 
 routed-some : (unmatched first : ℕ) (others : List ℕ) (file : TakenFile) (attributes : AttributeMap) → file.attributes ≡ attributes → ((length others == 0) || may_have (Cloned 0) attributes) ≡ true
@@ -62,24 +62,24 @@ routed-none unmatched first others file attributes same isnt =
 
 -- each case of the places, as a session leaves it
 abbrev pub EndsRouted : Bench → Bench → (unmatched : ℕ) → List ℕ → Type 0
-EndsRouted before after unmatched places = (file : TakenFile) → file.attributes ≡ attributes_at before 0 → EndsWith before after (routed unmatched file places)
+EndsRouted before after unmatched places = (file : TakenFile) → file.attributes ≡ bench_attributes before 0 → EndsWith before after (routed unmatched file places)
 
 pub none-routed : (before after : Bench) (unmatched : ℕ) (places : List ℕ) → BeganWithOne before → places ≡ [] → after ≡ with_end (with_route before 0 unmatched) 0 (To unmatched) → EndsRouted before after unmatched places
 none-routed before after unmatched places took none is =
     subst (EndsRouted before after unmatched) (sym none)
     (λ file same. subst (λ a. EndsWith before after (record { files = routed_file a unmatched ∷ []; sent = None })) (sym same) (routes-alone before after unmatched took is))
 
-pub some-routed : (before after : Bench) (unmatched first : ℕ) (others places : List ℕ) → BeganWithOne before → places ≡ first ∷ others → ((length others == 0) || may_have (Cloned 0) (attributes_at before 0)) ≡ true
-    → after ≡ with_end (with_route (with_ended before (routed_clones (attributes_at before 0) others)) 0 first) 0 (To first) → EndsRouted before after unmatched places
+pub some-routed : (before after : Bench) (unmatched first : ℕ) (others places : List ℕ) → BeganWithOne before → places ≡ first ∷ others → ((length others == 0) || may_have (Cloned 0) (bench_attributes before 0)) ≡ true
+    → after ≡ with_end (with_route (with_ended before (routed_clones (bench_attributes before 0) others)) 0 first) 0 (To first) → EndsRouted before after unmatched places
 some-routed before after unmatched first others places took are may is =
     subst (EndsRouted before after unmatched) (sym are)
-    (λ file same. subst (EndsWith before after) (sym (routed-some unmatched first others file (attributes_at before 0) same may)) (routes-cloned before after first others took is))
+    (λ file same. subst (EndsWith before after) (sym (routed-some unmatched first others file (bench_attributes before 0) same may)) (routes-cloned before after first others took is))
 
-pub up-routed : (before after : Bench) (unmatched first : ℕ) (others places : List ℕ) → BeganWithOne before → places ≡ first ∷ others → ((length others == 0) || may_have (Cloned 0) (attributes_at before 0)) ≡ false
+pub up-routed : (before after : Bench) (unmatched first : ℕ) (others places : List ℕ) → BeganWithOne before → places ≡ first ∷ others → ((length others == 0) || may_have (Cloned 0) (bench_attributes before 0)) ≡ false
     → after ≡ with_end before 0 (To unmatched) → EndsRouted before after unmatched places
 up-routed before after unmatched first others places took are isnt is =
     subst (EndsRouted before after unmatched) (sym are)
-    (λ file same. subst (EndsWith before after) (sym (routed-none unmatched first others file (attributes_at before 0) same isnt)) (gives-up before after unmatched took is))
+    (λ file same. subst (EndsWith before after) (sym (routed-none unmatched first others file (bench_attributes before 0) same isnt)) (gives-up before after unmatched took is))
 
 pub no_places : (places : List ℕ) → length places ≡ 0 → places ≡ []
 no_places [] none = refl

@@ -33,7 +33,7 @@ IsGivenTo (GetFile filter) given = IsSome given.file × IsSomeAnd given.bytes (�
 IsGivenTo _ given = Unit {0}
 
 -- What a processor of this kind may be handed: as many files as its rule takes, and what it is given.
-pub record MayBeHanded (kind : Kind) (taken : List Taken) (given : Given) : Type 0 where
+pub record MayBeHandedTo (kind : Kind) (taken : List Taken) (given : Given) : Type 0 where
   pub sound : IsSoundKind kind
   pub count : MayTake (take_rule_of kind) (length taken)
   pub read : AreRead taken
@@ -43,7 +43,7 @@ pub record MayBeHanded (kind : Kind) (taken : List Taken) (given : Given) : Type
 pub record Begins (kind : Kind) (bench : Bench) (given : Given) : Type 0 where
   pub taken : List Taken
   pub begun : bench ≡ bench_of (length (relationships_of kind)) taken
-  pub handed : MayBeHanded kind taken given
+  pub handed : MayBeHandedTo kind taken given
 
 -- ---- what it owes
 

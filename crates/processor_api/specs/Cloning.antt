@@ -3,12 +3,12 @@ use Rattle.std.specs.Prelude.{Bool, List, ◌++◌, map, Some}
 use Rattle.flowfile_record.specs.declared.worked.Origin.TheVariants.{Cloned}
 use Rattle.flowfile_record.specs.declared.worked.Worked.{Worked}
 use Rattle.machine_model.specs.Making.{may_have}
-use Rattle.process_session.specs.Bench.{Bench, attributes_at}
+use Rattle.process_session.specs.Bench.{Bench, bench_attributes}
 use Rattle.process_session.specs.declared.file.File.{File}
 
 -- a file of a session, once it has ended as this file of an outcome
-abbrev pub ended : Worked → File
-ended file =
+abbrev pub file_ended : Worked → File
+file_ended file =
     record {
       origin = file.origin;
       attributes = file.attributes;
@@ -21,8 +21,8 @@ ended file =
 
 -- more files, which have ended, behind those that a session has
 abbrev pub with_ended : Bench → List Worked → Bench
-with_ended bench files = record bench { files = bench.files ++ map ended files }
+with_ended bench files = record bench { files = bench.files ++ map file_ended files }
 
 -- a clone may have the attributes of its first file
 abbrev pub may_be_cloned : Bench → Bool
-may_be_cloned bench = may_have (Cloned 0) (attributes_at bench 0)
+may_be_cloned bench = may_have (Cloned 0) (bench_attributes bench 0)

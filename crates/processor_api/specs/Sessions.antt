@@ -24,7 +24,7 @@ pub record TookOne (bench : Bench) : Type 0 where
 -- ---- under way
 
 -- its first file is as it was taken
-pub record HasTaken (bench : Bench) : Type 0 where
+pub record HasFirstTaken (bench : Bench) : Type 0 where
   pub taken : Taken
   pub more : List File
   pub files : bench.files ≡ taken_file 0 taken ∷ more

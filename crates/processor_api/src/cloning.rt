@@ -4,10 +4,10 @@ ghost use Rattle.flowfile_record.specs.declared.worked.End.TheVariants.{To};
 ghost use Rattle.machine_model.specs.declared.limits.TheConstants.{OWN_PROPERTIES_MAX};
 ghost use Rattle.machine_model.specs.Making.{TakenFile, alone, clone_of, passed_on};
 ghost use Rattle.machine_model.specs.RouteOnAttribute.{routed, routed_clone};
-ghost use Rattle.process_session.specs.Bench.{attributes_at, made_size};
+ghost use Rattle.process_session.specs.Bench.{bench_attributes, made_size};
 ghost use Rattle.process_session.specs.Changes.{with_end, with_route};
 ghost use Rattle.process_session.specs.Refusals.{refusal_of_clone};
-ghost use Rattle.processor_api.specs.Sessions.{HasTaken, BeganWithOne, EndsWith};
+ghost use Rattle.processor_api.specs.Sessions.{HasFirstTaken, BeganWithOne, EndsWith};
 ghost use Rattle.processor_api.specs.Cloning.{may_be_cloned, with_ended};
 
 use crate::{FILE, or_no_memory};
@@ -20,7 +20,7 @@ pub fn pass(session: &mut Session, relationship: u16)
     requires one { BeganWithOne session.old }
     requires there { relationship < session.old.relationships }
     ensures { EndsWith session.old session.new
-        (alone (passed_on FILE (attributes_at session.old FILE) false relationship)) }
+        (alone (passed_on FILE (bench_attributes session.old FILE) false relationship)) }
 {
     session.transfer(FILE, relationship).unwrap();
 }
@@ -31,7 +31,7 @@ pub fn route(session: &mut Session, unmatched: u16, places: &[u16]) -> Result<()
     requires unmatched { unmatched < session.old.relationships }
     requires there { All (λ place. place < session.old.relationships) places.now }
     requires few { length places.now ≤ OWN_PROPERTIES_MAX }
-    ensures { OnOk result ((file : TakenFile) → file.attributes ≡ attributes_at session.old FILE
+    ensures { OnOk result ((file : TakenFile) → file.attributes ≡ bench_attributes session.old FILE
         → EndsWith session.old session.new (routed unmatched file places.now)) }
 {
     let Some((first, others)) = places.split_first() else {
@@ -50,7 +50,7 @@ pub fn route(session: &mut Session, unmatched: u16, places: &[u16]) -> Result<()
 /// Whether the taken file may have a clone for each of these. A session takes nothing back: that is known before the
 /// first clone.
 fn may_be_routed(session: &Session, others: &[u16]) -> bool
-    requires { HasTaken session.now }
+    requires { HasFirstTaken session.now }
     ensures { result ≡ ((length others.now == 0) || may_be_cloned session.now) }
 {
     others.is_empty() || may_be_cloned(session)
@@ -58,7 +58,7 @@ fn may_be_routed(session: &Session, others: &[u16]) -> bool
 
 /// Whether a clone of the taken file may have its attributes.
 pub fn may_be_cloned(session: &Session) -> bool
-    requires { HasTaken session.now }
+    requires { HasFirstTaken session.now }
     ensures { result ≡ may_be_cloned session.now }
 {
     let Some(attributes) = session.attributes(FILE) else {
@@ -81,11 +81,11 @@ fn made_size(attributes: &Attributes) -> u64
 
 /// One more clone of the taken file, which goes to a relationship.
 pub fn add_clone(session: &mut Session, relationship: u16) -> Result<(), AllocError>
-    requires taken { HasTaken session.old }
+    requires taken { HasFirstTaken session.old }
     requires free { refusal_of_clone session.old FILE ≡ None }
     requires there { relationship < session.old.relationships }
     ensures { OnOk result (session.new ≡ with_ended session.old
-        (clone_of FILE (attributes_at session.old FILE) relationship ∷ [])) }
+        (clone_of FILE (bench_attributes session.old FILE) relationship ∷ [])) }
 {
     let clone = or_no_memory(session.clone_file(FILE))?;
     session.transfer(clone, relationship).unwrap();
@@ -99,7 +99,7 @@ fn add_routed_clones(session: &mut Session, relationships: &[u16]) -> Result<(),
     requires few { length relationships.now ≤ OWN_PROPERTIES_MAX }
     requires may { 0 < length relationships.now → may_be_cloned session.old ≡ true }
     ensures { OnOk result (session.new ≡ with_ended session.old
-        (map (routed_clone (attributes_at session.old FILE)) relationships.now)) }
+        (map (routed_clone (bench_attributes session.old FILE)) relationships.now)) }
 {
     for relationship in relationships {
         add_routed_clone(session, *relationship)?;
@@ -109,11 +109,11 @@ fn add_routed_clones(session: &mut Session, relationships: &[u16]) -> Result<(),
 
 /// One more clone of the taken file, which is routed to a relationship and goes there.
 fn add_routed_clone(session: &mut Session, relationship: u16) -> Result<(), AllocError>
-    requires taken { HasTaken session.old }
+    requires taken { HasFirstTaken session.old }
     requires free { refusal_of_clone session.old FILE ≡ None }
     requires there { relationship < session.old.relationships }
     ensures { OnOk result (session.new ≡ with_ended session.old
-        (routed_clone (attributes_at session.old FILE) relationship ∷ [])) }
+        (routed_clone (bench_attributes session.old FILE) relationship ∷ [])) }
 {
     let clone = or_no_memory(session.clone_file(FILE))?;
     session.route(clone, relationship).unwrap();
@@ -123,7 +123,7 @@ fn add_routed_clone(session: &mut Session, relationship: u16) -> Result<(), Allo
 
 /// The taken file itself to a relationship.
 fn route_taken(session: &mut Session, relationship: u16)
-    requires taken { HasTaken session.old }
+    requires taken { HasFirstTaken session.old }
     requires there { relationship < session.old.relationships }
     ensures { session.new ≡ with_end (with_route session.old FILE relationship) FILE (To relationship) }
 {

@@ -2,10 +2,10 @@
 ghost use Rattle.std.specs.Prelude.{◌≡◌, length, map, None, IfOk};
 ghost use Rattle.flowfile_record.specs.Outcome.{IsOutcome};
 ghost use Rattle.machine_model.specs.Kinds.{relationships_of};
-ghost use Rattle.process_session.specs.Bench.{source_of, sizes_of};
+ghost use Rattle.process_session.specs.Bench.{taken_source, sizes_of};
 ghost use Rattle.process_session.specs.Finish.{outcome_of};
 ghost use Rattle.process_session.specs.Refusals.{refusal_of_finish};
-ghost use Rattle.processor_api.specs.Acts.{IsOutcomeOf, KeepsGiven, MayBeHanded};
+ghost use Rattle.processor_api.specs.Acts.{IsOutcomeOf, KeepsGiven, MayBeHandedTo};
 
 use crate::{Acts, Given};
 use flowfile_record::Outcome;
@@ -22,10 +22,10 @@ pub fn work_on<P: Acts>(
     given: &mut Given,
 ) -> Result<(Outcome, SourceList), AllocError>
     requires relationships { relationships ≡ length (relationships_of (P.kind processor.now)) }
-    requires handed { MayBeHanded (P.kind processor.now) taken given.old }
+    requires handed { MayBeHandedTo (P.kind processor.now) taken given.old }
     ensures outcome { IfOk result (λ done. IsOutcomeOf (P.kind processor.now) taken given.old done.0) }
-    ensures sound { IfOk result (λ done. IsOutcome relationships (sizes_of (map source_of taken)) done.0) }
-    ensures sources { IfOk result (λ done. done.1 ≡ map source_of taken) }
+    ensures sound { IfOk result (λ done. IsOutcome relationships (sizes_of (map taken_source taken)) done.0) }
+    ensures sources { IfOk result (λ done. done.1 ≡ map taken_source taken) }
     ensures given { KeepsGiven given.old given.new }
 {
     let mut session = Session::new(alloc, relationships, taken)?;

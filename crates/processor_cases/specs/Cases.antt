@@ -10,5 +10,5 @@ pub record IsReadFile (file : Taken) : Type 0 where
   pub whole : IsWhole file
   pub filled : is_some file.bytes ≡ true
 
-abbrev pub without_bytes : Taken → Taken
-without_bytes file = record file { bytes = None }
+abbrev pub taken_without_bytes : Taken → Taken
+taken_without_bytes file = record file { bytes = None }

@@ -3,7 +3,7 @@ ghost use Rattle.std.specs.Prelude.{◌≤◌, length, map, All, IfOk, IfSome, �
 ghost use Rattle.flowfile_record.specs.declared.TheConstants.{CONTENT_MAX};
 ghost use Rattle.machine_model.specs.Sound.{IsSound};
 ghost use Rattle.processor_api.specs.Acts.{AreRead, fit_a_content};
-ghost use Rattle.processor_cases.specs.Cases.{IsReadFile, without_bytes};
+ghost use Rattle.processor_cases.specs.Cases.{IsReadFile, taken_without_bytes};
 
 use crate::json::{bytes, item, items, member, number, text, truth, word};
 use anyhow::{Result, bail};
@@ -76,7 +76,7 @@ fn fit_a_content(files: &[Taken]) -> bool
 
 /// These files without what was read of their contents.
 fn without_bytes(alloc: Global, files: &[Taken]) -> Result<TakenList, AllocError>
-    ensures { IfOk result (λ unread. unread ≡ map without_bytes files.now) }
+    ensures { IfOk result (λ unread. unread ≡ map taken_without_bytes files.now) }
 {
     let mut unread = TakenList::new(alloc);
     for file in files {

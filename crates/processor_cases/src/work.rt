@@ -2,7 +2,7 @@
 ghost use Rattle.std.specs.Prelude.{◌≤◌, length, IfSome, IsTrue};
 ghost use Rattle.flowfile_record.specs.declared.TheConstants.{CONTENT_MAX};
 ghost use Rattle.machine_model.specs.Laws.{MayTake};
-ghost use Rattle.processor_api.specs.Acts.{IsGivenTo, MayBeHanded};
+ghost use Rattle.processor_api.specs.Acts.{IsGivenTo, MayBeHandedTo};
 
 use crate::case;
 use anyhow::{Result, bail};
@@ -62,7 +62,7 @@ fn is_given(kind: &Kind, given: &Given) -> bool
 }
 
 fn worked(alloc: Global, kind: &Kind, taken: TakenList, given: &mut Given) -> Result<Outcome>
-    requires { MayBeHanded kind.now taken given.old }
+    requires { MayBeHandedTo kind.now taken given.old }
 {
     if let Some(get_file) = GetFile::of(kind) {
         return Ok(work_on(alloc, &get_file, 1, taken, given)?.0);
@@ -99,7 +99,7 @@ fn worked_on_text(
     taken: TakenList,
     given: &mut Given,
 ) -> Result<Outcome>
-    requires { MayBeHanded kind.now taken given.old }
+    requires { MayBeHandedTo kind.now taken given.old }
 {
     if let Some(replace) = ReplaceText::of(kind) {
         return Ok(work_on(alloc, &replace, 2, taken, given)?.0);

@@ -61,8 +61,8 @@ event_at = made (λ e. record {
 
 -- ---- where memory is taken: for a first parent or child, and else only for an event that all of the bytes encode
 
-abbrev pub takes_memory : List ℕ → Bool
-takes_memory bytes =
+abbrev pub event_takes_memory : List ℕ → Bool
+event_takes_memory bytes =
     is_ok ((front_at then first_at number_at) bytes)
     || is_ok ((front_at then numbers_at then first_at number_at) bytes)
     || is_ok (whole event_at bytes)

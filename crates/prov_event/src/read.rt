@@ -4,7 +4,7 @@ ghost use Rattle.flowfile_record.specs.Reading.{Reads, Gives, Answers, answer, w
 ghost use Rattle.flowfile_record.specs.declared.event.Event.{Event as TheEvent};
 ghost use Rattle.prov_event.specs.Encoding.{IsEvent};
 ghost use Rattle.prov_event.specs.Encoding as encoding;
-ghost use Rattle.prov_event.specs.EventReading.{kind_at, counted_number_at, front_at, back_at, event_at, takes_memory};
+ghost use Rattle.prov_event.specs.EventReading.{kind_at, counted_number_at, front_at, back_at, event_at, event_takes_memory};
 
 use flowfile_record::fields::{
     FieldError, Unread, read_digest, read_long, read_number, read_numbers, read_text, read_u8,
@@ -23,14 +23,14 @@ pub fn read_event(alloc: Global, bytes: &[u8]) -> Result<Event, CodecError>
     ensures exact { Answers result (answer (length bytes.now) (whole event_at bytes.now)) }
     // Memory is taken only for a first parent or child that can be read, and for the texts of an event that the bytes
     // encode.
-    ensures memory { IsErrOf result CodecError.Memory → IsTrue (takes_memory bytes.now) }
+    ensures memory { IsErrOf result CodecError.Memory → IsTrue (event_takes_memory bytes.now) }
 {
     read_answer(alloc, bytes)
 }
 
 fn read_answer(alloc: Global, bytes: &[u8]) -> Result<Event, CodecError>
     ensures exact { Answers result (answer (length bytes.now) (whole event_at bytes.now)) }
-    ensures memory { IsErrOf result CodecError.Memory → IsTrue (takes_memory bytes.now) }
+    ensures memory { IsErrOf result CodecError.Memory → IsTrue (event_takes_memory bytes.now) }
 {
     match read_all(alloc, bytes) {
         Ok(event) => Ok(event),
@@ -42,7 +42,7 @@ fn read_answer(alloc: Global, bytes: &[u8]) -> Result<Event, CodecError>
 #[tactic(auto, unfolding(crate::specs::EventReading::event_at))]
 fn read_all(alloc: Global, bytes: &[u8]) -> Result<Event, FieldError>
     ensures read { Gives (λ value. value) result (whole event_at bytes.now) }
-    ensures memory { IsErrOf result FieldError.Memory → IsTrue (takes_memory bytes.now) }
+    ensures memory { IsErrOf result FieldError.Memory → IsTrue (event_takes_memory bytes.now) }
 {
     let (front, rest) = read_front(bytes)?;
     let (parents, rest) = read_numbers(alloc, rest)?;

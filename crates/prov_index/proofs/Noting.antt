@@ -6,7 +6,7 @@ use Rattle.std.proofs.lemmas.Bool.{eq-eqb, ne_eqb}
 use Rattle.std.proofs.lemmas.List.{append-nil, map-append, length_push}
 use Rattle.std.proofs.lemmas.List.Elements.{All-head, All-tail, All-map, All-filter, filter-append}
 use Rattle.flowfile_record.specs.declared.event.Event.{Event}
-use Rattle.prov_index.specs.Index.{number_of, names, numbers_naming}
+use Rattle.prov_index.specs.Index.{event_number, names_file, numbers_naming}
 use Rattle.prov_index.specs.Lists.{is_number, last_is, noted, noted_if}
 
 get-push : (numbers : List ℕ) (number : ℕ) → slice_get (numbers ++ number ∷ []) (length numbers) ≡ Some number
@@ -46,21 +46,21 @@ pub noted-new : (named : Bool) (number : ℕ) (numbers : List ℕ) → All (λ n
 noted-new false number numbers below = sym (append-nil numbers)
 noted-new true number numbers below = ap (λ b. cond b numbers (numbers ++ number ∷ [])) (none-below number (length numbers - 1) numbers below)
 
-one-mapped : (named : Bool) (event : Event) → map number_of (cond named (event ∷ []) []) ≡ cond named (event.number ∷ []) []
+one-mapped : (named : Bool) (event : Event) → map event_number (cond named (event ∷ []) []) ≡ cond named (event.number ∷ []) []
 one-mapped true event = refl
 one-mapped false event = refl
 
-naming-push : (file : ℕ) (events : List Event) (event : Event) → numbers_naming (events ++ event ∷ []) file ≡ numbers_naming events file ++ cond (names file event) (event.number ∷ []) []
+naming-push : (file : ℕ) (events : List Event) (event : Event) → numbers_naming (events ++ event ∷ []) file ≡ numbers_naming events file ++ cond (names_file file event) (event.number ∷ []) []
 naming-push file events event =
-    ap (map number_of) (filter-append (names file) events (event ∷ [])) ∙ map-append number_of (filter (names file) events) (filter (names file) (event ∷ []))
-    ∙ ap (λ l. numbers_naming events file ++ l) (one-mapped (names file event) event)
+    ap (map event_number) (filter-append (names_file file) events (event ∷ [])) ∙ map-append event_number (filter (names_file file) events) (filter (names_file file) (event ∷ []))
+    ∙ ap (λ l. numbers_naming events file ++ l) (one-mapped (names_file file event) event)
 
 -- the list of a file when an event joins
 pub joined : (file : ℕ) (events : List Event) (event : Event) → All (λ earlier. earlier.number < event.number) events
-    → noted_if (names file event) event.number (numbers_naming events file) ≡ numbers_naming (events ++ event ∷ []) file
+    → noted_if (names_file file event) event.number (numbers_naming events file) ≡ numbers_naming (events ++ event ∷ []) file
 joined file events event below =
-    let lower = All-map (λ n. n < event.number) number_of (filter (names file) events) (All-filter (names file) (λ (e : Event). e.number < event.number) events below) in
-    noted-new (names file event) event.number (numbers_naming events file) lower ∙ sym (naming-push file events event)
+    let lower = All-map (λ n. n < event.number) event_number (filter (names_file file) events) (All-filter (names_file file) (λ (e : Event). e.number < event.number) events below) in
+    noted-new (names_file file event) event.number (numbers_naming events file) lower ∙ sym (naming-push file events event)
 
 -- a number noted at three places, one after the other
 pub noted-thrice : (first second third : Bool) (number : ℕ) (a b c d : List ℕ) → b ≡ noted_if first number a → c ≡ noted_if second number b → d ≡ noted_if third number c → d ≡ noted_if (first || second || third) number a

@@ -4,19 +4,19 @@ use Rattle.std.specs.List.{list_any}
 use Rattle.flowfile_record.specs.NumberedItems.{item_of}
 use Rattle.flowfile_record.specs.declared.event.Event.{Event}
 
-abbrev pub number_of : Event → ℕ
-number_of event = event.number
+abbrev pub event_number : Event → ℕ
+event_number event = event.number
 
 -- whether an event names a file: as that which it is of, as a parent or as a child
-abbrev pub names : ℕ → Event → Bool
-names file event =
+abbrev pub names_file : ℕ → Event → Bool
+names_file file event =
     event.file == file || list_any (λ parent. parent == file) event.parents
     || list_any (λ child. child == file) event.children
 
 -- the numbers of the events that name a file, in the order of the events
 abbrev pub numbers_naming : List Event → ℕ → List ℕ
-numbers_naming events file = map number_of (filter (names file) events)
+numbers_naming events file = map event_number (filter (names_file file) events)
 
 -- the event of a number
 abbrev pub event_of : List Event → ℕ → Option Event
-event_of events number = item_of number_of number events
+event_of events number = item_of event_number number events

@@ -9,13 +9,13 @@ use Rattle.prov_index.specs.Index.{numbers_naming}
 abbrev pub Numbers : Type 0
 Numbers = Vec ℕ Global
 
-abbrev pub items_of : Option Numbers → List ℕ
-items_of None = []
-items_of (Some list) = list.items
+abbrev pub noted_numbers : Option Numbers → List ℕ
+noted_numbers None = []
+noted_numbers (Some list) = list.items
 
 -- the list of a file, which is empty where the map has none
 abbrev pub list_of : BTreeMap ℕ Numbers → ℕ → List ℕ
-list_of lists file = items_of (get nat_cmp lists file)
+list_of lists file = noted_numbers (get nat_cmp lists file)
 
 -- each file has the numbers of the events that name it
 abbrev pub AreListsOf : BTreeMap ℕ Numbers → List Event → Type 0
@@ -36,12 +36,12 @@ abbrev pub noted_if : Bool → ℕ → List ℕ → List ℕ
 noted_if named number numbers = if named then noted number numbers else numbers
 
 -- a number can be noted here without memory
-abbrev pub IsReady : ℕ → Numbers → Type 0
-IsReady number list = last_is number list.items ≡ false → vec_len list < vec_capacity list
+abbrev pub HasRoomToNote : ℕ → Numbers → Type 0
+HasRoomToNote number list = last_is number list.items ≡ false → vec_len list < vec_capacity list
 
 abbrev HasReady : ℕ → Option Numbers → Type 0
 HasReady number None = ⊥
-HasReady number (Some list) = IsReady number list
+HasReady number (Some list) = HasRoomToNote number list
 
 -- .. in the list of a file
 abbrev pub IsReadyAt : BTreeMap ℕ Numbers → (number file : ℕ) → Type 0

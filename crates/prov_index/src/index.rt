@@ -2,7 +2,7 @@
 ghost use Rattle.std.specs.Prelude.{◌≡◌, ◌<◌, ◌++◌, ◌∷◌, ◌+◌, [], All, OnOk, OnErr};
 ghost use Rattle.std.specs.Option.{option_copied};
 ghost use Rattle.flowfile_record.specs.NumberedItems.{AscendsByNumber};
-ghost use Rattle.prov_index.specs.Index.{number_of, numbers_naming, event_of};
+ghost use Rattle.prov_index.specs.Index.{event_number, numbers_naming, event_of};
 
 use crate::Steps;
 use crate::lists::{Lists, note_event, reserve_event};
@@ -27,13 +27,13 @@ impl Model for Index {
 
     ghost Value = { List Event };
 
-    ghost use Rattle.prov_index.specs.Index.{number_of};
+    ghost use Rattle.prov_index.specs.Index.{event_number};
     ghost use Rattle.prov_index.specs.Lists.{AreListsOf};
     ghost use Rattle.flowfile_record.specs.NumberedItems.{AscendsByNumber};
 
     ghost view = { λ index. index.events.items };
 
-    ghost invariant = { λ index. AscendsByNumber number_of index.events.items
+    ghost invariant = { λ index. AscendsByNumber event_number index.events.items
         × AreListsOf index.lists index.events.items };
 }
 
@@ -65,7 +65,7 @@ impl Index {
     /// The numbers of the events that name a file, in their order.
     pub fn of(&self, number: u64) -> &[u64]
         ensures numbers { result.now ≡ numbers_naming self.now number }
-        ensures ascends { AscendsByNumber number_of self.now }
+        ensures ascends { AscendsByNumber event_number self.now }
     {
         match self.lists.get(&number) {
             Some(list) => list.as_slice(),
@@ -84,7 +84,7 @@ impl Index {
 }
 
 fn find(events: &[Event], number: u64) -> Option<&Event>
-    requires { AscendsByNumber number_of events.now }
+    requires { AscendsByNumber event_number events.now }
     ensures { option_copied result ≡ event_of events.now number }
 {
     match events.binary_search_by_key(&number, |event| event.number) {

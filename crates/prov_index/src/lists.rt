@@ -1,8 +1,8 @@
 //! The numbers of the events that name a file, for each file.
 ghost use Rattle.std.specs.Prelude.{◌≡◌, ℕ, ◌==◌, true, OnOk};
 ghost use Rattle.std.specs.List.{list_any};
-ghost use Rattle.prov_index.specs.Index.{names};
-ghost use Rattle.prov_index.specs.Lists.{list_of, last_is, noted, noted_if, IsReady, IsReadyAt};
+ghost use Rattle.prov_index.specs.Index.{names_file};
+ghost use Rattle.prov_index.specs.Lists.{list_of, last_is, noted, noted_if, HasRoomToNote, IsReadyAt};
 
 use flowfile_record::Event;
 use std::alloc::{AllocError, Global};
@@ -18,7 +18,8 @@ pub(crate) fn reserve_event(
     event: &Event,
 ) -> Result<(), AllocError>
     ensures same { (file : ℕ) → list_of lists.new file ≡ list_of lists.old file }
-    ensures ready { OnOk result ((file : ℕ) → names file event.now ≡ true → IsReadyAt lists.new event.now.number file) }
+    ensures ready { OnOk result
+        ((file : ℕ) → names_file file event.now ≡ true → IsReadyAt lists.new event.now.number file) }
 {
     let number = event.number;
     reserve(alloc, lists, event.file, number)?;
@@ -28,9 +29,9 @@ pub(crate) fn reserve_event(
 
 /// Adds an event's number to the list of each file that the event names, once each.
 pub(crate) fn note_event(lists: &mut Lists, event: &Event)
-    requires { (file : ℕ) → names file event.now ≡ true → IsReadyAt lists.old event.now.number file }
+    requires { (file : ℕ) → names_file file event.now ≡ true → IsReadyAt lists.old event.now.number file }
     ensures { (file : ℕ) → list_of lists.new file
-        ≡ noted_if (names file event.now) event.now.number (list_of lists.old file) }
+        ≡ noted_if (names_file file event.now) event.now.number (list_of lists.old file) }
 {
     let number = event.number;
     note(lists, event.file, number);
@@ -93,9 +94,9 @@ fn note(lists: &mut Lists, file: u64, number: u64)
 
 // Adds a number behind the others, unless it is the last of them.
 fn put_number(list: &mut Vec<u64>, number: u64)
-    requires { IsReady number list.old }
+    requires { HasRoomToNote number list.old }
     ensures items { list.new.items ≡ noted number list.old.items }
-    ensures ready { IsReady number list.new }
+    ensures ready { HasRoomToNote number list.new }
 {
     if !is_last(list, number) {
         list.push_reserved(number);

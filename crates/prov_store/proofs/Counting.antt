@@ -10,7 +10,7 @@ use Rattle.flowfile_record.specs.Events.{code_of}
 use Rattle.flowfile_record.specs.declared.event.Event.{Event}
 use Rattle.flowfile_record.specs.declared.event.EventKind.{EventKind}
 use Rattle.flowfile_record.specs.declared.event.EventKind.TheVariants.{Create, Receive, Fork, Join, Clone, ContentModified, AttributesModified, Route, Send, Drop, Expire, Replay}
-use Rattle.prov_store.specs.State.{of_code, counts_of, AreCounted}
+use Rattle.prov_store.specs.State.{count_of_code, counts_of, AreCounted}
 
 pub code_within : (kind : EventKind) → (1 ≤ code_of kind) × (code_of kind ≤ 12)
 code_within Create = (omega arith, omega arith)
@@ -26,10 +26,10 @@ code_within Drop = (omega arith, omega arith)
 code_within Expire = (omega arith, omega arith)
 code_within Replay = (omega arith, omega arith)
 
-of_both : (code : ℕ) (xs ys : List Event) → of_code code (xs ++ ys) ≡ of_code code xs + of_code code ys
+of_both : (code : ℕ) (xs ys : List Event) → count_of_code code (xs ++ ys) ≡ count_of_code code xs + count_of_code code ys
 of_both code xs ys = ap length (filter-append (λ (e : Event). code_of e.kind == code) xs ys) ∙ length-append (filter (λ (e : Event). code_of e.kind == code) xs) (filter (λ (e : Event). code_of e.kind == code) ys)
 
-of_one : (code : ℕ) (e : Event) → of_code code (e ∷ []) ≡ cond (code_of e.kind == code) 1 0
+of_one : (code : ℕ) (e : Event) → count_of_code code (e ∷ []) ≡ cond (code_of e.kind == code) 1 0
 of_one code e = of_test (code_of e.kind == code)
   where
     of_test : (b : Bool) → length (cond b (e ∷ []) []) ≡ cond b 1 0
@@ -46,8 +46,8 @@ counted_more i events e old mid new lt is long set before code first last =
     let within = code_within e.kind in
     let k = code_of e.kind - 1 in
     let more : take (i + 1) events ≡ take i events ++ e ∷ [] = take_more events i e lt ∙ ap (λ (x : Event). take i events ++ x ∷ []) (sym is) in
-    let count : of_code code (take (i + 1) events) ≡ of_code code (take i events) + cond (code_of e.kind == code) 1 0 =
-    ap (of_code code) more ∙ of_both code (take i events) (e ∷ []) ∙ ap (λ (n : ℕ). of_code code (take i events) + n) (of_one code e) in
+    let count : count_of_code code (take (i + 1) events) ≡ count_of_code code (take i events) + cond (code_of e.kind == code) 1 0 =
+    ap (count_of_code code) more ∙ of_both code (take i events) (e ∷ []) ∙ ap (λ (n : ℕ). count_of_code code (take i events) + n) (of_one code e) in
     elim (cases_eq (code - 1) k) [
       | inl same ↦
           let test : (code_of e.kind == code) ≡ true = grind (arith, nat_tests, same, first, within.0) in
@@ -90,28 +90,28 @@ counted_one events e old mid new long set before =
     get_or-append-right (y ∷ xs) x d = get_or-append-right xs x d
 
 -- the counts of no events, and of some more
-pub count_at : (code : ℕ) (events : List Event) → 1 ≤ code → code ≤ 12 → slice_index (counts_of events) (code - 1) ≡ of_code code events
+pub count_at : (code : ℕ) (events : List Event) → 1 ≤ code → code ≤ 12 → slice_index (counts_of events) (code - 1) ≡ count_of_code code events
 unfolding counts_of
-count_at code events first last = get_or-map-range_with_len (λ (c : ℕ). of_code c events) 1 12 (code - 1) code 0 (omega (arith, first, last)) (omega (arith, first))
+count_at code events first last = get_or-map-range_with_len (λ (c : ℕ). count_of_code c events) 1 12 (code - 1) code 0 (omega (arith, first, last)) (omega (arith, first))
 
 pub counts_are : (before events : List Event) (old new : List ℕ) → length new ≡ 12 → old ≡ counts_of before → AreCounted events old new → new ≡ counts_of (before ++ events)
 unfolding counts_of
 counts_are before events old new long is counted =
-    fill_by_all (λ k. of_code (k + 1) (before ++ events)) new 12 0 long
+    fill_by_all (λ k. count_of_code (k + 1) (before ++ events)) new 12 0 long
     (λ k lt.
     let code = k + 1 in
     let place : code - 1 ≡ k = omega arith in
     let sum = counted code (omega arith) (omega (arith, lt)) in
     omega (arith, ap (slice_index new) place, sum, ap (λ (l : List ℕ). slice_index l (code - 1)) is, count_at code before (omega arith) (omega (arith, lt)), of_both code before events))
 
-of_most : (code : ℕ) (events : List Event) → of_code code events ≤ length events
+of_most : (code : ℕ) (events : List Event) → count_of_code code events ≤ length events
 of_most code [] = omega arith
 of_most code (e ∷ events) =
     let both = of_both code (e ∷ []) events in
-    let one : of_code code (e ∷ []) ≤ 1 = at_most (code_of e.kind == code) (of_one code e) in
+    let one : count_of_code code (e ∷ []) ≤ 1 = at_most (code_of e.kind == code) (of_one code e) in
     omega (arith, both, one, of_most code events)
   where
-    at_most : (b : Bool) → of_code code (e ∷ []) ≡ cond b 1 0 → of_code code (e ∷ []) ≤ 1
+    at_most : (b : Bool) → count_of_code code (e ∷ []) ≡ cond b 1 0 → count_of_code code (e ∷ []) ≤ 1
     at_most true is = omega (arith, is)
     at_most false is = omega (arith, is)
 

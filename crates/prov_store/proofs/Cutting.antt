@@ -8,8 +8,8 @@ use Rattle.disk_trait.specs.Images.{After, Since, next_moment}
 use Rattle.disk_trait.specs.declared.file_name.FileKind.TheVariants.{Events}
 use Rattle.disk_trait.specs.declared.file_name.FileName.{FileName}
 use Rattle.disk_trait.proofs.Moments.{wider, wider_where_left, step_after_step}
-use Rattle.prov_store.specs.Events.{events_file, covered, covered_size}
-use Rattle.prov_store.specs.State.{EventsState, HasEvents, HasStale, IsReady, CutsStale, calls_later}
+use Rattle.prov_store.specs.Events.{events_file, covered_bytes, covered_size}
+use Rattle.prov_store.specs.State.{EventsState, HasEvents, HasStale, EventsAreReady, CutsStale, calls_later}
 use Rattle.prov_store.specs.declared.events.Stale.{Stale}
 use Rattle.prov_store.proofs.InFiles.{size_fits}
 use Rattle.prov_store.proofs.Keeping.{stale_files, is_stale_or_not, stale_at, is_listed, still_has, cuts_keep}
@@ -173,22 +173,22 @@ long_enough state i s old mid has stale within is so_far =
 
 -- where each is cut, nothing stands behind the events
 pub all_cut : (state after : EventsState) (old new : Files) → HasEvents state old → HasStale state old → CutSoFar (length state.stale) state.stale old new
-    → after ≡ record state { stale = [] } → IsReady after new
+    → after ≡ record state { stale = [] } → EventsAreReady after new
 all_cut state after old new has stale cut is =
     let keeps = cuts_keep state old new has stale.sizes (cut_shortens (length state.stale) state.stale old new cut) in
     let kept = still_has state old new keeps.events has in
-    subst (λ (s : EventsState). IsReady s new) (sym is) (record {
+    subst (λ (s : EventsState). EventsAreReady s new) (sym is) (record {
       has = record { events = kept.events; says = kept.says; offset = kept.offset; counts = kept.counts };
       trimmed = λ k. trimmed k ∙ sym (keeps.events k);
     })
   where
-    trimmed : (k : ℕ) → new (events_file k) ≡ covered state.end k old
+    trimmed : (k : ℕ) → new (events_file k) ≡ covered_bytes state.end k old
     trimmed k = elim (is_stale_or_not state.stale k) [
       | inl listed ↦
           let d : Stale = record { file = k; size = 0 } in
           let at = stale_at state.stale k d listed in
           let s = get_or state.stale at.0 d in
-          subst (λ (i : ℕ). new (events_file i) ≡ covered state.end i old) at.2
+          subst (λ (i : ℕ). new (events_file i) ≡ covered_bytes state.end i old) at.2
           (cut.cut at.0 d at.1 at.1 ∙ ap (λ (n : ℕ). take n (old (events_file s.file))) (stale.sizes at.0 d at.1))
       | inr other ↦ cut.rest k other ∙ stale.others k other
     ]

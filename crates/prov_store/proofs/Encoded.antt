@@ -16,7 +16,7 @@ use Rattle.prov_event.specs.Encoding.{event, IsEvent}
 use Rattle.prov_event.specs.EventReading.{event_at}
 use Rattle.prov_event.specs.declared.TheConstants.{EVENT_KIND}
 use Rattle.prov_event.proofs.EventLaws.{event_is}
-use Rattle.prov_store.specs.Events.{◌>>=◌, events_file, first_in, count_in, events_from, events_of_files, events_in, blocks_size}
+use Rattle.prov_store.specs.Events.{◌>>=◌, events_file, first_event, count_in, events_from, events_of_files, events_in, blocks_size}
 use Rattle.prov_store.specs.State.{HasBlock, event_block, AreNumberedFrom}
 use Rattle.flowfile_record.specs.declared.limits.TheConstants.{EVENTS_PER_FILE}
 use Rattle.prov_store.proofs.InFile.{IsRead, first_of, with_first, size_of_first}
@@ -62,7 +62,7 @@ files_encoded (suc count) last k files events small is =
     let f = first_file count last k files events is in
     subst (All IsEvent) (sym f.both)
     (All-append IsEvent f.here f.later
-    (events_encoded (count_in last k) (events_file k) 0 (first_in k) (files (events_file k)) f.here (small k) f.first)
+    (events_encoded (count_in last k) (events_file k) 0 (first_event k) (files (events_file k)) f.here (small k) f.first)
     (files_encoded count last (k + 1) files f.later small f.behind))
 
 pub last_encoded : (last : ℕ) (files : Files) (events : List Event) → ((k : ℕ) → IsBytes (files (events_file k))) → events_in files last ≡ Ok events → All IsEvent events

@@ -11,7 +11,7 @@ use Rattle.disk_trait.specs.declared.damage.Damage.{Damage}
 use Rattle.disk_trait.specs.declared.file_name.FileName.{FileName}
 use Rattle.flowfile_record.specs.declared.event.Event.{Event}
 use Rattle.prov_store.specs.Blocks.{blocks_of, next_offset}
-use Rattle.prov_store.specs.Events.{◌>>=◌, events_file, count_in, first_in, events_from, events_of_file, events_of_files, events_in, blocks_size, covered_size, covered}
+use Rattle.prov_store.specs.Events.{◌>>=◌, events_file, count_in, first_event, events_from, events_of_file, events_of_files, events_in, blocks_size, covered_size, covered_bytes}
 use Rattle.prov_store.specs.Growing.{Stands}
 use Rattle.prov_store.specs.State.{EventsState, HasBlock, AreNumberedFrom, IsTrimmed, GrowsBehind}
 use Rattle.flowfile_record.specs.declared.limits.TheConstants.{EVENTS_PER_FILE}
@@ -74,8 +74,8 @@ module _ (last offset : ℕ) (old new : Files) (before added : List Event) (stan
 
   earlier_alike : (j : ℕ) (here : List Event) → j < last / EVENTS_PER_FILE → events_of_file last j old ≡ Ok here → events_of_file (last + length added) j new ≡ Ok here
   earlier_alike j here lt is =
-      ap (λ (n : ℕ). events_from n (events_file j) 0 (first_in j) (new (events_file j))) (counts_alike j lt)
-      ∙ ap (events_from (count_in last j) (events_file j) 0 (first_in j)) (others_alike j (λ same. absurd (omega (arith, lt, same)))) ∙ is
+      ap (λ (n : ℕ). events_from n (events_file j) 0 (first_event j) (new (events_file j))) (counts_alike j lt)
+      ∙ ap (events_from (count_in last j) (events_file j) 0 (first_event j)) (others_alike j (λ same. absurd (omega (arith, lt, same)))) ∙ is
 
   here_counts : count_in (last + length added) (last / EVENTS_PER_FILE) ≡ count_in last (last / EVENTS_PER_FILE) + length added
   here_counts = omega (arith, fits)
@@ -88,18 +88,18 @@ module _ (last offset : ℕ) (old new : Files) (before added : List Event) (stan
   old_size = omega (arith, ends_there last offset old before stands, stands.next)
 
   grown_here : (here : List Event) → events_of_file last (last / EVENTS_PER_FILE) old ≡ Ok here
-      → Grown (count_in last (last / EVENTS_PER_FILE)) (length added) (events_file (last / EVENTS_PER_FILE)) (first_in (last / EVENTS_PER_FILE)) (old (events_file (last / EVENTS_PER_FILE))) (blocks_of added) here added
+      → Grown (count_in last (last / EVENTS_PER_FILE)) (length added) (events_file (last / EVENTS_PER_FILE)) (first_event (last / EVENTS_PER_FILE)) (old (events_file (last / EVENTS_PER_FILE))) (blocks_of added) here added
   grown_here here is =
       let k = last / EVENTS_PER_FILE in
-      let next : last + 1 ≡ first_in k + count_in last k = omega arith in
-      grown_file (count_in last k) (events_file k) (first_in k) (old (events_file k)) here added is old_size have
+      let next : last + 1 ≡ first_event k + count_in last k = omega arith in
+      grown_file (count_in last k) (events_file k) (first_event k) (old (events_file k)) here added is old_size have
       (subst (λ (n : ℕ). AreNumberedFrom n added) next numbered)
 
   here_says : (here : List Event) → events_of_file last (last / EVENTS_PER_FILE) old ≡ Ok here → events_of_file (last + length added) (last / EVENTS_PER_FILE) new ≡ Ok (here ++ added)
   here_says here is =
       let k = last / EVENTS_PER_FILE in
-      ap (λ (n : ℕ). events_from n (events_file k) 0 (first_in k) (new (events_file k))) here_counts
-      ∙ ap (events_from (count_in last k + length added) (events_file k) 0 (first_in k)) here_bytes ∙ (grown_here here is).says
+      ap (λ (n : ℕ). events_from n (events_file k) 0 (first_event k) (new (events_file k))) here_counts
+      ∙ ap (events_from (count_in last k + length added) (events_file k) 0 (first_event k)) here_bytes ∙ (grown_here here is).says
 
   here_size : covered_size (last + length added) (last / EVENTS_PER_FILE) new ≡ offset + length (blocks_of added)
   unfolding covered_size
@@ -136,7 +136,7 @@ module _ (last offset : ℕ) (old new : Files) (before added : List Event) (stan
         let stays = others_alike j (λ same. absurd (omega (arith, earlier, same))) in
         stays ∙ stands.trimmed j ∙ sym (covered_alike last (last + length added) j old new (counts_alike j earlier) stays)
     | inr from ↦ elim (cases_eq j (last / EVENTS_PER_FILE)) [
-      | inl here ↦ subst (λ (i : ℕ). new (events_file i) ≡ covered (last + length added) i new) (sym here) here_trimmed
+      | inl here ↦ subst (λ (i : ℕ). new (events_file i) ≡ covered_bytes (last + length added) i new) (sym here) here_trimmed
       | inr other ↦
           let past : last ≤ EVENTS_PER_FILE * j = omega (arith, from, other) in
           let past_now : last + length added ≤ EVENTS_PER_FILE * j = omega (arith, from, other, fits) in
@@ -144,7 +144,7 @@ module _ (last offset : ℕ) (old new : Files) (before added : List Event) (stan
     ]
   ]
     where
-      here_trimmed : new (events_file (last / EVENTS_PER_FILE)) ≡ covered (last + length added) (last / EVENTS_PER_FILE) new
+      here_trimmed : new (events_file (last / EVENTS_PER_FILE)) ≡ covered_bytes (last + length added) (last / EVENTS_PER_FILE) new
       here_trimmed =
           let bytes = new (events_file (last / EVENTS_PER_FILE)) in
           let long : length bytes ≡ offset + length (blocks_of added) =

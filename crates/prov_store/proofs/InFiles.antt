@@ -8,7 +8,7 @@ use Rattle.std.proofs.lemmas.List.{length-append, length-take, map-append, appen
 use Rattle.disk_trait.specs.Files.{Files}
 use Rattle.disk_trait.specs.declared.damage.Damage.{Damage}
 use Rattle.flowfile_record.specs.declared.event.Event.{Event}
-use Rattle.prov_store.specs.Events.{◌>>=◌, events_file, count_in, first_in, events_from, events_of_file, events_of_files, events_in, blocks_size, covered_size, covered}
+use Rattle.prov_store.specs.Events.{◌>>=◌, events_file, count_in, first_event, events_from, events_of_file, events_of_files, events_in, blocks_size, covered_size, covered_bytes}
 use Rattle.flowfile_record.specs.declared.limits.TheConstants.{EVENTS_PER_FILE}
 use Rattle.prov_store.proofs.InFile.{bind_ok, blocks_fit, events_same, fewer_events, events_numbered}
 
@@ -23,17 +23,17 @@ take_of_longer m n new old fits same =
 pub record SameFile (last k : ℕ) (old new : Files) (events : List Event) : Type 0 where
   pub says : events_of_file last k new ≡ Ok events
   pub size : covered_size last k new ≡ covered_size last k old
-  pub bytes : covered last k new ≡ covered last k old
+  pub bytes : covered_bytes last k new ≡ covered_bytes last k old
 
 pub covered_fits : (last k : ℕ) (files : Files) (events : List Event) → events_of_file last k files ≡ Ok events → covered_size last k files ≤ length (files (events_file k))
 unfolding covered_size
-covered_fits last k files events is = blocks_fit (count_in last k) (events_file k) 0 (first_in k) (files (events_file k)) events is
+covered_fits last k files events is = blocks_fit (count_in last k) (events_file k) 0 (first_event k) (files (events_file k)) events is
 
 pub file_front : (last k : ℕ) (old new : Files) (events : List Event) → events_of_file last k old ≡ Ok events
-    → take (covered_size last k old) (new (events_file k)) ≡ covered last k old → SameFile last k old new events
+    → take (covered_size last k old) (new (events_file k)) ≡ covered_bytes last k old → SameFile last k old new events
 unfolding covered_size
 file_front last k old new events is front =
-    let same = events_same (count_in last k) (events_file k) 0 (first_in k) (old (events_file k)) (new (events_file k)) events is front in
+    let same = events_same (count_in last k) (events_file k) 0 (first_event k) (old (events_file k)) (new (events_file k)) events is front in
     record {
       says = same.0;
       size = same.1;
@@ -41,16 +41,16 @@ file_front last k old new events is front =
     }
 
 pub file_same : (last k : ℕ) (old new : Files) (events : List Event) → events_of_file last k old ≡ Ok events
-    → covered last k new ≡ covered last k old → SameFile last k old new events
+    → covered_bytes last k new ≡ covered_bytes last k old → SameFile last k old new events
 file_same last k old new events is same =
     file_front last k old new events is
     (take_of_longer (covered_size last k new) (covered_size last k old) (new (events_file k)) (old (events_file k)) (covered_fits last k old events is) same)
 
-pub covered_as : (last k : ℕ) (old new : Files) → new (events_file k) ≡ old (events_file k) → covered last k new ≡ covered last k old
+pub covered_as : (last k : ℕ) (old new : Files) → new (events_file k) ≡ old (events_file k) → covered_bytes last k new ≡ covered_bytes last k old
 unfolding covered_size
 covered_as last k old new same = ap (λ (bytes : List ℕ). take (blocks_size (count_in last k) bytes) bytes) same
 
-pub covered_alike : (last other k : ℕ) (old new : Files) → count_in other k ≡ count_in last k → new (events_file k) ≡ old (events_file k) → covered other k new ≡ covered last k old
+pub covered_alike : (last other k : ℕ) (old new : Files) → count_in other k ≡ count_in last k → new (events_file k) ≡ old (events_file k) → covered_bytes other k new ≡ covered_bytes last k old
 unfolding covered_size
 covered_alike last other k old new count same =
     ap (λ (n : ℕ). take (blocks_size n (new (events_file k))) (new (events_file k))) count ∙ ap (λ (bytes : List ℕ). take (blocks_size (count_in last k) bytes) bytes) same
@@ -67,11 +67,11 @@ pub no_size : (last k : ℕ) (files : Files) → last ≤ EVENTS_PER_FILE * k �
 unfolding covered_size
 no_size last k files le = ap (λ (n : ℕ). blocks_size n (files (events_file k))) (none_in last k le)
 
-pub no_bytes : (last k : ℕ) (files : Files) → last ≤ EVENTS_PER_FILE * k → covered last k files ≡ []
+pub no_bytes : (last k : ℕ) (files : Files) → last ≤ EVENTS_PER_FILE * k → covered_bytes last k files ≡ []
 no_bytes last k files le = ap (λ (n : ℕ). take n (files (events_file k))) (no_size last k files le)
 
 pub no_events : (last k : ℕ) (files : Files) → last ≤ EVENTS_PER_FILE * k → events_of_file last k files ≡ Ok []
-no_events last k files le = ap (λ (n : ℕ). events_from n (events_file k) 0 (first_in k) (files (events_file k))) (none_in last k le)
+no_events last k files le = ap (λ (n : ℕ). events_from n (events_file k) 0 (first_event k) (files (events_file k))) (none_in last k le)
 
 -- ---- files behind one another
 
@@ -169,11 +169,11 @@ pub fewer_of_file : (last earlier k : ℕ) (files : Files) (events : List Event)
     → events_of_file earlier k files ≡ Ok (take (count_in earlier k) events)
 fewer_of_file last earlier k files events is le =
     let both : count_in last k ≡ count_in earlier k + (count_in last k - count_in earlier k) = omega (arith, le) in
-    fewer_events (count_in earlier k) (count_in last k - count_in earlier k) (events_file k) 0 (first_in k) (files (events_file k)) events
-    (ap (λ (n : ℕ). events_from n (events_file k) 0 (first_in k) (files (events_file k))) (sym both) ∙ is)
+    fewer_events (count_in earlier k) (count_in last k - count_in earlier k) (events_file k) 0 (first_event k) (files (events_file k)) events
+    (ap (λ (n : ℕ). events_from n (events_file k) 0 (first_event k) (files (events_file k))) (sym both) ∙ is)
 
 pub length_of_file : (last k : ℕ) (files : Files) (events : List Event) → events_of_file last k files ≡ Ok events → length events ≡ count_in last k
-length_of_file last k files events is = (events_numbered (count_in last k) (events_file k) 0 (first_in k) (files (events_file k)) events is).1
+length_of_file last k files events is = (events_numbered (count_in last k) (events_file k) 0 (first_event k) (files (events_file k)) events is).1
 
 pub fewer_of_files : (count last earlier k : ℕ) (files : Files) (events : List Event) → events_of_files count last k files ≡ Ok events → earlier ≤ last
     → events_of_files count earlier k files ≡ Ok (take (earlier - EVENTS_PER_FILE * k) events)
@@ -209,25 +209,25 @@ range_both a (suc m) n =
     ap (range_with_len a) longer ∙ ap (λ (l : List ℕ). a ∷ l) (range_both (a + 1) m n) ∙ rw place refl
 
 pub files_numbered : (count last k : ℕ) (files : Files) (events : List Event) → events_of_files count last k files ≡ Ok events
-    → (map (λ e. e.number) events ≡ range_with_len (first_in k) (length events)) × (length events ≡ min (EVENTS_PER_FILE * count) (last - EVENTS_PER_FILE * k))
+    → (map (λ e. e.number) events ≡ range_with_len (first_event k) (length events)) × (length events ≡ min (EVENTS_PER_FILE * count) (last - EVENTS_PER_FILE * k))
 files_numbered zero last k files events is =
     let none : events ≡ [] = cc is in
     (rw none refl, omega (arith, ap length none))
 files_numbered (suc count) last k files events is =
     let f = first_file count last k files events is in
-    let here = events_numbered (count_in last k) (events_file k) 0 (first_in k) (files (events_file k)) f.here f.first in
+    let here = events_numbered (count_in last k) (events_file k) 0 (first_event k) (files (events_file k)) f.here f.first in
     let later = files_numbered count last (k + 1) files f.later f.behind in
     let n = length f.here in
     let m = length f.later in
     let long : length events ≡ n + m = ap length f.both ∙ length-append f.here f.later in (
       ap (map (λ e. e.number)) f.both ∙ map-append (λ e. e.number) f.here f.later
-          ∙ ap (λ (l : List ℕ). l ++ map (λ e. e.number) f.later) (here.0 ∙ ap (range_with_len (first_in k)) (sym here.1))
-          ∙ ap (λ (l : List ℕ). range_with_len (first_in k) n ++ l) (later.0 ∙ next_range n m (omega (arith, here.1, later.1)))
-          ∙ sym (range_both (first_in k) n m) ∙ ap (range_with_len (first_in k)) (sym long),
+          ∙ ap (λ (l : List ℕ). l ++ map (λ e. e.number) f.later) (here.0 ∙ ap (range_with_len (first_event k)) (sym here.1))
+          ∙ ap (λ (l : List ℕ). range_with_len (first_event k) n ++ l) (later.0 ∙ next_range n m (omega (arith, here.1, later.1)))
+          ∙ sym (range_both (first_event k) n m) ∙ ap (range_with_len (first_event k)) (sym long),
       omega (arith, long, here.1, later.1),
     )
   where
-    next_range : (n m : ℕ) → (0 < m → n ≡ EVENTS_PER_FILE) → range_with_len (first_in (k + 1)) m ≡ range_with_len (first_in k + n) m
+    next_range : (n m : ℕ) → (0 < m → n ≡ EVENTS_PER_FILE) → range_with_len (first_event (k + 1)) m ≡ range_with_len (first_event k + n) m
     next_range n zero full = refl
     next_range n (suc m) full = ap (λ (a : ℕ). range_with_len a (suc m)) (omega (arith, full (omega arith)))
 
@@ -309,7 +309,7 @@ pub file_of_events : (last k : ℕ) (files : Files) (events : List Event) → ev
 file_of_events last k files events is le =
     file_in (suc (last / EVENTS_PER_FILE)) last 0 k files events (sym (in_files last files) ∙ is) (omega arith) (omega (arith, le))
 
-pub events_stay : (last : ℕ) (old new : Files) (events : List Event) → ((k : ℕ) → covered last k new ≡ covered last k old)
+pub events_stay : (last : ℕ) (old new : Files) (events : List Event) → ((k : ℕ) → covered_bytes last k new ≡ covered_bytes last k old)
     → events_in old last ≡ Ok events → events_in new last ≡ Ok events
 events_stay last old new events same is =
     let n = suc (last / EVENTS_PER_FILE) in
@@ -317,7 +317,7 @@ events_stay last old new events same is =
     ∙ files_same n last last 0 old new events (sym (in_files last old) ∙ is)
     (λ j here le lt one. (file_same last j old new here one (same j)).says)
 
-pub next_size_stays : (last : ℕ) (old new : Files) (events : List Event) → ((k : ℕ) → covered last k new ≡ covered last k old)
+pub next_size_stays : (last : ℕ) (old new : Files) (events : List Event) → ((k : ℕ) → covered_bytes last k new ≡ covered_bytes last k old)
     → events_in old last ≡ Ok events → covered_size last (last / EVENTS_PER_FILE) new ≡ covered_size last (last / EVENTS_PER_FILE) old
 next_size_stays last old new events same is =
     let k = last / EVENTS_PER_FILE in
@@ -334,7 +334,7 @@ size_fits last k files events is = elim (cases_lt (last / EVENTS_PER_FILE) k) [
 
 -- a file with a known front of its events keeps their bytes
 pub front_stays : (last k : ℕ) (old new : Files) (events : List Event) → events_in old last ≡ Ok events
-    → take (covered_size last k old) (new (events_file k)) ≡ covered last k old → covered last k new ≡ covered last k old
+    → take (covered_size last k old) (new (events_file k)) ≡ covered_bytes last k old → covered_bytes last k new ≡ covered_bytes last k old
 front_stays last k old new events is front = elim (cases_lt (last / EVENTS_PER_FILE) k) [
   | inl past ↦
       let le : last ≤ EVENTS_PER_FILE * k = omega (arith, past) in

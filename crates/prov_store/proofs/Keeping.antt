@@ -5,8 +5,8 @@ use Rattle.std.proofs.lemmas.Bool.{cases_lt, cases_eq}
 use Rattle.std.proofs.lemmas.List.{get_or-map, length-map}
 use Rattle.disk_trait.specs.Files.{Files}
 use Rattle.disk_trait.proofs.FileLists.{contains_here, contains_there, contains_cases}
-use Rattle.prov_store.specs.Events.{events_file, covered, covered_size}
-use Rattle.prov_store.specs.State.{EventsState, HasEvents, IsReady, SameEvents, KeepsEvents, GrowsBehind, CutsStale}
+use Rattle.prov_store.specs.Events.{events_file, covered_bytes, covered_size}
+use Rattle.prov_store.specs.State.{EventsState, HasEvents, EventsAreReady, SameEvents, KeepsEvents, GrowsBehind, CutsStale}
 use Rattle.flowfile_record.specs.declared.limits.TheConstants.{EVENTS_PER_FILE}
 use Rattle.prov_store.specs.declared.events.Stale.{Stale}
 use Rattle.prov_store.proofs.InFiles.{events_stay, next_size_stays, front_stays, covered_as, no_bytes}
@@ -19,7 +19,7 @@ still_has state old new same has = record {
   counts = has.counts;
 }
 
-pub still_ready : (state : EventsState) (old new : Files) → ((k : ℕ) → new (events_file k) ≡ old (events_file k)) → IsReady state old → IsReady state new
+pub still_ready : (state : EventsState) (old new : Files) → ((k : ℕ) → new (events_file k) ≡ old (events_file k)) → EventsAreReady state old → EventsAreReady state new
 still_ready state old new same ready =
     let covers : SameEvents state.end old new = λ k. covered_as state.end k old new (same k) in
     record {
@@ -30,13 +30,13 @@ still_ready state old new same ready =
 pub grows_keep : (state : EventsState) (old new : Files) → HasEvents state old → GrowsBehind state old new → KeepsEvents state.end old new
 grows_keep state old new has grows = record { others = grows.others; events = each }
   where
-    each : (k : ℕ) → covered state.end k new ≡ covered state.end k old
+    each : (k : ℕ) → covered_bytes state.end k new ≡ covered_bytes state.end k old
     each k = elim (cases_lt k (state.end / EVENTS_PER_FILE)) [
       | inl before ↦ covered_as state.end k old new (grows.earlier k before)
       | inr from ↦ elim (cases_eq k (state.end / EVENTS_PER_FILE)) [
         | inl here ↦
             front_stays state.end k old new has.events has.says
-            (subst (λ (i : ℕ). take (covered_size state.end i old) (new (events_file i)) ≡ covered state.end i old) (sym here)
+            (subst (λ (i : ℕ). take (covered_size state.end i old) (new (events_file i)) ≡ covered_bytes state.end i old) (sym here)
             (subst (λ (n : ℕ). take n (new (events_file (state.end / EVENTS_PER_FILE))) ≡ take n (old (events_file (state.end / EVENTS_PER_FILE)))) has.offset grows.front))
         | inr other ↦
             let past : state.end ≤ EVENTS_PER_FILE * k = omega (arith, from, other) in
@@ -74,7 +74,7 @@ pub cuts_keep : (state : EventsState) (old new : Files) → HasEvents state old 
     → CutsStale state.stale old new → KeepsEvents state.end old new
 cuts_keep state old new has sizes cuts = record { others = cuts.others; events = each }
   where
-    each : (k : ℕ) → covered state.end k new ≡ covered state.end k old
+    each : (k : ℕ) → covered_bytes state.end k new ≡ covered_bytes state.end k old
     each k = elim (is_stale_or_not state.stale k) [
       | inl listed ↦
           let d : Stale = record { file = k; size = 0 } in
@@ -82,7 +82,7 @@ cuts_keep state old new has sizes cuts = record { others = cuts.others; events =
           let s = get_or state.stale at.0 d in
           let front = (cuts.cut at.0 d at.1).front in
           front_stays state.end k old new has.events has.says
-          (subst (λ (i : ℕ). take (covered_size state.end i old) (new (events_file i)) ≡ covered state.end i old) at.2
+          (subst (λ (i : ℕ). take (covered_size state.end i old) (new (events_file i)) ≡ covered_bytes state.end i old) at.2
           (subst (λ (n : ℕ). take n (new (events_file s.file)) ≡ take n (old (events_file s.file))) (sizes at.0 d at.1) front))
       | inr other ↦ covered_as state.end k old new (cuts.rest k other)
     ]

@@ -4,8 +4,8 @@ use Rattle.std.specs.Prelude.{Err, All, Contains}
 use Rattle.std.proofs.lemmas.Bool.{cases_lt}
 use Rattle.disk_trait.specs.Files.{Files}
 use Rattle.disk_trait.specs.declared.damage.Damage.{Damage}
-use Rattle.prov_store.specs.Events.{events_file, events_of_files, events_in, covered, covered_size}
-use Rattle.prov_store.specs.Loading.{IsLoaded}
+use Rattle.prov_store.specs.Events.{events_file, events_of_files, events_in, covered_bytes, covered_size}
+use Rattle.prov_store.specs.Loading.{EventsAreLoaded}
 use Rattle.prov_store.specs.State.{EventsState, HasEvents, HasStale}
 use Rattle.flowfile_record.specs.declared.limits.TheConstants.{EVENTS_PER_FILE}
 use Rattle.prov_store.specs.declared.events.Stale.{Stale}
@@ -17,7 +17,7 @@ use Rattle.prov_store.proofs.Keeping.{stale_files}
 abbrev twelve_zeros : List ℕ
 twelve_zeros = 0 ∷ 0 ∷ 0 ∷ 0 ∷ 0 ∷ 0 ∷ 0 ∷ 0 ∷ 0 ∷ 0 ∷ 0 ∷ 0 ∷ []
 
-pub none_loaded : (tells : Bool) (files : Files) (loading : Loading) → loading.counts.counts ≡ twelve_zeros → loading.stale.items ≡ [] → IsLoaded tells files 0 loading
+pub none_loaded : (tells : Bool) (files : Files) (loading : Loading) → loading.counts.counts ≡ twelve_zeros → loading.stale.items ≡ [] → EventsAreLoaded tells files 0 loading
 none_loaded tells files loading counts stale = record {
   events = [];
   long = ap length counts;
@@ -37,12 +37,12 @@ all_damaged k end read files damage same lt each =
     in_files end files ∙ ap (λ (f : Files). events_of_files (suc (end / EVENTS_PER_FILE)) end 0 f) (sym same)
     ∙ ap (λ (n : ℕ). events_of_files n end 0 read) all ∙ each more
 
-pub few_counted : (tells : Bool) (files : Files) (k : ℕ) (loading : Loading) → IsLoaded tells files k loading → All (λ n. n ≤ loading.end) loading.counts.counts
+pub few_counted : (tells : Bool) (files : Files) (k : ℕ) (loading : Loading) → EventsAreLoaded tells files k loading → All (λ n. n ≤ loading.end) loading.counts.counts
 few_counted tells files k loading loaded i d lt =
     let most = count_most loaded.events loading.counts.counts loaded.long loaded.counts i d lt in
     omega (arith, most, loaded.many)
 
-module _ (tells : Bool) (files : Files) (loading : Loading) (loaded : IsLoaded tells files (loading.end / EVENTS_PER_FILE + 1) loading) (told : IsTrue tells) where
+module _ (tells : Bool) (files : Files) (loading : Loading) (loaded : EventsAreLoaded tells files (loading.end / EVENTS_PER_FILE + 1) loading) (told : IsTrue tells) where
   pub has_events : (state : EventsState) → state.end ≡ loading.end → state.offset ≡ loading.offset → state.counts ≡ loading.counts.counts → HasEvents state files
   has_events state end offset counts =
       let one_more : suc (loading.end / EVENTS_PER_FILE) ≡ loading.end / EVENTS_PER_FILE + 1 = omega arith in
@@ -62,7 +62,7 @@ module _ (tells : Bool) (files : Files) (loading : Loading) (loaded : IsLoaded t
         (subst (λ (l : List Stale). All (λ s. s.size ≡ covered_size loading.end s.file files) l) (sym stale) (loaded.sizes told));
     others = λ k not.
         let apart = subst (λ (l : List Stale). Contains (stale_files l) k → ⊥) stale not in
-        subst (λ (n : ℕ). files (events_file k) ≡ covered n k files) (sym end)
+        subst (λ (n : ℕ). files (events_file k) ≡ covered_bytes n k files) (sym end)
         (elim (cases_lt (loading.end / EVENTS_PER_FILE) k) [
           | inl past ↦ later k past apart ∙ sym (no_bytes loading.end k files (omega (arith, past)))
           | inr within ↦ loaded.others told k (omega (arith, within)) apart

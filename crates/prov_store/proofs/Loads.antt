@@ -10,8 +10,8 @@ use Rattle.disk_trait.specs.Files.{Files}
 use Rattle.disk_trait.specs.declared.damage.Damage.{Damage}
 use Rattle.disk_trait.specs.declared.file_name.FileName.{FileName}
 use Rattle.flowfile_record.specs.declared.event.Event.{Event}
-use Rattle.prov_store.specs.Events.{◌>>=◌, event_by, first_in, count_in, events_file, events_from, events_of_file, events_of_files, blocks_size, covered, covered_size}
-use Rattle.prov_store.specs.Loading.{AreRead, AreLater, IsLoaded, bytes_there}
+use Rattle.prov_store.specs.Events.{◌>>=◌, event_by, first_event, count_in, events_file, events_from, events_of_file, events_of_files, blocks_size, covered_bytes, covered_size}
+use Rattle.prov_store.specs.Loading.{AreReadEvents, AreLater, EventsAreLoaded, bytes_there}
 use Rattle.prov_store.specs.Reading.{event_there}
 use Rattle.prov_store.specs.State.{AreCounted}
 use Rattle.prov_store.specs.declared.events.Stale.{Stale}
@@ -70,8 +70,8 @@ first_damage count more file at number bytes events damage is here =
 
 -- the same where they were read from a place on
 pub read_more : (tells : Bool) (files : Files) (start : Cursor) (i : ℕ) (events : List Event) (cursor : Cursor) (e : Event) (size : ℕ)
-    → AreRead tells files start i events cursor.at → cursor ≡ record start { at = cursor.at; number = start.number + i } → cursor.at + size ≤ cursor.size → e.number ≡ cursor.number
-    → (IsTrue tells → event_there files cursor ≡ Ok (e, size)) → AreRead tells files start (i + 1) (events ++ e ∷ []) (cursor.at + size)
+    → AreReadEvents tells files start i events cursor.at → cursor ≡ record start { at = cursor.at; number = start.number + i } → cursor.at + size ≤ cursor.size → e.number ≡ cursor.number
+    → (IsTrue tells → event_there files cursor ≡ Ok (e, size)) → AreReadEvents tells files start (i + 1) (events ++ e ∷ []) (cursor.at + size)
 read_more tells files start i events cursor e size read is within same found =
     let same_size : cursor.size ≡ start.size = ap (λ (c : Cursor). c.size) is in
     record {
@@ -88,7 +88,7 @@ read_more tells files start i events cursor e size read is within same found =
     more told = one_more i start.file start.at start.number (bytes_there files start) events (e, size) (read.says told) (there_is files start i cursor is (read.reaches told) (Ok (e, size)) (found told))
 
 pub damaged_there : (tells : Bool) (files : Files) (start : Cursor) (i many : ℕ) (events : List Event) (cursor : Cursor) (damage : Damage)
-    → AreRead tells files start i events cursor.at → cursor ≡ record start { at = cursor.at; number = start.number + i } → i < many → IsTrue tells
+    → AreReadEvents tells files start i events cursor.at → cursor ≡ record start { at = cursor.at; number = start.number + i } → i < many → IsTrue tells
     → event_there files cursor ≡ Err damage → events_from many start.file start.at start.number (bytes_there files start) ≡ Err damage
 damaged_there tells files start i many events cursor damage read is lt told here =
     let all : many ≡ i + suc (many - i - 1) = omega (arith, lt) in
@@ -125,12 +125,12 @@ cursor_on start cursor next i size is step =
     λ j. record { file = file j; size = long j; at = next.at; number = number j }
 
 -- a file that was read from its start on is that of a number
-pub file_read : (last k many number : ℕ) (file : FileName) (read files : Files) (r : Result (List Event) Damage) → read ≡ files → file ≡ events_file k → many ≡ count_in last k → number ≡ first_in k
+pub file_read : (last k many number : ℕ) (file : FileName) (read files : Files) (r : Result (List Event) Damage) → read ≡ files → file ≡ events_file k → many ≡ count_in last k → number ≡ first_event k
     → events_from many file 0 number (drop 0 (read file)) ≡ r → events_of_file last k files ≡ r
 file_read last k many number file read files r held name count first is =
-    sym (ap (λ (f : Files). events_from (count_in last k) (events_file k) 0 (first_in k) (f (events_file k))) held)
-    ∙ sym (ap (λ f. events_from (count_in last k) f 0 (first_in k) (read f)) name)
-    ∙ sym (ap (λ (n : ℕ). events_from n file 0 (first_in k) (read file)) count)
+    sym (ap (λ (f : Files). events_from (count_in last k) (events_file k) 0 (first_event k) (f (events_file k))) held)
+    ∙ sym (ap (λ f. events_from (count_in last k) f 0 (first_event k) (read f)) name)
+    ∙ sym (ap (λ (n : ℕ). events_from n file 0 (first_event k) (read file)) count)
     ∙ sym (ap (λ (n : ℕ). events_from many file 0 n (read file)) first) ∙ is
 
 pub size_read : (last k many size : ℕ) (file : FileName) (read files : Files) → read ≡ files → file ≡ events_file k → many ≡ count_in last k
@@ -143,9 +143,9 @@ size_read last k many size file read files held name count is =
 -- which files are longer than what is covered, with one file more
 pub record StaleMore (tells : Bool) (files : Files) (k : ℕ) (old new : Loading) : Type 0 where
   pub sizes : IsTrue tells → All (λ s. s.size ≡ covered_size old.end s.file files) new.stale.items
-  pub others : IsTrue tells → (j : ℕ) → j < k + 1 → (Contains (stale_files new.stale.items) j → ⊥) → files (events_file j) ≡ covered old.end j files
+  pub others : IsTrue tells → (j : ℕ) → j < k + 1 → (Contains (stale_files new.stale.items) j → ⊥) → files (events_file j) ≡ covered_bytes old.end j files
 
-pub stale_same : (tells : Bool) (files : Files) (k size : ℕ) (old new : Loading) → IsLoaded tells files k old → new.stale.items ≡ old.stale.items
+pub stale_same : (tells : Bool) (files : Files) (k size : ℕ) (old new : Loading) → EventsAreLoaded tells files k old → new.stale.items ≡ old.stale.items
     → (IsTrue tells → length (files (events_file k)) ≤ covered_size old.end k files) → StaleMore tells files k old new
 stale_same tells files k size old new loaded same short = record {
   sizes = λ told. subst (λ (l : List Stale). All (λ s. s.size ≡ covered_size old.end s.file files) l) (sym same) (loaded.sizes told);
@@ -155,11 +155,11 @@ stale_same tells files k size old new loaded same short = record {
         | inl earlier ↦ loaded.others told j earlier before
         | inr here ↦
             let is : j ≡ k = omega (arith, lt, here) in
-            subst (λ (i : ℕ). files (events_file i) ≡ covered old.end i files) (sym is) (sym (take_all (covered_size old.end k files) (files (events_file k)) (short told)))
+            subst (λ (i : ℕ). files (events_file i) ≡ covered_bytes old.end i files) (sym is) (sym (take_all (covered_size old.end k files) (files (events_file k)) (short told)))
       ];
 }
 
-pub stale_one : (tells : Bool) (files : Files) (k size : ℕ) (old new : Loading) → IsLoaded tells files k old → new.stale.items ≡ old.stale.items ++ record { file = k; size = size } ∷ []
+pub stale_one : (tells : Bool) (files : Files) (k size : ℕ) (old new : Loading) → EventsAreLoaded tells files k old → new.stale.items ≡ old.stale.items ++ record { file = k; size = size } ∷ []
     → (IsTrue tells → size ≡ covered_size old.end k files) → StaleMore tells files k old new
 stale_one tells files k size old new loaded more is = record {
   sizes = λ told.
@@ -178,10 +178,10 @@ stale_one tells files k size old new loaded more is = record {
 }
 
 -- one file more is read
-pub more_loaded : (tells : Bool) (files : Files) (k : ℕ) (old new : Loading) (here : List Event) → IsLoaded tells files k old → k ≤ old.end / EVENTS_PER_FILE
+pub more_loaded : (tells : Bool) (files : Files) (k : ℕ) (old new : Loading) (here : List Event) → EventsAreLoaded tells files k old → k ≤ old.end / EVENTS_PER_FILE
     → length here ≡ count_in old.end k → AreCounted here old.counts.counts new.counts.counts → length new.counts.counts ≡ 12 → new.end ≡ old.end
     → (IsTrue tells → new.offset ≡ covered_size old.end k files) → (IsTrue tells → events_of_file old.end k files ≡ Ok here) → StaleMore tells files k old new
-    → IsLoaded tells files (k + 1) new
+    → EventsAreLoaded tells files (k + 1) new
 more_loaded tells files k old new here loaded within many counted long end offset says stale =
     let all = loaded.events ++ here in
     record {
@@ -194,7 +194,7 @@ more_loaded tells files k old new here loaded within many counted long end offse
           let same : j ≡ k = omega (arith, is) in
           offset told ∙ ap (λ (i : ℕ). covered_size old.end i files) (sym same) ∙ ap (λ (n : ℕ). covered_size n j files) (sym end);
       sizes = λ told. subst (λ (n : ℕ). All (λ s. s.size ≡ covered_size n s.file files) new.stale.items) (sym end) (stale.sizes told);
-      others = λ told. subst (λ (n : ℕ). (j : ℕ) → j < k + 1 → (Contains (stale_files new.stale.items) j → ⊥) → files (events_file j) ≡ covered n j files) (sym end) (stale.others told);
+      others = λ told. subst (λ (n : ℕ). (j : ℕ) → j < k + 1 → (Contains (stale_files new.stale.items) j → ⊥) → files (events_file j) ≡ covered_bytes n j files) (sym end) (stale.others told);
     }
 
 pub kept_later : (old new : Loading) (j : ℕ) → AreLater old new → Contains (stale_files old.stale.items) j → Contains (stale_files new.stale.items) j
@@ -204,7 +204,7 @@ kept_later old new j later has =
     (Contains-append_left (stale_files old.stale.items) (stale_files later.more) j has))
 
 -- files behind the last one are listed
-pub later_loaded : (tells : Bool) (files : Files) (k : ℕ) (old new : Loading) → IsLoaded tells files k old → AreLater old new → IsLoaded tells files k new
+pub later_loaded : (tells : Bool) (files : Files) (k : ℕ) (old new : Loading) → EventsAreLoaded tells files k old → AreLater old new → EventsAreLoaded tells files k new
 later_loaded tells files k old new loaded later = record {
   events = loaded.events;
   long = ap length later.counts ∙ loaded.long;
@@ -218,5 +218,5 @@ later_loaded tells files k old new loaded later = record {
       (All-append (λ s. s.size ≡ covered_size old.end s.file files) old.stale.items later.more (loaded.sizes told)
       (λ i d lt. let one = later.sizes i d lt in one.0 ∙ sym (no_size old.end (get_or later.more i d).file files (omega (arith, one.1))))));
   others = λ told j lt not.
-      loaded.others told j lt (λ has. not (kept_later old new j later has)) ∙ ap (λ (n : ℕ). covered n j files) (sym later.end);
+      loaded.others told j lt (λ has. not (kept_later old new j later has)) ∙ ap (λ (n : ℕ). covered_bytes n j files) (sym later.end);
 }

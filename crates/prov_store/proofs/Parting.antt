@@ -9,7 +9,7 @@ use Rattle.std.proofs.lemmas.Grind.{flat_map-append}
 use Rattle.std.proofs.lemmas.List.{length-append, length-drop, length-take-le, take-append-drop, take_at, drop_at, take-map, drop-map, drop_more}
 use Rattle.std.proofs.lemmas.List.FromFn.{length-range_with_len}
 use Rattle.flowfile_record.specs.declared.event.Event.{Event}
-use Rattle.prov_store.specs.Blocks.{blocks_of, IsPart, AreParts}
+use Rattle.prov_store.specs.Blocks.{blocks_of, IsEventPart, AreEventParts}
 use Rattle.prov_store.specs.State.{AreNumberedFrom, files_for}
 use Rattle.flowfile_record.specs.declared.limits.TheConstants.{EVENTS_PER_FILE}
 use Rattle.prov_store.specs.declared.blocks.Part.{Part}
@@ -38,14 +38,14 @@ numbered_part first n count events numbered le =
 
 -- ---- the first of the parts that are left
 
-pub part_is : (last i : ℕ) (parts : List Part) (d : Part) (events : List Event) → i < length parts → AreParts last (drop i parts) events
-    → IsPart last (get_or parts i d) events × AreParts (last + (get_or parts i d).count) (drop (i + 1) parts) (drop (get_or parts i d).count events)
-part_is last i parts d events lt are = subst (λ (l : List Part). AreParts last l events) (drop_more parts i d lt) are
+pub part_is : (last i : ℕ) (parts : List Part) (d : Part) (events : List Event) → i < length parts → AreEventParts last (drop i parts) events
+    → IsEventPart last (get_or parts i d) events × AreEventParts (last + (get_or parts i d).count) (drop (i + 1) parts) (drop (get_or parts i d).count events)
+part_is last i parts d events lt are = subst (λ (l : List Part). AreEventParts last l events) (drop_more parts i d lt) are
 
-pub no_part_is : (last i : ℕ) (parts : List Part) (events : List Event) → length parts ≤ i → AreParts last (drop i parts) events → events ≡ []
+pub no_part_is : (last i : ℕ) (parts : List Part) (events : List Event) → length parts ≤ i → AreEventParts last (drop i parts) events → events ≡ []
 no_part_is last i parts events le are = none (drop i parts) (omega (arith, le, length-drop i parts)) are
   where
-    none : (l : List Part) → length l ≡ 0 → AreParts last l events → events ≡ []
+    none : (l : List Part) → length l ≡ 0 → AreEventParts last l events → events ≡ []
     none [] long are = are
     none (p ∷ l) long are = absurd (omega (arith, long))
 
@@ -88,7 +88,7 @@ file_more last n count some less full =
     let test_rest : (count - n == 0) ≡ false = grind (arith, nat_tests, less) in
     rw (test, test_rest) (omega (arith, some, less, full))
 
-pub as_many_files : (last : ℕ) (parts : List Part) (events : List Event) → AreParts last parts events → length parts ≡ files_for last (length events)
+pub as_many_files : (last : ℕ) (parts : List Part) (events : List Event) → AreEventParts last parts events → length parts ≡ files_for last (length events)
 as_many_files last [] events are = ap (λ (l : List Event). files_for last (length l)) (sym are)
 as_many_files last (p ∷ parts) events are =
     let rest = as_many_files (last + p.count) parts (drop p.count events) are.1 in

@@ -9,7 +9,7 @@ use Rattle.std.proofs.lemmas.List.Elements.{filter-append}
 use Rattle.disk_trait.specs.Files.{Files}
 use Rattle.disk_trait.specs.declared.file_name.FileName.{FileName}
 use Rattle.flowfile_record.specs.declared.event.Event.{Event}
-use Rattle.prov_store.specs.Events.{◌>>=◌, event_by, first_in, count_in, events_file, events_from, events_of_file, events_of_files, events_in, blocks_size}
+use Rattle.prov_store.specs.Events.{◌>>=◌, event_by, first_event, count_in, events_file, events_from, events_of_file, events_of_files, events_in, blocks_size}
 use Rattle.prov_store.specs.Loading.{bytes_there}
 use Rattle.prov_store.specs.Reading.{event_there}
 use Rattle.prov_store.specs.Scanning.{is_within, HasSkipped, numbers_between}
@@ -185,25 +185,25 @@ skip_one files start i many cursor events is reaches lt all =
 
 -- what is skipped, read and found of a file
 pub record FoundIn (end first last k n m : ℕ) (files : Files) (here : List Event) : Type 0 where
-  pub skipped : events_from n (events_file k) 0 (first_in k) (files (events_file k)) ≡ Ok (take n here)
-  pub read : events_from m (events_file k) (0 + blocks_size n (files (events_file k))) (first_in k + n) (drop (blocks_size n (files (events_file k))) (files (events_file k))) ≡ Ok (take m (drop n here))
+  pub skipped : events_from n (events_file k) 0 (first_event k) (files (events_file k)) ≡ Ok (take n here)
+  pub read : events_from m (events_file k) (0 + blocks_size n (files (events_file k))) (first_event k + n) (drop (blocks_size n (files (events_file k))) (files (events_file k))) ≡ Ok (take m (drop n here))
   pub found : filter (is_within first last) here ≡ take m (drop n here)
 
 pub found_in : (end first last k n m : ℕ) (files : Files) (here : List Event) → events_of_file end k files ≡ Ok here → 1 ≤ first → first ≤ last → last ≤ end
-    → (first - 1) / EVENTS_PER_FILE ≤ k → k ≤ (last - 1) / EVENTS_PER_FILE → n ≡ first - first_in k → m ≡ min last (EVENTS_PER_FILE * k + EVENTS_PER_FILE) + 1 - (first_in k + n)
+    → (first - 1) / EVENTS_PER_FILE ≤ k → k ≤ (last - 1) / EVENTS_PER_FILE → n ≡ first - first_event k → m ≡ min last (EVENTS_PER_FILE * k + EVENTS_PER_FILE) + 1 - (first_event k + n)
     → FoundIn end first last k n m files here
 found_in end first last k n m files here is one some there from to skip read =
     let c = count_in end k in
-    let numbers = events_numbered c (events_file k) 0 (first_in k) (files (events_file k)) here is in
+    let numbers = events_numbered c (events_file k) 0 (first_event k) (files (events_file k)) here is in
     let all : c ≡ n + (m + (c - n - m)) = omega (arith, one, some, there, from, to, skip, read) in
-    let whole : events_from (n + (m + (c - n - m))) (events_file k) 0 (first_in k) (files (events_file k)) ≡ Ok here =
-    ap (λ (i : ℕ). events_from i (events_file k) 0 (first_in k) (files (events_file k))) (sym all) ∙ is in
-    let numbered : AreNumberedFrom (first_in k) here = numbers.0 ∙ ap (range_with_len (first_in k)) (sym numbers.1) in
+    let whole : events_from (n + (m + (c - n - m))) (events_file k) 0 (first_event k) (files (events_file k)) ≡ Ok here =
+    ap (λ (i : ℕ). events_from i (events_file k) 0 (first_event k) (files (events_file k))) (sym all) ∙ is in
+    let numbered : AreNumberedFrom (first_event k) here = numbers.0 ∙ ap (range_with_len (first_event k)) (sym numbers.1) in
     record {
-      skipped = fewer_events n (m + (c - n - m)) (events_file k) 0 (first_in k) (files (events_file k)) here whole;
-      read = middle n m (c - n - m) (events_file k) 0 (first_in k) (files (events_file k)) here whole;
+      skipped = fewer_events n (m + (c - n - m)) (events_file k) 0 (first_event k) (files (events_file k)) here whole;
+      read = middle n m (c - n - m) (events_file k) 0 (first_event k) (files (events_file k)) here whole;
       found =
-          found_between first last (first_in k) n m here numbered (omega (arith, numbers.1, all)) (λ less. omega (arith, skip, less)) (omega (arith, skip))
+          found_between first last (first_event k) n m here numbered (omega (arith, numbers.1, all)) (λ less. omega (arith, skip, less)) (omega (arith, skip))
           (omega (arith, read, one, some, from, to, skip)) (λ less. omega (arith, numbers.1, less, read, one, some, there, from, to, skip));
     }
 
@@ -245,9 +245,9 @@ all_found end first last k files found events is behind one le before =
     let all : suc (end / EVENTS_PER_FILE) ≡ k + more = omega (arith, behind, le) in
     let s = split_files k more end 0 files events (ap (λ (n : ℕ). events_of_files n end 0 files) (sym all) ∙ sym (in_files end files) ∙ is) in
     let numbers = files_numbered more end (0 + k) files s.back s.behind in
-    let past : last < first_in (0 + k) = omega (arith, behind, one) in
+    let past : last < first_event (0 + k) = omega (arith, behind, one) in
     before s.front s.first ∙ sym (append-nil (filter (is_within first last) s.front))
-    ∙ ap (λ (l : List Event). filter (is_within first last) s.front ++ l) (sym (none_behind first last (first_in (0 + k)) s.back numbers.0 past))
+    ∙ ap (λ (l : List Event). filter (is_within first last) s.front ++ l) (sym (none_behind first last (first_event (0 + k)) s.back numbers.0 past))
     ∙ sym (filter-append (is_within first last) s.front s.back) ∙ ap (filter (is_within first last)) (sym s.both)
 
 -- where there are no numbers between the two
@@ -267,28 +267,28 @@ none_between first last (e ∷ events) lt =
         rw (low, high) refl
 
 -- the place in a file, as it was read
-pub from_start : (k n number : ℕ) (file : FileName) (read files : Files) → read ≡ files → file ≡ events_file k → number ≡ first_in k
-    → events_from n file 0 number (drop 0 (read file)) ≡ events_from n (events_file k) 0 (first_in k) (files (events_file k))
+pub from_start : (k n number : ℕ) (file : FileName) (read files : Files) → read ≡ files → file ≡ events_file k → number ≡ first_event k
+    → events_from n file 0 number (drop 0 (read file)) ≡ events_from n (events_file k) 0 (first_event k) (files (events_file k))
 from_start k n number file read files held name first =
-    ap (λ (i : ℕ). events_from n file 0 i (read file)) first ∙ ap (λ f. events_from n f 0 (first_in k) (read f)) name
-    ∙ ap (λ (f : Files). events_from n (events_file k) 0 (first_in k) (f (events_file k))) held
+    ap (λ (i : ℕ). events_from n file 0 i (read file)) first ∙ ap (λ f. events_from n f 0 (first_event k) (read f)) name
+    ∙ ap (λ (f : Files). events_from n (events_file k) 0 (first_event k) (f (events_file k))) held
 
 pub from_there : (k n m : ℕ) (cursor : Cursor) (read files : Files) → read ≡ files → cursor.file ≡ events_file k → cursor.at ≡ 0 + blocks_size n (files (events_file k))
-    → cursor.number ≡ first_in k + n
+    → cursor.number ≡ first_event k + n
     → events_from m cursor.file cursor.at cursor.number (bytes_there read cursor)
-    ≡ events_from m (events_file k) (0 + blocks_size n (files (events_file k))) (first_in k + n) (drop (blocks_size n (files (events_file k))) (files (events_file k)))
+    ≡ events_from m (events_file k) (0 + blocks_size n (files (events_file k))) (first_event k + n) (drop (blocks_size n (files (events_file k))) (files (events_file k)))
 from_there k n m cursor read files held name at number =
     let s = blocks_size n (files (events_file k)) in
     let place : 0 + s ≡ s = omega arith in
     ap (λ (i : ℕ). events_from m cursor.file cursor.at i (drop cursor.at (read cursor.file))) number
-    ∙ ap (λ (i : ℕ). events_from m cursor.file i (first_in k + n) (drop i (read cursor.file))) at
-    ∙ ap (λ (i : ℕ). events_from m cursor.file (0 + s) (first_in k + n) (drop i (read cursor.file))) place
-    ∙ ap (λ f. events_from m f (0 + s) (first_in k + n) (drop s (read f))) name
-    ∙ ap (λ (f : Files). events_from m (events_file k) (0 + s) (first_in k + n) (drop s (f (events_file k)))) held
+    ∙ ap (λ (i : ℕ). events_from m cursor.file i (first_event k + n) (drop i (read cursor.file))) at
+    ∙ ap (λ (i : ℕ). events_from m cursor.file (0 + s) (first_event k + n) (drop i (read cursor.file))) place
+    ∙ ap (λ f. events_from m f (0 + s) (first_event k + n) (drop s (read f))) name
+    ∙ ap (λ (f : Files). events_from m (events_file k) (0 + s) (first_event k + n) (drop s (f (events_file k)))) held
 
 -- where the reading of a file goes on behind what was skipped
 pub there_in_file : (end first last k n m number : ℕ) (file : FileName) (size : ℕ) (tells : Bool) (files before behind : Files) (here : List Event) (cursor : Cursor)
-    → FoundIn end first last k n m files here → before ≡ files → behind ≡ files → file ≡ events_file k → number ≡ first_in k
+    → FoundIn end first last k n m files here → before ≡ files → behind ≡ files → file ≡ events_file k → number ≡ first_event k
     → HasSkipped tells before (record { file = file; size = size; at = 0; number = number }) n cursor → IsTrue tells
     → events_from m cursor.file cursor.at cursor.number (bytes_there behind cursor) ≡ Ok (take m (drop n here))
 there_in_file end first last k n m number file size tells files before behind here cursor fi held_before held_behind name is skipped told =
@@ -296,7 +296,7 @@ there_in_file end first last k n m number file size tells files before behind he
     let reaches : cursor.at ≡ 0 + blocks_size n (before file) = skipped.reaches told (take n here) all in
     let bytes : before file ≡ files (events_file k) = ap (λ f. before f) name ∙ ap (λ (f : Files). f (events_file k)) held_before in
     let at : cursor.at ≡ 0 + blocks_size n (files (events_file k)) = reaches ∙ ap (λ (l : List ℕ). 0 + blocks_size n l) bytes in
-    let cursor_number : cursor.number ≡ first_in k + n = ap (λ (c : Cursor). c.number) skipped.behind ∙ ap (λ (i : ℕ). i + n) is in
+    let cursor_number : cursor.number ≡ first_event k + n = ap (λ (c : Cursor). c.number) skipped.behind ∙ ap (λ (i : ℕ). i + n) is in
     from_there k n m cursor behind files held_behind (ap (λ (c : Cursor). c.file) skipped.behind ∙ name) at cursor_number ∙ fi.read
 
 -- the same of what is known by other words
@@ -310,27 +310,27 @@ found_alike end first last end_now first_now last_now k read files old new end_i
 -- ---- the numbers that are found
 
 -- none before the first file
-pub none_numbered : (first last : ℕ) → 1 ≤ first → numbers_between first (min last (first_in ((first - 1) / EVENTS_PER_FILE) - 1)) ≡ []
+pub none_numbered : (first last : ℕ) → 1 ≤ first → numbers_between first (min last (first_event ((first - 1) / EVENTS_PER_FILE) - 1)) ≡ []
 none_numbered first last one =
-    let none : min last (first_in ((first - 1) / EVENTS_PER_FILE) - 1) + 1 - first ≡ 0 = omega (arith, one) in
+    let none : min last (first_event ((first - 1) / EVENTS_PER_FILE) - 1) + 1 - first ≡ 0 = omega (arith, one) in
     ap (range_with_len first) none
 
 -- those of one file more
 pub file_numbered : (first last k : ℕ) → first ≤ last → k ≤ (last - 1) / EVENTS_PER_FILE
-    → numbers_between first (min last (first_in k - 1)) ++ numbers_between (max first (first_in k)) (min last (first_in (k + 1) - 1)) ≡ numbers_between first (min last (first_in (k + 1) - 1))
+    → numbers_between first (min last (first_event k - 1)) ++ numbers_between (max first (first_event k)) (min last (first_event (k + 1) - 1)) ≡ numbers_between first (min last (first_event (k + 1) - 1))
 file_numbered first last k some there =
-    let before = min last (first_in k - 1) + 1 - first in
-    let here = min last (first_in (k + 1) - 1) + 1 - max first (first_in k) in
-    let place : max first (first_in k) ≡ first + before = omega (arith, some, there) in
-    let both : before + here ≡ min last (first_in (k + 1) - 1) + 1 - first = omega (arith, some, there) in
+    let before = min last (first_event k - 1) + 1 - first in
+    let here = min last (first_event (k + 1) - 1) + 1 - max first (first_event k) in
+    let place : max first (first_event k) ≡ first + before = omega (arith, some, there) in
+    let both : before + here ≡ min last (first_event (k + 1) - 1) + 1 - first = omega (arith, some, there) in
     ap (λ (n : ℕ). range_with_len first before ++ range_with_len n here) place ∙ sym (range_both first before here) ∙ ap (range_with_len first) both
 
 pub numbered_on : (first last other end k : ℕ) (old new : List ℕ) → other ≡ first → end ≡ last → first ≤ last → k ≤ (last - 1) / EVENTS_PER_FILE
-    → old ≡ numbers_between first (min last (first_in k - 1)) → new ≡ old ++ numbers_between (max other (first_in k)) (min end (first_in (k + 1) - 1))
-    → new ≡ numbers_between first (min last (first_in (k + 1) - 1))
+    → old ≡ numbers_between first (min last (first_event k - 1)) → new ≡ old ++ numbers_between (max other (first_event k)) (min end (first_event (k + 1) - 1))
+    → new ≡ numbers_between first (min last (first_event (k + 1) - 1))
 numbered_on first last other end k old new same_first same_last some there was is =
-    let before = numbers_between first (min last (first_in k - 1)) in
-    is ∙ ap (λ (l : List ℕ). l ++ numbers_between (max other (first_in k)) (min end (first_in (k + 1) - 1))) was
-    ∙ ap (λ (n : ℕ). before ++ numbers_between (max n (first_in k)) (min end (first_in (k + 1) - 1))) same_first
-    ∙ ap (λ (n : ℕ). before ++ numbers_between (max first (first_in k)) (min n (first_in (k + 1) - 1))) same_last
+    let before = numbers_between first (min last (first_event k - 1)) in
+    is ∙ ap (λ (l : List ℕ). l ++ numbers_between (max other (first_event k)) (min end (first_event (k + 1) - 1))) was
+    ∙ ap (λ (n : ℕ). before ++ numbers_between (max n (first_event k)) (min end (first_event (k + 1) - 1))) same_first
+    ∙ ap (λ (n : ℕ). before ++ numbers_between (max first (first_event k)) (min n (first_event (k + 1) - 1))) same_last
     ∙ file_numbered first last k some there

@@ -6,8 +6,8 @@ use Rattle.disk_trait.specs.Files.{Files}
 use Rattle.disk_trait.specs.declared.file_name.FileName.{FileName}
 use Rattle.flowfile_record.specs.declared.event.Event.{Event}
 use Rattle.prov_event.specs.declared.TheConstants.{EVENT_KIND}
-use Rattle.prov_store.specs.Events.{count_in, first_in, events_file, events_from, events_of_files, blocks_size}
-use Rattle.prov_store.specs.Loading.{AreRead, bytes_there}
+use Rattle.prov_store.specs.Events.{count_in, first_event, events_file, events_from, events_of_files, blocks_size}
+use Rattle.prov_store.specs.Loading.{AreReadEvents, bytes_there}
 use Rattle.prov_store.specs.Reading.{HasWhole}
 use Rattle.prov_store.specs.declared.read.Cursor.{Cursor}
 use Rattle.prov_store.proofs.InFile.{first_of}
@@ -24,10 +24,10 @@ pub first_file_whole : (k last : ℕ) (files : Files) (events : List Event) → 
 first_file_whole zero last files events is some there = absurd (omega (arith, some))
 first_file_whole (suc k) last files events is some there =
     let f = first_file k last 0 files events is in
-    first_whole (count_in last 0) (events_file 0) 0 (first_in 0) (files (events_file 0)) f.here f.first (omega (arith, there))
+    first_whole (count_in last 0) (events_file 0) 0 (first_event 0) (files (events_file 0)) f.here f.first (omega (arith, there))
 
 -- where a whole block stands behind events that are read, a whole one stands where they begin
-pub whole_before : (tells : Bool) (files : Files) (start : Cursor) (i : ℕ) (events : List Event) (cursor : Cursor) → AreRead tells files start i events cursor.at
+pub whole_before : (tells : Bool) (files : Files) (start : Cursor) (i : ℕ) (events : List Event) (cursor : Cursor) → AreReadEvents tells files start i events cursor.at
     → cursor ≡ record start { at = cursor.at; number = start.number + i } → IsTrue tells → HasWhole (reading_of (drop cursor.at (files cursor.file)))
     → HasWhole (reading_of (bytes_there files start))
 whole_before tells files start i events cursor read is told whole = elim (cases_lt 0 i) [

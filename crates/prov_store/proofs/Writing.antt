@@ -7,7 +7,7 @@ use Rattle.std.proofs.lemmas.List.Elements.{All-take, All-drop}
 use Rattle.std.proofs.lemmas.List.FromFn.{get_or-range_with_len}
 use Rattle.disk_trait.specs.Files.{Files, At, Overwritten}
 use Rattle.flowfile_record.specs.declared.event.Event.{Event}
-use Rattle.prov_store.specs.Blocks.{blocks_of, AreParts, AreEncoded, next_offset}
+use Rattle.prov_store.specs.Blocks.{blocks_of, AreEventParts, AreEncoded, next_offset}
 use Rattle.prov_store.specs.Events.{events_file}
 use Rattle.prov_store.specs.Growing.{Stands}
 use Rattle.prov_store.specs.State.{HasBlock, AreNumberedFrom}
@@ -40,7 +40,7 @@ pub record AtPart (begun first : ℕ) (events : List Event) (bytes : List ℕ) (
   pub fits : start + part.size ≤ length bytes
   pub bytes_are : take part.size (drop start bytes) ≡ blocks_of (take part.count (drop (last - begun) events))
   pub begins : start + part.size ≡ length (blocks_of (take (last + part.count - begun) events))
-  pub parts_left : AreParts (last + part.count) (drop (i + 1) parts) (drop (last + part.count - begun) events)
+  pub parts_left : AreEventParts (last + part.count) (drop (i + 1) parts) (drop (last + part.count - begun) events)
   pub long : length (take part.count (drop (last - begun) events)) ≡ part.count
   pub room : last % EVENTS_PER_FILE + part.count ≤ EVENTS_PER_FILE
   pub have : All HasBlock (take part.count (drop (last - begun) events))
@@ -49,7 +49,7 @@ pub record AtPart (begun first : ℕ) (events : List Event) (bytes : List ℕ) (
 
 pub at_part : (begun first : ℕ) (events : List Event) (bytes : List ℕ) (known : List Part) (last start i : ℕ) (parts : List Part) (d : Part)
     → AreEncoded first events bytes known → first ≡ begun + 1 → i < length parts → begun ≤ last → last - begun ≤ length events
-    → start ≡ length (blocks_of (take (last - begun) events)) → AreParts last (drop i parts) (drop (last - begun) events)
+    → start ≡ length (blocks_of (take (last - begun) events)) → AreEventParts last (drop i parts) (drop (last - begun) events)
     → AtPart begun first events bytes last start i parts (get_or parts i d)
 at_part begun first events bytes known last start i parts d enc next lt reached there begins are =
     let n = last - begun in
@@ -69,7 +69,7 @@ at_part begun first events bytes known last start i parts d enc next lt reached 
       fits = of.fits;
       bytes_are = of.is;
       begins = of.reaches ∙ ap (λ (k : ℕ). length (blocks_of (take k events))) (sym sum);
-      parts_left = subst (AreParts (last + p.count) (drop (i + 1) parts)) (drop-drop p.count n events ∙ ap (λ (k : ℕ). drop k events) (sym sum)) both.1;
+      parts_left = subst (AreEventParts (last + p.count) (drop (i + 1) parts)) (drop-drop p.count n events ∙ ap (λ (k : ℕ). drop k events) (sym sum)) both.1;
       long = length-take-le p.count (drop n events) one.there;
       room = one.fits;
       have = All-take HasBlock p.count (drop n events) (All-drop HasBlock n events enc.have);

@@ -11,7 +11,7 @@ abbrev pub blocks_of : List Event → List ℕ
 blocks_of events = flat_map event_block events
 
 -- the first of some events that are added behind a last one, as many as its file takes
-pub record IsPart (last : ℕ) (part : Part) (events : List Event) : Type 0 where
+pub record IsEventPart (last : ℕ) (part : Part) (events : List Event) : Type 0 where
   pub some : 0 < part.count
   pub there : part.count ≤ length events
   pub fits : last % EVENTS_PER_FILE + part.count ≤ EVENTS_PER_FILE
@@ -19,10 +19,10 @@ pub record IsPart (last : ℕ) (part : Part) (events : List Event) : Type 0 wher
   pub size : part.size ≡ length (blocks_of (take part.count events))
 
 -- events that are added behind a last one, part by part
-abbrev pub AreParts : (last : ℕ) → List Part → List Event → Type 0
-AreParts last [] events = events ≡ []
-AreParts last (part ∷ parts) events =
-    IsPart last part events × AreParts (last + part.count) parts (drop part.count events)
+abbrev pub AreEventParts : (last : ℕ) → List Part → List Event → Type 0
+AreEventParts last [] events = events ≡ []
+AreEventParts last (part ∷ parts) events =
+    IsEventPart last part events × AreEventParts (last + part.count) parts (drop part.count events)
 
 -- what is known of events with their blocks
 pub record AreEncoded (first : ℕ) (events : List Event) (bytes : List ℕ) (parts : List Part) : Type 0 where
@@ -30,7 +30,7 @@ pub record AreEncoded (first : ℕ) (events : List Event) (bytes : List ℕ) (pa
   pub numbered : AreNumberedFrom first events
   pub have : All HasBlock events
   pub encoded : bytes ≡ blocks_of events
-  pub parted : AreParts (first - 1) parts events
+  pub parted : AreEventParts (first - 1) parts events
 
 -- where the next event goes in its file, once these bytes stand there
 abbrev pub next_offset : (last size : ℕ) → ℕ

@@ -5,11 +5,11 @@ use Rattle.disk_trait.specs.declared.file_name.DiskError.TheVariants.{Failed}
 use Rattle.prov_store.specs.declared.error.EventsError.{EventsError}
 use Rattle.prov_store.specs.declared.error.EventsError.TheVariants.{Disk, Memory, Damaged}
 
-abbrev pub of_disk : DiskError → EventsError
-of_disk Failed = Disk
-of_disk DiskError.Memory = Memory
+abbrev pub disk_events_error : DiskError → EventsError
+disk_events_error Failed = Disk
+disk_events_error DiskError.Memory = Memory
 
-abbrev pub of_block : BlockError → EventsError
-of_block BlockError.Disk = Disk
-of_block BlockError.Memory = Memory
-of_block (BlockError.Damaged damage) = Damaged damage
+abbrev pub block_events_error : BlockError → EventsError
+block_events_error BlockError.Disk = Disk
+block_events_error BlockError.Memory = Memory
+block_events_error (BlockError.Damaged damage) = Damaged damage

@@ -22,8 +22,8 @@ abbrev pub count_in : (last k : ℕ) → ℕ
 count_in last k = min EVENTS_PER_FILE (last - EVENTS_PER_FILE * k)
 
 -- the number of the first event of the file of this number
-abbrev pub first_in : (k : ℕ) → ℕ
-first_in k = EVENTS_PER_FILE * k + 1
+abbrev pub first_event : (k : ℕ) → ℕ
+first_event k = EVENTS_PER_FILE * k + 1
 
 -- what comes next is read behind this, unless this is damaged
 infixl 10 ◌>>=◌
@@ -65,7 +65,7 @@ events_from (suc count) file at number bytes = do
 
 -- those of the file of this number, up to a last one
 abbrev pub events_of_file : (last k : ℕ) → Files → Result (List Event) Damage
-events_of_file last k files = events_from (count_in last k) (events_file k) 0 (first_in k) (files (events_file k))
+events_of_file last k files = events_from (count_in last k) (events_file k) 0 (first_event k) (files (events_file k))
 
 -- ---- the events of all files
 
@@ -97,5 +97,5 @@ unfoldable pub covered_size : (last k : ℕ) → Files → ℕ
 covered_size last k files = blocks_size (count_in last k) (files (events_file k))
 
 -- their bytes
-abbrev pub covered : (last k : ℕ) → Files → List ℕ
-covered last k files = take (covered_size last k files) (files (events_file k))
+abbrev pub covered_bytes : (last k : ℕ) → Files → List ℕ
+covered_bytes last k files = take (covered_size last k files) (files (events_file k))

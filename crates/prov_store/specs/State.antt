@@ -9,7 +9,7 @@ use Rattle.flowfile_record.specs.Events.{code_of}
 use Rattle.flowfile_record.specs.declared.event.Event.{Event}
 use Rattle.prov_event.specs.Encoding.{event, IsEvent}
 use Rattle.prov_event.specs.declared.TheConstants.{EVENT_KIND}
-use Rattle.prov_store.specs.Events.{events_file, events_in, covered, covered_size}
+use Rattle.prov_store.specs.Events.{events_file, events_in, covered_bytes, covered_size}
 use Rattle.flowfile_record.specs.declared.limits.TheConstants.{EVENTS_PER_FILE}
 use Rattle.prov_store.specs.declared.events.Stale.{Stale}
 use Rattle.record_codec.specs.Block.{block}
@@ -31,12 +31,12 @@ abbrev pub AreNumberedFrom : (first : ℕ) → List Event → Type 0
 AreNumberedFrom first events = map (λ e. e.number) events ≡ range_with_len first (length events)
 
 -- how many of the events are of the kind of this code
-abbrev pub of_code : (code : ℕ) → List Event → ℕ
-of_code code events = length (filter (λ e. code_of e.kind == code) events)
+abbrev pub count_of_code : (code : ℕ) → List Event → ℕ
+count_of_code code events = length (filter (λ e. code_of e.kind == code) events)
 
 -- how many of the events are of each kind, by its code less 1
 unfoldable pub counts_of : List Event → List ℕ
-counts_of events = map (λ code. of_code code events) (range_with_len 1 12)
+counts_of events = map (λ code. count_of_code code events) (range_with_len 1 12)
 
 -- ---- in memory
 
@@ -68,7 +68,7 @@ pub record HasEvents (state : EventsState) (files : Files) : Type 0 where
 pub record HasStale (state : EventsState) (files : Files) : Type 0 where
   pub sizes : All (λ s. s.size ≡ covered_size state.end s.file files) state.stale
   pub others : (k : ℕ) → (Contains (map (λ s. s.file) state.stale) k → ⊥)
-      → files (events_file k) ≡ covered state.end k files
+      → files (events_file k) ≡ covered_bytes state.end k files
 
 -- files are listed once each, ascending, and each is longer than its size in the list
 pub record AreLonger (tells : Bool) (files : Files) (stale : List Stale) : Type 0 where
@@ -77,10 +77,10 @@ pub record AreLonger (tells : Bool) (files : Files) (stale : List Stale) : Type 
 
 -- nothing stands behind the covered end
 abbrev pub IsTrimmed : (last : ℕ) → Files → Type 0
-IsTrimmed last files = (k : ℕ) → files (events_file k) ≡ covered last k files
+IsTrimmed last files = (k : ℕ) → files (events_file k) ≡ covered_bytes last k files
 
 -- the files have the events that are known, and nothing behind them
-pub record IsReady (state : EventsState) (files : Files) : Type 0 where
+pub record EventsAreReady (state : EventsState) (files : Files) : Type 0 where
   pub has : HasEvents state files
   pub trimmed : IsTrimmed state.end files
 
@@ -88,7 +88,7 @@ pub record IsReady (state : EventsState) (files : Files) : Type 0 where
 
 -- the bytes of the events up to a last one stay
 abbrev pub SameEvents : (last : ℕ) (old new : Files) → Type 0
-SameEvents last old new = (k : ℕ) → covered last k new ≡ covered last k old
+SameEvents last old new = (k : ℕ) → covered_bytes last k new ≡ covered_bytes last k old
 
 -- and each file of another kind is as it was
 pub record KeepsEvents (last : ℕ) (old new : Files) : Type 0 where
@@ -120,9 +120,9 @@ pub record ChangesBy {D : Type 0} (tells : Bool) (held : D → Files) (moment : 
 -- the counts of some more events
 abbrev pub AreCounted : List Event → (old new : List ℕ) → Type 0
 AreCounted events old new = (code : ℕ) → 1 ≤ code → code ≤ 12
-    → slice_index new (code - 1) ≡ slice_index old (code - 1) + of_code code events
+    → slice_index new (code - 1) ≡ slice_index old (code - 1) + count_of_code code events
 
-pub record IsAppended (events : List Event) (old new : EventsState) : Type 0 where
+pub record EventsAreAppended (events : List Event) (old new : EventsState) : Type 0 where
   pub end : new.end ≡ old.end + length events
   pub counts : AreCounted events old.counts new.counts
   pub stale : new.stale ≡ old.stale
@@ -156,14 +156,14 @@ pub record IsFoundOn (tells : Bool) (files : Files) (last : ℕ) (state : Events
 -- The events are known and stand in the files with nothing behind them, by one write for each file that got some.
 pub record HasAppended {D : Type 0} (tells : Bool) (held : D → Files) (moment : D → ℕ) (events : List Event)
     (s_old s_new : EventsState) (old new : D) : Type 0 where
-  pub ready : IsTrue tells → IsReady s_new (held new)
-  pub state : IsAppended events s_old s_new
+  pub ready : IsTrue tells → EventsAreReady s_new (held new)
+  pub state : EventsAreAppended events s_old s_new
   pub writes : moment new ≡ calls_later (files_for s_old.end (length events)) (moment old)
 
 -- Nothing stands behind the last event any more, by one cut for each file that was longer.
 pub record HasTrimmed {D : Type 0} (tells : Bool) (held : D → Files) (moment : D → ℕ) (s_old s_new : EventsState)
     (old new : D) : Type 0 where
-  pub ready : IsTrue tells → IsReady s_new (held new)
+  pub ready : IsTrue tells → EventsAreReady s_new (held new)
   pub state : s_new ≡ record s_old { stale = [] }
   pub cuts : moment new ≡ calls_later (length s_old.stale) (moment old)
 

@@ -7,7 +7,7 @@ ghost use Rattle.flowfile_record.specs.declared.event.Event.{Event as TheEvent};
 ghost use Rattle.prov_store.specs.Blocks.{next_offset};
 ghost use Rattle.prov_store.specs.Events.{events_file, events_in};
 ghost use Rattle.prov_store.specs.Growing.{Stands};
-ghost use Rattle.prov_store.specs.State.{IsReady, GrowsBehind, ChangesBy, HasAppended, HasRefused, HasCalled, files_for, calls_later, next_file};
+ghost use Rattle.prov_store.specs.State.{EventsAreReady, GrowsBehind, ChangesBy, HasAppended, HasRefused, HasCalled, files_for, calls_later, next_file};
 
 use crate::blocks::Part;
 use crate::counts::count_all;
@@ -27,7 +27,7 @@ impl Events {
     /// Writes events behind the last one, by one write for each file that gets some. It takes no memory.
     pub fn append<D: Disk>(&mut self, disk: &mut D, blocks: &EventBlocks<'_>) -> Result<(), Failed>
         requires next { blocks.now.first ≡ self.old.end + 1 }
-        requires ready { IsTrue D.tells → IsReady self.old (D.held disk.old) }
+        requires ready { IsTrue D.tells → EventsAreReady self.old (D.held disk.old) }
         ensures added { OnOk result (IsTrue D.tells → (before : List TheEvent)
             → events_in (D.held disk.old) self.old.end ≡ Ok before
             → events_in (D.held disk.new) self.new.end ≡ Ok (before ++ blocks.now.events)) }

@@ -1,6 +1,6 @@
 //! Why a call gave no answer.
 ghost use Rattle.std.specs.Prelude.{◌≡◌};
-ghost use Rattle.prov_store.specs.Errors.{of_disk, of_block};
+ghost use Rattle.prov_store.specs.Errors.{disk_events_error, block_events_error};
 ghost use Rattle.prov_store.specs.declared.error.EventsError.TheVariants.{Disk, Memory};
 
 use block_file::BlockError;
@@ -36,7 +36,7 @@ impl From<AllocError> for EventsError {
 }
 
 impl From<DiskError> for EventsError {
-    ghost from_gives = { λ cause error. error ≡ of_disk cause };
+    ghost from_gives = { λ cause error. error ≡ disk_events_error cause };
 
     fn from(cause: DiskError) -> EventsError {
         match cause {
@@ -47,7 +47,7 @@ impl From<DiskError> for EventsError {
 }
 
 impl From<BlockError> for EventsError {
-    ghost from_gives = { λ cause error. error ≡ of_block cause };
+    ghost from_gives = { λ cause error. error ≡ block_events_error cause };
 
     fn from(cause: BlockError) -> EventsError {
         match cause {

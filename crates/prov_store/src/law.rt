@@ -5,7 +5,7 @@ ghost use Rattle.flowfile_record.specs.Field.{IsBytes};
 ghost use Rattle.flowfile_record.specs.declared.event.Event.{Event};
 ghost use Rattle.prov_event.specs.Encoding.{IsEvent};
 ghost use Rattle.prov_store.specs.Events.{events_file, events_in, covered_size};
-ghost use Rattle.prov_store.specs.State.{EventsState, AreNumberedFrom, HasEvents, IsReady, SameEvents, KeepsEvents, GrowsBehind, CutsStale};
+ghost use Rattle.prov_store.specs.State.{EventsState, AreNumberedFrom, HasEvents, EventsAreReady, SameEvents, KeepsEvents, GrowsBehind, CutsStale};
 
 /// Files that have the same bytes of the events up to a last one have the same events, and what calls leave has.
 pub fn covered_events_stay()
@@ -14,7 +14,7 @@ pub fn covered_events_stay()
     ensures has { (state : EventsState) (old new : Files) → SameEvents state.end old new → HasEvents state old
         → HasEvents state new }
     ensures ready { (state : EventsState) (old new : Files) → ((k : ℕ) → new (events_file k) ≡ old (events_file k))
-        → IsReady state old → IsReady state new }
+        → EventsAreReady state old → EventsAreReady state new }
     ensures grows { (state : EventsState) (old new : Files) → HasEvents state old → GrowsBehind state old new
         → KeepsEvents state.end old new }
     ensures cuts { (state : EventsState) (old new : Files) → HasEvents state old

@@ -4,7 +4,7 @@ ghost use Rattle.disk_trait.specs.Images.{Stays};
 ghost use Rattle.disk_trait.specs.Faults.{CountsFaults};
 ghost use Rattle.disk_trait.specs.declared.damage.Damage.{Damage as TheDamage};
 ghost use Rattle.flowfile_record.specs.declared.event.Event.{Event as TheEvent};
-ghost use Rattle.prov_event.specs.EventReading.{takes_memory};
+ghost use Rattle.prov_event.specs.EventReading.{event_takes_memory};
 ghost use Rattle.record_codec.specs.Block.{reading_of};
 ghost use Rattle.prov_store.specs.Events.{events_file, event_in, event_by};
 ghost use Rattle.prov_store.specs.Reading.{event_there, HasWhole, IsThere};
@@ -77,7 +77,7 @@ fn event_of(alloc: Global, cursor: Cursor, kind: u8, payload: &[u8]) -> Result<E
     ensures number { IfOk result (λ event. event.number ≡ cursor.number) }
     ensures damaged { (damage : TheDamage) → IsErrOf result (EventsError.Damaged damage)
         → (damage ≡ TheDamage.Form cursor.file cursor.at) × (event_in cursor.number kind payload.now ≡ None) }
-    ensures memory { IsErrOf result EventsError.Memory → (kind ≡ EVENT_KIND) × IsTrue (takes_memory payload.now) }
+    ensures memory { IsErrOf result EventsError.Memory → (kind ≡ EVENT_KIND) × IsTrue (event_takes_memory payload.now) }
     ensures kinds { IsErrOf result EventsError.Disk → ⊥ }
 {
     let damaged = EventsError::Damaged(Damage::Form {

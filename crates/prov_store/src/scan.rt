@@ -4,7 +4,7 @@ ghost use Rattle.disk_trait.specs.Images.{Stays};
 ghost use Rattle.disk_trait.specs.Faults.{CountsFaults};
 ghost use Rattle.disk_trait.specs.declared.damage.Damage.{Damage as TheDamage};
 ghost use Rattle.flowfile_record.specs.declared.event.Event.{Event as TheEvent};
-ghost use Rattle.prov_store.specs.Events.{events_from, events_of_file, events_in, first_in};
+ghost use Rattle.prov_store.specs.Events.{events_from, events_of_file, events_in, first_event};
 ghost use Rattle.prov_store.specs.Loading.{bytes_there};
 ghost use Rattle.prov_store.specs.Reading.{IsThere};
 ghost use Rattle.prov_store.specs.Scanning.{is_within, HasBetween, HasRead, HasSkipped, MayScan, SameScan, numbers_between};
@@ -104,7 +104,8 @@ impl Scan {
             → self.new.found.items ≡ self.old.found.items ++ filter (is_within self.old.first self.old.last) here) }
         ensures numbered { OnOk result (map (λ e. e.number) self.new.found.items
             ≡ map (λ e. e.number) self.old.found.items
-            ++ numbers_between (max self.old.first (first_in number)) (min self.old.last (first_in (number + 1) - 1))) }
+            ++ numbers_between (max self.old.first (first_event number))
+            (min self.old.last (first_event (number + 1) - 1))) }
         ensures same { SameScan self.old self.new }
         ensures undamaged { (damage : TheDamage) → IsErrOf result (EventsError.Damaged damage) → IsTrue D.tells
             → (here : List TheEvent) → events_of_file self.old.end number (D.held disk.old) ≡ Ok here → ⊥ }

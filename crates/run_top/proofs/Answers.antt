@@ -10,7 +10,7 @@ use Rattle.flow_run.specs.declared.ended.Fault.{Fault}
 use Rattle.flow_run.specs.declared.ended.Fault.TheVariants as fault
 use Rattle.run_top.specs.Opening.{IsOfStore}
 use Rattle.run_top.specs.Run.{IsOfRun}
-use Rattle.run_top.specs.Status.{answer_of_end, answer_of_fault, error_of}
+use Rattle.run_top.specs.Status.{answer_of_end, answer_of_fault, answer_of_opening}
 use Rattle.run_top.specs.Text.{IsOfText}
 use Rattle.run_top.specs.declared.answer.Answer.{Answer}
 use Rattle.run_top.specs.declared.answer.Answer.TheVariants.{Refused, OtherFlow, Damaged, Disk, Inbox, Outbox, Source, Sink, Limit, Memory}
@@ -31,7 +31,7 @@ same_place rule other place elsewhere is = cc
 
 -- ---- why a store wasn't opened
 
-pub of_store : (e : StoreError) → IsOfStore (error_of e)
+pub of_store : (e : StoreError) → IsOfStore (answer_of_opening e)
 of_store StoreError.Disk = tt
 of_store StoreError.MustReopen = tt
 of_store StoreError.Memory = tt

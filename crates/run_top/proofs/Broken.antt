@@ -45,17 +45,17 @@ use Rattle.flow_definition.specs.declared.processor_type.ReplaceStrategy.TheVari
 use Rattle.flow_definition.specs.declared.rule.Rule.{Rule}
 use Rattle.flow_definition.specs.declared.rule.Rule.TheVariants.{UnknownType, BadPattern, BadExpression, TooMany, PatternTooBig}
 use Rattle.flow_definition.specs.Building.{IsPattern, pattern_text}
-use Rattle.flow_definition.specs.Looks.{hold_expressions, hold_patterns, items_at, own_in, own_texts_in, properties_in, property_text, type_of}
-use Rattle.flow_definition.specs.Made.{AreMade, IsExpression, IsFirstUnread, IsNoExpression, IsRefusal, first_refused}
+use Rattle.flow_definition.specs.Looks.{hold_expressions, hold_patterns, list_items_at, own_in, own_texts_in, properties_in, property_text, type_of}
+use Rattle.flow_definition.specs.Made.{AreMade, IsExpressionProperty, IsFirstUnread, IsNoExpression, IsCauseOfRefusal, first_refused}
 use Rattle.flow_definition.specs.OwnPatterns.{AreAttempts, AreRefused, is_read}
 use Rattle.flow_definition.specs.Patterns.{IsUnread}
 use Rattle.flow_definition.specs.Reading.{AreOwnOf, AreProcessorsOf, IsKindOf, IsProcessorOf, IsReplacementOf, is_whole_in, own_patterns, patterns_in, patterns_of, replace_strategy_in}
 use Rattle.flow_definition.specs.Rules.{Path}
-use Rattle.flow_definition.specs.Types.{own_of, properties_of}
+use Rattle.flow_definition.specs.Types.{own_of_type, properties_of}
 use Rattle.flow_definition.specs.Verdict.{Accepts, IsAnswer, IsAnswerBehind, IsAnswerOf, IsAnswerTo, IsSettled, Refuses, first_behind, object_in, refused}
-use Rattle.flow_definition.specs.Walk.{first_of, last_rules}
+use Rattle.flow_definition.specs.Walk.{first_broken, last_rules}
 use Rattle.flow_definition.proofs.Passed.{none_or}
-use Rattle.run_top.specs.Text.{IsBroken}
+use Rattle.run_top.specs.Text.{BreaksRule}
 use Rattle.run_top.proofs.Texts.{IsAccepted, accepted, is_whole}
 
 -- ---- a pattern that was read isn't unread
@@ -209,7 +209,7 @@ pattern_read d k SegmentSize is one unread = absurd one.1
 pattern_read d k StartOffset is one unread = absurd one.1
 pattern_read d k EndOffset is one unread = absurd one.1
 
-expression_read : (d : Data) (k : Kind) (property : Property) → IsKindOf d k → IsExpression d property → IsNoExpression (property_text property d) → ⊥
+expression_read : (d : Data) (k : Kind) (property : Property) → IsKindOf d k → IsExpressionProperty d property → IsNoExpression (property_text property d) → ⊥
 expression_read d k FileFilter is one none = let form = one.1 in absurd (cc)
 expression_read d k Count is one none = let form = one.1 in absurd (cc)
 expression_read d k CustomText is one none = text_read d k is one.0 none
@@ -241,13 +241,13 @@ own_is_read texts list name all first =
     own_read first.before first.behind name first.text list (subst (λ (ts : List (List ℕ × List ℕ)). AreOwnOf ts list) first.place all) first.unread
 
 -- own properties are of one sort
-own_by : (d : Data) (t : ProcessorType) → type_of d ≡ Some t → own_in d ≡ own_of t
-own_by d t is = ap (λ (o : Option ProcessorType). option_map_or own_of o own.Nothing) is
+own_by : (d : Data) (t : ProcessorType) → type_of d ≡ Some t → own_in d ≡ own_of_type t
+own_by d t is = ap (λ (o : Option ProcessorType). option_map_or own_of_type o own.Nothing) is
 
-no_expressions : (d : Data) (t : ProcessorType) → type_of d ≡ Some t → hold_expressions (own_of t) ≡ false → hold_expressions (own_in d) ≡ true → ⊥
+no_expressions : (d : Data) (t : ProcessorType) → type_of d ≡ Some t → hold_expressions (own_of_type t) ≡ false → hold_expressions (own_in d) ≡ true → ⊥
 no_expressions d t is none held = true≢false (sym held ∙ ap (λ (o : Own). hold_expressions o) (own_by d t is) ∙ none)
 
-no_patterns : (d : Data) (t : ProcessorType) → type_of d ≡ Some t → hold_patterns (own_of t) ≡ false → hold_patterns (own_in d) ≡ true → ⊥
+no_patterns : (d : Data) (t : ProcessorType) → type_of d ≡ Some t → hold_patterns (own_of_type t) ≡ false → hold_patterns (own_in d) ≡ true → ⊥
 no_patterns d t is none held = true≢false (sym held ∙ ap (λ (o : Own). hold_patterns o) (own_by d t is) ∙ none)
 
 own_texts_read : (d : Data) (k : Kind) (name : List ℕ) → IsKindOf d k → hold_expressions (own_in d) ≡ true → IsFirstUnread (own_texts_in d) name → ⊥
@@ -309,7 +309,7 @@ own_patterns_read d (kind.MergeContent strategy minimum maximum) attempts is hel
 own_patterns_read d (kind.SegmentContent size) attempts is held refused = no_patterns d type.SegmentContent is.0 refl held
 own_patterns_read d (kind.ModifyBytes start end) attempts is held refused = no_patterns d type.ModifyBytes is.0 refl held
 
-no_refusal : (d : Data) (p : Processor) (r : Refusal) → IsProcessorOf d p → IsRefusal ⊥ d r → ⊥
+no_refusal : (d : Data) (p : Processor) (r : Refusal) → IsProcessorOf d p → IsCauseOfRefusal ⊥ d r → ⊥
 no_refusal d p NoType is why = let some = (typed d p.kind is.kind).1 in absurd (cc (why, some))
 no_refusal d p (Unread property) is why = pattern_read d p.kind property is.kind why.0 why.1
 no_refusal d p (TooBig property) is why = why.1
@@ -329,17 +329,17 @@ none_refused rule k (d ∷ ds) (p ∷ ps) (made.Refused r ∷ ms) each all = abs
 -- ---- so no rule is broken
 
 module _ (R : Type 0) (bytes : List ℕ) (flow : Flow) (is : IsAccepted R bytes flow) where
-  last : first_of last_rules is.top ≡ None
+  last : first_broken last_rules is.top ≡ None
   last =
       let types = none_or (refused UnknownType is.made) _ is.behind in
       let patterns = none_or (refused BadPattern is.made) _ types.1 in
       let expressions = none_or (refused BadExpression is.made) _ patterns.1 in
-      (none_or (first_of last_rules is.top) _ expressions.1).0
+      (none_or (first_broken last_rules is.top) _ expressions.1).0
 
-  none_of : (rule : Rule) (ms : List Made) → AreMade ⊥ (items_at Processors is.top) ms → refused rule ms ≡ None
-  none_of rule ms all = ap (option_map (λ (path : Path). (rule, path))) (none_refused rule 0 (items_at Processors is.top) flow.processors ms is.is.processors all)
+  none_of : (rule : Rule) (ms : List Made) → AreMade ⊥ (list_items_at Processors is.top) ms → refused rule ms ≡ None
+  none_of rule ms all = ap (option_map (λ (path : Path). (rule, path))) (none_refused rule 0 (list_items_at Processors is.top) flow.processors ms is.is.processors all)
 
-  none_behind : (ms : List Made) → AreMade ⊥ (items_at Processors is.top) ms → first_behind is.top ms ≡ None
+  none_behind : (ms : List Made) → AreMade ⊥ (list_items_at Processors is.top) ms → first_behind is.top ms ≡ None
   none_behind ms all =
       let a = none_of UnknownType ms all in
       let b = none_of BadPattern ms all in
@@ -359,7 +359,7 @@ module _ (R : Type 0) (bytes : List ℕ) (flow : Flow) (is : IsAccepted R bytes 
       subst (λ (o : Option (Rule × Path)). MatchOption o (Accepts bytes is.top (Err (error.Rule rule place))) (λ broken. Refuses broken (Err (error.Rule rule place))))
       (none_behind behind.0 behind.1) behind.2
 
-pub not_broken : (R : Type 0) (tells : Bool) (rest bytes : List ℕ) (flow : Flow) → (IsTrue tells → bytes ≡ take (TEXT_MAX + 1) rest) → IsAnswer R bytes (Ok flow) → IsTrue tells → IsBroken rest → ⊥
+pub not_broken : (R : Type 0) (tells : Bool) (rest bytes : List ℕ) (flow : Flow) → (IsTrue tells → bytes ≡ take (TEXT_MAX + 1) rest) → IsAnswer R bytes (Ok flow) → IsTrue tells → BreaksRule rest → ⊥
 not_broken R tells rest bytes flow front answer told broken =
     let accept = accepted R bytes flow answer in
     contradicts R bytes flow accept broken.rule broken.place

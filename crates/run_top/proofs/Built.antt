@@ -16,7 +16,7 @@ use Rattle.disk_trait.specs.Files.{Files}
 use Rattle.engine_core.specs.Committing.{identity_of}
 use Rattle.engine_session.specs.Working.{is_built}
 use Rattle.flow_definition.specs.declared.field.Field.TheVariants.{Processors}
-use Rattle.flow_definition.specs.Looks.{items_at}
+use Rattle.flow_definition.specs.Looks.{list_items_at}
 use Rattle.flow_definition.specs.Reading.{AreProcessorsOf, IsFlowOf, IsKindOf}
 use Rattle.flow_definition.proofs.Ends.{processors_length}
 use Rattle.store_core.specs.Flow as store
@@ -51,7 +51,7 @@ built_all (d ∷ ds) [] each = absurd each
 built_all (d ∷ ds) (p ∷ ps) each = All-cons (λ (processor : Processor). IsTrue (is_built processor.kind)) p ps (built_one d p.kind each.0.kind) (built_all ds ps each.1)
 
 pub are_built : (bytes : List ℕ) (flow : Flow) → IsFlowIn bytes flow → AreBuilt flow
-are_built bytes flow read = built_all (items_at Processors read.top) flow.processors read.is.processors
+are_built bytes flow read = built_all (list_items_at Processors read.top) flow.processors read.is.processors
 
 pub has_digest : (bytes : List ℕ) (flow : Flow) → IsFlowIn bytes flow → IsDigest flow.digest
 has_digest bytes flow read = subst (λ (digest : List ℕ). IsDigest digest) (sym read.is.digest) (length-sha256 bytes)
@@ -69,8 +69,8 @@ module _ (bytes : List ℕ) (a b : Flow) (one : IsFlowIn bytes a) (other : IsFlo
   same_identity =
       let connections : a.connections ≡ b.connections = same_top.connections ∙ sym other.is.connections in
       let count : length a.processors ≡ length b.processors =
-      processors_length (items_at Processors other.top) a.processors same_top.processors
-      ∙ sym (processors_length (items_at Processors other.top) b.processors other.is.processors)
+      processors_length (list_items_at Processors other.top) a.processors same_top.processors
+      ∙ sym (processors_length (list_items_at Processors other.top) b.processors other.is.processors)
       in
       λ i. record { digest = same_digest i; connections = map (λ (c : Connection). c.id) (connections i); processors = count i }
 

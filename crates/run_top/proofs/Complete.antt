@@ -20,17 +20,17 @@ use Rattle.flow_definition.specs.declared.own_patterns.Attempt.{Attempt}
 use Rattle.flow_definition.specs.declared.own_patterns.Attempt.TheVariants as attempt
 use Rattle.flow_definition.specs.declared.rule.Rule.{Rule}
 use Rattle.flow_definition.specs.declared.rule.Rule.TheVariants.{TooMany}
-use Rattle.flow_definition.specs.Looks.{items_at}
-use Rattle.flow_definition.specs.Made.{AreMade, IsMade, IsRefusal}
+use Rattle.flow_definition.specs.Looks.{list_items_at}
+use Rattle.flow_definition.specs.Made.{AreMade, IsMade, IsCauseOfRefusal}
 use Rattle.flow_definition.specs.OwnPatterns.{AreAttempts}
 use Rattle.flow_definition.specs.Patterns.{HasRisen, Told}
 use Rattle.flow_definition.specs.Rules.{Path}
 use Rattle.flow_definition.specs.Verdict.{IsAnswer, IsAnswerBehind, IsAnswerTo, Refuses, object_in}
-use Rattle.flow_definition.specs.Walk.{first_of, first_rules}
+use Rattle.flow_definition.specs.Walk.{first_broken, first_rules}
 use Rattle.run_top.specs.Complete.{IsEndOrMemory, StandsStill}
 use Rattle.run_top.specs.Opening.{IsOfFlow, IsShutAnswer}
-use Rattle.run_top.specs.Run.{HasCause}
-use Rattle.run_top.specs.Text.{IsBroken, IsFlowIn, IsOfText, IsRead, IsRefused}
+use Rattle.run_top.specs.Run.{AnswerHasCause}
+use Rattle.run_top.specs.Text.{BreaksRule, IsFlowIn, IsOfText, IsReadFlow, TextIsRefused}
 use Rattle.run_top.specs.declared.answer.Answer.{Answer}
 use Rattle.run_top.specs.declared.answer.Answer.TheVariants.{Done, Usage, Refused, OtherFlow, Damaged, Disk, Inbox, Outbox, Source, Sink, Blocked, Limit, Memory, Absent}
 use Rattle.run_top.proofs.Built.{of_flow}
@@ -52,7 +52,7 @@ not_other flow lot files state of digest other =
     other.other (sym other.is ∙ ap (λ kept. kept.flow) one ∙ of.is)
 
 module _ {D I O : Type 0} (flow : Flow) (tells : Bool) (held : D → Files) (moment : D → ℕ) (images : D → ℕ → Files → Type 0) (lot most : ℕ) (old new : D) (inbox_old inbox_new : I) (outbox_old outbox_new : O) where
-  pub run_completes : (a : Answer) → HasCause flow a tells held moment images lot most old new inbox_old inbox_new outbox_old outbox_new → IsTrue tells → (state : State) → IsOfFlow flow lot (held old) state
+  pub run_completes : (a : Answer) → AnswerHasCause flow a tells held moment images lot most old new inbox_old inbox_new outbox_old outbox_new → IsTrue tells → (state : State) → IsOfFlow flow lot (held old) state
       → (a ≡ Disk → ⊥) → (a ≡ Inbox → ⊥) → (a ≡ Outbox → ⊥) → (a ≡ Sink → ⊥) → IsEndOrMemory a
   run_completes Done why told state of disk inbox outbox sink = tt
   run_completes Usage why told state of disk inbox outbox sink = absurd why.one_of
@@ -75,7 +75,7 @@ module _ {D I O : Type 0} (flow : Flow) (tells : Bool) (held : D → Files) (mom
   run_completes Absent why told state of disk inbox outbox sink = absurd why.one_of
 
 -- so of each flow of the text
-pub of_read : (tells : Bool) (rest : List ℕ) (one other : Flow) → IsTrue tells → IsRead tells rest one → IsRead tells rest other
+pub of_read : (tells : Bool) (rest : List ℕ) (one other : Flow) → IsTrue tells → IsReadFlow tells rest one → IsReadFlow tells rest other
     → (lot : ℕ) (files : Files) (state : State) → IsOfFlow one lot files state → IsOfFlow other lot files state
 of_read tells rest one other told a b lot files state of =
     of_flow a.bytes one other a.is (subst (λ (bytes : List ℕ). IsFlowIn bytes other) (b.whole told ∙ sym (a.whole told)) b.is) lot files state of
@@ -91,7 +91,7 @@ module _ (R : Type 0) (none : R → ⊥) where
   attempts_stand whole (given ∷ more) (attempt.Unread name ∷ rest) are = (are.0, attempts_stand whole more rest are.1)
   attempts_stand whole (given ∷ more) (attempt.TooBig name ∷ rest) are = absurd (none are.0.1)
 
-  refusal_stands : (d : Data) (r : Refusal) → IsRefusal R d r → IsRefusal ⊥ d r
+  refusal_stands : (d : Data) (r : Refusal) → IsCauseOfRefusal R d r → IsCauseOfRefusal ⊥ d r
   refusal_stands d NoType is = is
   refusal_stands d (Unread property) is = is
   refusal_stands d (TooBig property) is = absurd (none is.1)
@@ -112,12 +112,12 @@ module _ (R : Type 0) (none : R → ⊥) where
   module _ (bytes : List ℕ) (rule : Rule) (place : List ℕ) where
     of_stands : (top : Data) (first : Option (Rule × Path)) → MatchOption first (IsAnswerBehind R bytes top (Err (error.Rule rule place))) (λ broken. Refuses broken (Err (error.Rule rule place)))
         → MatchOption first (IsAnswerBehind ⊥ bytes top (Err (error.Rule rule place))) (λ broken. Refuses broken (Err (error.Rule rule place)))
-    of_stands top None is = (is.0, all_stand (items_at Processors top) is.0 is.1, is.2)
+    of_stands top None is = (is.0, all_stand (list_items_at Processors top) is.0 is.1, is.2)
     of_stands top (Some broken) is = is
 
     to_stands : (object : Option Data) → IsAnswerTo R bytes object (Err (error.Rule rule place)) → IsAnswerTo ⊥ bytes object (Err (error.Rule rule place))
     to_stands None is = is
-    to_stands (Some top) is = of_stands top (first_of first_rules top) is
+    to_stands (Some top) is = of_stands top (first_broken first_rules top) is
 
     answer_stands : (large : Bool) → MatchBool large (Refuses (TooMany, []) (Err (error.Rule rule place))) (IsAnswerTo R bytes (object_in bytes) (Err (error.Rule rule place)))
         → MatchBool large (Refuses (TooMany, []) (Err (error.Rule rule place))) (IsAnswerTo ⊥ bytes (object_in bytes) (Err (error.Rule rule place)))
@@ -129,8 +129,8 @@ not_risen before now still rose = let later = rose still.1 in let same = still.0
 
 -- where no pattern was too big, a text that is refused breaks a rule
 pub text_completes : (before now : Told) (tells : Bool) (rest : List ℕ) (a : Answer) → IsOfText a
-    → ((rule : Rule) (place : List ℕ) → a ≡ Refused rule place → IsRefused before now tells rest rule place)
-    → IsTrue tells → (IsBroken rest → ⊥) → StandsStill before.count now.count → (a ≡ Source → ⊥) → IsEndOrMemory a
+    → ((rule : Rule) (place : List ℕ) → a ≡ Refused rule place → TextIsRefused before now tells rest rule place)
+    → IsTrue tells → (BreaksRule rest → ⊥) → StandsStill before.count now.count → (a ≡ Source → ⊥) → IsEndOrMemory a
 text_completes before now tells rest Source kinds refused told whole still source = absurd (source refl)
 text_completes before now tells rest Memory kinds refused told whole still source = tt
 text_completes before now tells rest (Refused rule place) kinds refused told whole still source =

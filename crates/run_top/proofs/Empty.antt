@@ -23,13 +23,13 @@ use Rattle.store_core.proofs.EventsStay.{no_event}
 use Rattle.store_core.proofs.Making.{kept_unmade}
 use Rattle.engine_core.specs.Committing.{identity_of}
 use Rattle.run_top.specs.Opening.{IsOfFlow}
-use Rattle.run_top.specs.Trial.{no_files}
+use Rattle.run_top.specs.Trial.{no_disk_files}
 
-no_log : current_number no_files ≡ None
+no_log : current_number no_disk_files ≡ None
 unfolding current_number
-no_log = greatest_none (λ n. counts (no_files (named Log n))) (2 ^ 64) (λ m lt. refl)
+no_log = greatest_none (λ n. counts (no_disk_files (named Log n))) (2 ^ 64) (λ m lt. refl)
 
-unmade : IsUnmade no_files
+unmade : IsUnmade no_disk_files
 unmade = record {
   log = no_log;
   logs = λ n up lt. refl;
@@ -66,14 +66,14 @@ state_is contents flow lot =
     } in
     λ i. made (queues_are contents 0 flow.connections i) (counts_are flow.processors i)
 
-pub none_kept : (flow : Flow) (lot : ℕ) → IsOfFlow flow lot no_files (new_state flow lot)
+pub none_kept : (flow : Flow) (lot : ℕ) → IsOfFlow flow lot no_disk_files (new_state flow lot)
 none_kept flow lot =
-    let keeps = kept_unmade (identity_of flow) lot no_files unmade in
+    let keeps = kept_unmade (identity_of flow) lot no_disk_files unmade in
     record {
       stands =
-          stands_by_kept (identity_of flow) lot no_files (kept_anew (identity_of flow) lot) keeps
-          ∙ state_of_sound no_files (kept_anew (identity_of flow) lot) [] refl (no_event no_files)
-          ∙ ap Ok (state_is (content_in no_files) flow lot);
+          stands_by_kept (identity_of flow) lot no_disk_files (kept_anew (identity_of flow) lot) keeps
+          ∙ state_of_sound no_disk_files (kept_anew (identity_of flow) lot) [] refl (no_event no_disk_files)
+          ∙ ap Ok (state_is (content_in no_disk_files) flow lot);
       kept = kept_anew (identity_of flow) lot;
       keeps = keeps;
       is = refl;

@@ -14,10 +14,10 @@ use Rattle.store_core.specs.declared.error.StoreError.{StoreError}
 use Rattle.engine_core.specs.Committing.{identity_of}
 use Rattle.run_top.specs.Opening.{IsLeftUnwritten, IsOfFlow, IsShutAnswer, IsToldBy, IsUnopened}
 use Rattle.run_top.specs.Run.{IsNotOpened}
-use Rattle.run_top.specs.Status.{error_of}
+use Rattle.run_top.specs.Status.{answer_of_opening}
 use Rattle.run_top.specs.declared.answer.Answer.{Answer}
 
-pub damage_of : (error : StoreError) (damage : Damage) → error_of error ≡ Answer.Damaged damage → error ≡ StoreError.Damaged damage
+pub damage_of : (error : StoreError) (damage : Damage) → answer_of_opening error ≡ Answer.Damaged damage → error ≡ StoreError.Damaged damage
 damage_of StoreError.Disk damage is = absurd (cc)
 damage_of StoreError.MustReopen damage is = absurd (cc)
 damage_of StoreError.Memory damage is = absurd (cc)
@@ -25,7 +25,7 @@ damage_of (StoreError.Limit limit) damage is = absurd (cc)
 damage_of (StoreError.Damaged found) damage is = cc
 damage_of (StoreError.OtherFlow kept found) damage is = absurd (cc)
 
-pub other_of : (error : StoreError) → error_of error ≡ Answer.OtherFlow → (kept : List ℕ) × ((found : List ℕ) × (error ≡ StoreError.OtherFlow kept found))
+pub other_of : (error : StoreError) → answer_of_opening error ≡ Answer.OtherFlow → (kept : List ℕ) × ((found : List ℕ) × (error ≡ StoreError.OtherFlow kept found))
 other_of StoreError.Disk is = absurd (cc)
 other_of StoreError.MustReopen is = absurd (cc)
 other_of StoreError.Memory is = absurd (cc)
@@ -50,12 +50,12 @@ module _ (tells : Bool) {D : Type 0} (held : D → Files) (moment : D → ℕ) (
   }
 
   -- what may not be opened is only read
-  pub shut_stays : {A B : Type 0} (images : D → ℕ → Files → Type 0) (loaded : Result A StoreError) (result : Result B Answer) (error : StoreError) → loaded ≡ Err error → result ≡ Err (error_of error)
+  pub shut_stays : {A B : Type 0} (images : D → ℕ → Files → Type 0) (loaded : Result A StoreError) (result : Result B Answer) (error : StoreError) → loaded ≡ Err error → result ≡ Err (answer_of_opening error)
       → (IsTrue tells → IsShut flow lot (held old) → IsUnwritten held moment old new ⊎ IsUnsynced moment images old new loaded)
       → IsTrue tells → IsShut other lot (held old) → IsLeftUnwritten held moment images old new result
   shut_stays images loaded result error was is left told shut = ⊎_elim
       (λ (unwritten : IsUnwritten held moment old new). inl unwritten)
-      (λ (failed : IsUnsynced moment images old new loaded). inr (record { told = inl (is ∙ ap (λ (e : StoreError). Err (error_of e)) (err_is (sym was ∙ failed.told))); left = failed.left }))
+      (λ (failed : IsUnsynced moment images old new loaded). inr (record { told = inl (is ∙ ap (λ (e : StoreError). Err (answer_of_opening e)) (err_is (sym was ∙ failed.told))); left = failed.left }))
       (left told (subst (λ (f : Flow). IsShut f lot (held old)) (sym same) shut))
 
 -- files of this flow's state are of no other

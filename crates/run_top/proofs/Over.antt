@@ -13,7 +13,7 @@ use Rattle.store_core.specs.Calls.{IsUnwritten, SinceSync}
 use Rattle.store_core.specs.Flow as store
 use Rattle.store_core.specs.Opened.{SameMeaning}
 use Rattle.engine_core.specs.Committing.{identity_of}
-use Rattle.flow_run.specs.Ending.{EndsOnFaults, EndsShort, IsAtRest, IsLimitMet}
+use Rattle.flow_run.specs.Ending.{EndsOnFaults, EndsShort, IsQuietOrBlocked, IsLimitMet}
 use Rattle.flow_run.specs.Laws.{FailedOpeningsEnd}
 use Rattle.flow_run.specs.Puts.{Outgoing, Start}
 use Rattle.flow_run.specs.Run.{HasRun, machine_at}
@@ -27,7 +27,7 @@ use Rattle.flow_engine.specs.declared.run.Ran.{Ran}
 use Rattle.store_core.specs.Touched.{Revives}
 use Rattle.flowfile_wal.specs.Current.{current_number}
 use Rattle.run_top.specs.Opening.{IsLeftUnwritten, IsOfFlow, IsOfStore, IsShutAnswer, IsToldBy, IsUnopened, Opens}
-use Rattle.run_top.specs.Run.{CountsEachFault, HasCause, HasEnded, HasFailed, HasWritten, IsLeftShut, IsNotOpened, IsToldShut}
+use Rattle.run_top.specs.Run.{RunCountsFaults, AnswerHasCause, HasEnded, HasFailed, RunHasWritten, IsLeftShut, IsNotOpened, IsToldShut}
 use Rattle.run_top.specs.Status.{answer_of_end}
 use Rattle.run_top.specs.declared.answer.Answer.{Answer}
 use Rattle.run_top.specs.declared.answer.Answer.TheVariants.{OtherFlow, Damaged, Disk, Memory}
@@ -92,7 +92,7 @@ module _ {A D I O : Type 0} (tells : Bool) (held : D → Files) (moment : D → 
 
   pub refused_why : (most : ℕ) → ((damage : Damage) → IsErrOf opened (Damaged damage) → IsToldBy (identity_of flow) (Damaged damage) tells held moment lot old new)
       → (IsErrOf opened OtherFlow → IsToldBy (identity_of flow) OtherFlow tells held moment lot old new)
-      → HasCause flow answer tells held moment images lot most old new inbox inbox outbox outbox
+      → AnswerHasCause flow answer tells held moment images lot most old new inbox inbox outbox outbox
   refused_why most damaged other = record {
     one_of = store_of_run answer store;
     other_flow = λ is. told_by OtherFlow is (other (was ∙ ap Err is));
@@ -100,7 +100,7 @@ module _ {A D I O : Type 0} (tells : Bool) (held : D → Files) (moment : D → 
     limited = λ limit is. absurd (no_limit answer limit store is);
   }
 
-  pub refused_counts : (disk_old disk_new in_faults out_faults : ℕ) → CountsFaults disk_old disk_new (IsErrOf opened Disk) → CountsEachFault answer disk_old disk_new in_faults in_faults out_faults out_faults
+  pub refused_counts : (disk_old disk_new in_faults out_faults : ℕ) → CountsFaults disk_old disk_new (IsErrOf opened Disk) → RunCountsFaults answer disk_old disk_new in_faults in_faults out_faults out_faults
   refused_counts disk_old disk_new in_faults out_faults counts = record {
     disk = record { never_falls = counts.never_falls; rose = λ is. counts.rose (was ∙ ap Err is) };
     inbox = record { never_falls = omega arith; rose = λ is. absurd (no_inbox answer store is) };
@@ -109,7 +109,7 @@ module _ {A D I O : Type 0} (tells : Bool) (held : D → Files) (moment : D → 
 
   -- barely anything is written
   pub refused_alone : (checkpoint : ℕ) → SinceSync moment images old new (Revives (current_number (held old)) (held old)) ⊎ IsUnopened moment images old new opened
-      → HasWritten answer moment images (held old) checkpoint old new ⊎ IsNotOpened answer moment images old new inbox inbox outbox outbox
+      → RunHasWritten answer moment images (held old) checkpoint old new ⊎ IsNotOpened answer moment images old new inbox inbox outbox outbox
   refused_alone checkpoint alone = ⊎_elim
       (λ (since : SinceSync moment images old new (Revives (current_number (held old)) (held old))).
       inl (record { alone = opens_alone moment images (held old) old new since; short = not_begun moment images checkpoint new answer store }))
@@ -137,7 +137,7 @@ module _ {D : Type 0} (tells : Bool) (held : D → Files) (moment : D → ℕ) (
   pub ran_ends : (ran : Ran) (given : ℕ → Type 0) (start : Start) (time most checkpoint : ℕ) (opened : Machine) (old mid new : D) (left : List NamedFile) (out : Outgoing) → moment old + 1 ≤ moment mid
       → ((limit : Limit) → ran.ended ≡ ending.Limit limit → IsLimitMet flow tells held moment images other (moment mid) most limit new)
       → (journal : List Entry) × ((run : HasRun flow ran.ended start time tells held moment images other opened old new left out journal) × IfSome ran.closed (Shows flow run.reached) × AreMadeAt given journal)
-      → (IsAtRest ran.ended → given time) → EndsShort moment images checkpoint ran.ended new
+      → (IsQuietOrBlocked ran.ended → given time) → EndsShort moment images checkpoint ran.ended new
       → HasEnded flow ran given start time tells held moment images lot most checkpoint opened old new left out
   ran_ends ran given start time most checkpoint opened old mid new left out begun met ends at_rest short =
       let before : HasEnded flow ran given start time tells held moment images other most checkpoint opened old new left out = record {
@@ -155,7 +155,7 @@ module _ {D : Type 0} (tells : Bool) (held : D → Files) (moment : D → ℕ) (
   pub ran_why : (ended : Ended) (most : ℕ) {I O : Type 0} (old mid new : D) (inbox_old inbox_new : I) (outbox_old outbox_new : O) → moment old + 1 ≤ moment mid → moment mid ≤ moment new
       → ((limit : Limit) → ended ≡ ending.Limit limit → IsLimitMet flow tells held moment images other (moment mid) most limit new)
       → ((damage : Damage) → ended ≡ ending.Fault (fault.Damaged damage) → IsReadDamaged flow tells held moment images other new)
-      → HasCause flow (answer_of_end ended) tells held moment images lot most old new inbox_old inbox_new outbox_old outbox_new
+      → AnswerHasCause flow (answer_of_end ended) tells held moment images lot most old new inbox_old inbox_new outbox_old outbox_new
   ran_why ended most old mid new inbox_old inbox_new outbox_old outbox_new begun later met damaged = record {
     one_of = end_of_run ended;
     other_flow = λ is. absurd ((of_end ended).other_flow is);
@@ -171,7 +171,7 @@ module _ {D : Type 0} (tells : Bool) (held : D → Files) (moment : D → ℕ) (
 
 pub run_counts : (ended : Ended) (disk_old disk_mid disk_new inbox_old inbox_new outbox_old outbox_new : ℕ) → disk_old ≤ disk_mid
     → EndsOnFaults ended disk_mid disk_new inbox_old inbox_new outbox_old outbox_new
-    → CountsEachFault (answer_of_end ended) disk_old disk_new inbox_old inbox_new outbox_old outbox_new
+    → RunCountsFaults (answer_of_end ended) disk_old disk_new inbox_old inbox_new outbox_old outbox_new
 run_counts ended disk_old disk_mid disk_new inbox_old inbox_new outbox_old outbox_new first counts = record {
   disk = faults_in_turn disk_old disk_mid disk_new first counts.disk (of_end ended).disk;
   inbox = faults_in_turn inbox_old inbox_old inbox_new (omega arith) counts.inbox (of_end ended).inbox;

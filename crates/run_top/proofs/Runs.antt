@@ -17,9 +17,9 @@ use Rattle.flow_engine.specs.Closing.{Shows}
 use Rattle.flow_engine.specs.declared.close.Closed.{Closed}
 use Rattle.flow_engine.specs.declared.run.Ran.{Ran}
 use Rattle.run_top.specs.Opening.{IsOfFlow}
-use Rattle.run_top.specs.Printing.{IsLine, IsPrinted, IsRefusal, closing_text, end_text, refusal_line}
-use Rattle.run_top.specs.Run.{CountsEachFault, HasCause, HasEnded, HasFailed, HasShownEnd, HasWritten, IsLeftShut, IsNotOpened, IsShownAs, IsToldAs, Runs}
-use Rattle.run_top.specs.Status.{answer_at, answer_of_end}
+use Rattle.run_top.specs.Printing.{IsLine, AnswerIsPrinted, IsRefusingAnswer, closing_text, end_text, refusal_line}
+use Rattle.run_top.specs.Run.{RunCountsFaults, AnswerHasCause, HasEnded, HasFailed, HasShownEnd, RunHasWritten, IsLeftShut, IsNotOpened, IsShownAs, IsToldAs, Runs}
+use Rattle.run_top.specs.Status.{answer_of_run, answer_of_end}
 use Rattle.run_top.specs.declared.answer.Answer.{Answer}
 use Rattle.run_top.specs.declared.answer.Answer.TheVariants.{Sink}
 use Rattle.run_top.proofs.Short.{not_shown}
@@ -27,21 +27,21 @@ use Rattle.run_top.proofs.Summed.{text_is}
 
 -- what was printed of what a run left is the text of the machine
 pub printed_at : (flow : Flow) (answer : Answer) (ended : Ended) (m : Machine) (o : Option Closed) (sink_tells : Bool) (before after : List ℕ) → MatchOption o (IsFault ended) (λ closed. IsFault ended → ⊥)
-    → IfSome o (Shows flow m) → IfSome o (λ closed. IsTrue sink_tells → IsPrinted answer (closing_text flow ended closed) before after)
-    → (IsFault ended → ⊥) → IsTrue sink_tells → IsPrinted answer (end_text flow ended m) before after
+    → IfSome o (Shows flow m) → IfSome o (λ closed. IsTrue sink_tells → AnswerIsPrinted answer (closing_text flow ended closed) before after)
+    → (IsFault ended → ⊥) → IsTrue sink_tells → AnswerIsPrinted answer (end_text flow ended m) before after
 printed_at flow answer ended m None sink_tells before after closes shows printed no_fault told = absurd (no_fault closes)
 printed_at flow answer ended m (Some closed) sink_tells before after closes shows printed no_fault told =
-    subst (λ (text : List ℕ). IsPrinted answer text before after) (text_is flow ended m closed shows) (printed told)
+    subst (λ (text : List ℕ). AnswerIsPrinted answer text before after) (text_is flow ended m closed shows) (printed told)
 
 -- where only the printing failed
 sink_why : {D I O : Type 0} (flow : Flow) (answer : Answer) (tells : Bool) (held : D → Files) (moment : D → ℕ) (images : D → ℕ → Files → Type 0) (lot most : ℕ) (old new : D) (inbox_old inbox_new : I) (outbox_old outbox_new : O) → answer ≡ Sink
-    → HasCause flow answer tells held moment images lot most old new inbox_old inbox_new outbox_old outbox_new
+    → AnswerHasCause flow answer tells held moment images lot most old new inbox_old inbox_new outbox_old outbox_new
 sink_why flow answer tells held moment images lot most old new inbox_old inbox_new outbox_old outbox_new is =
-    subst (λ (a : Answer). HasCause flow a tells held moment images lot most old new inbox_old inbox_new outbox_old outbox_new) (sym is)
+    subst (λ (a : Answer). AnswerHasCause flow a tells held moment images lot most old new inbox_old inbox_new outbox_old outbox_new) (sym is)
     (record { one_of = tt; other_flow = λ other. absurd cc; damaged = λ damage other. absurd cc; limited = λ limit other. absurd cc })
 
 sink_counts : (answer : Answer) (disk_old disk_new inbox_old inbox_new outbox_old outbox_new : ℕ) → answer ≡ Sink → disk_old ≤ disk_new → inbox_old ≤ inbox_new → outbox_old ≤ outbox_new
-    → CountsEachFault answer disk_old disk_new inbox_old inbox_new outbox_old outbox_new
+    → RunCountsFaults answer disk_old disk_new inbox_old inbox_new outbox_old outbox_new
 sink_counts answer disk_old disk_new inbox_old inbox_new outbox_old outbox_new is disk inbox outbox = record {
   disk = record { never_falls = disk; rose = λ so. absurd (cc (is, so)) };
   inbox = record { never_falls = inbox; rose = λ so. absurd (cc (is, so)) };
@@ -49,13 +49,13 @@ sink_counts answer disk_old disk_new inbox_old inbox_new outbox_old outbox_new i
 }
 
 pub shown_counts : (run : Result Ran Answer) (answer : Answer) (disk_old disk_new inbox_old inbox_new outbox_old outbox_new : ℕ) → IsShownAs run answer
-    → CountsEachFault (answer_at run) disk_old disk_new inbox_old inbox_new outbox_old outbox_new → CountsEachFault answer disk_old disk_new inbox_old inbox_new outbox_old outbox_new
+    → RunCountsFaults (answer_of_run run) disk_old disk_new inbox_old inbox_new outbox_old outbox_new → RunCountsFaults answer disk_old disk_new inbox_old inbox_new outbox_old outbox_new
 shown_counts (Ok ran) answer disk_old disk_new inbox_old inbox_new outbox_old outbox_new told counts = ⊎_elim
-    (λ (is : answer ≡ answer_of_end ran.ended). subst (λ (a : Answer). CountsEachFault a disk_old disk_new inbox_old inbox_new outbox_old outbox_new) (sym is) counts)
+    (λ (is : answer ≡ answer_of_end ran.ended). subst (λ (a : Answer). RunCountsFaults a disk_old disk_new inbox_old inbox_new outbox_old outbox_new) (sym is) counts)
     (λ (sink : (answer ≡ Sink) × (IsFault ran.ended → ⊥)). sink_counts answer disk_old disk_new inbox_old inbox_new outbox_old outbox_new sink.0 counts.disk.never_falls counts.inbox.never_falls counts.outbox.never_falls)
     told
 shown_counts (Err instead) answer disk_old disk_new inbox_old inbox_new outbox_old outbox_new told counts =
-    subst (λ (a : Answer). CountsEachFault a disk_old disk_new inbox_old inbox_new outbox_old outbox_new) (sym told) counts
+    subst (λ (a : Answer). RunCountsFaults a disk_old disk_new inbox_old inbox_new outbox_old outbox_new) (sym told) counts
 
 module _ {D I O S : Type 0} (flow : Flow) (answer : Answer) (given : ℕ → Type 0) (start time lot : ℕ) (options : RunOptions) (tells : Bool) (held : D → Files) (moment : D → ℕ) (images : D → ℕ → Files → Type 0) (old new : D)
     (in_tells : Bool) (left : I → List NamedFile) (inbox_old inbox_new : I) (out_tells : Bool) (standing : O → List ℕ → Option (List ℕ)) (puts : O → List NamedFile) (outbox_old outbox_new : O)
@@ -70,10 +70,10 @@ module _ {D I O S : Type 0} (flow : Flow) (answer : Answer) (given : ℕ → Typ
   Unopened a = IsNotOpened a moment images old new inbox_old inbox_new outbox_old outbox_new
 
   abbrev Written : Answer → Type 0
-  Written a = HasWritten a moment images (held old) options.checkpoint old new
+  Written a = RunHasWritten a moment images (held old) options.checkpoint old new
 
   abbrev Caused : Answer → Type 0
-  Caused a = HasCause flow a tells held moment images lot options.max_commits old new inbox_old inbox_new outbox_old outbox_new
+  Caused a = AnswerHasCause flow a tells held moment images lot options.max_commits old new inbox_old inbox_new outbox_old outbox_new
 
   abbrev LeftShut : Answer → Type 0
   LeftShut a = IsLeftShut (identity_of flow) a held moment images lot old new inbox_old inbox_new outbox_old outbox_new
@@ -88,13 +88,13 @@ module _ {D I O S : Type 0} (flow : Flow) (answer : Answer) (given : ℕ → Typ
   ShownEnd state = HasShownEnd flow answer given from_start time tells held moment images lot options.max_commits options.checkpoint (Opened state) old new (left inbox_new) (outgoing standing puts outbox_new) sink_tells (written sink_old) (written sink_new)
 
   abbrev Line : Type 0
-  Line = IsRefusal answer → IsTrue sink_tells → IsLine sink_faults written (refusal_line answer) sink_old sink_new
+  Line = IsRefusingAnswer answer → IsTrue sink_tells → IsLine sink_faults written (refusal_line answer) sink_old sink_new
 
   -- its store was opened
   ran_runs : (ran : Ran) → (IsTrue tells → IsTrue in_tells → IsTrue out_tells → (state : State) → IsOfFlow flow lot (held old) state → EndedBy ran state)
       → MatchOption ran.closed (IsFault ran.ended) (λ closed. IsFault ran.ended → ⊥) → (IsTrue tells → IsShut (identity_of flow) lot (held old) → ⊥)
       → Written (answer_of_end ran.ended) → Caused (answer_of_end ran.ended) → IsToldAs ran.ended answer
-      → IfSome ran.closed (λ closed. IsTrue sink_tells → IsPrinted answer (closing_text flow ran.ended closed) (written sink_old) (written sink_new)) → Line
+      → IfSome ran.closed (λ closed. IsTrue sink_tells → AnswerIsPrinted answer (closing_text flow ran.ended closed) (written sink_old) (written sink_new)) → Line
       → Runs flow answer given start time lot options tells held moment images old new in_tells left inbox_old inbox_new out_tells standing puts outbox_old outbox_new sink_tells written sink_faults sink_old sink_new
   ran_runs ran ended closes fits alone why told printed line = record {
     headline = λ disk_told in_told out_told state of.
@@ -142,8 +142,8 @@ module _ {D I O S : Type 0} (flow : Flow) (answer : Answer) (given : ℕ → Typ
       → IfOk run (λ ran. MatchOption ran.closed (IsFault ran.ended) (λ closed. IsFault ran.ended → ⊥))
       → IfErr run (λ a. IsTrue tells → (state : State) → IsOfFlow flow lot (held old) state → Failed a state ⊎ Unopened a)
       → (IsTrue tells → IsShut (identity_of flow) lot (held old) → (a : Answer) × (run ≡ Err a) × (LeftShut a ⊎ Unopened a))
-      → IfOk run (λ ran. Written (answer_of_end ran.ended)) → IfErr run (λ a. Written a ⊎ Unopened a) → Caused (answer_at run) → IsShownAs run answer
-      → IfOk run (λ ran. IfSome ran.closed (λ closed. IsTrue sink_tells → IsPrinted answer (closing_text flow ran.ended closed) (written sink_old) (written sink_new))) → Line
+      → IfOk run (λ ran. Written (answer_of_end ran.ended)) → IfErr run (λ a. Written a ⊎ Unopened a) → Caused (answer_of_run run) → IsShownAs run answer
+      → IfOk run (λ ran. IfSome ran.closed (λ closed. IsTrue sink_tells → AnswerIsPrinted answer (closing_text flow ran.ended closed) (written sink_old) (written sink_new))) → Line
       → Runs flow answer given start time lot options tells held moment images old new in_tells left inbox_old inbox_new out_tells standing puts outbox_old outbox_new sink_tells written sink_faults sink_old sink_new
   runs (Ok ran) ended closes failed shut alone barely why told printed line =
       ran_runs ran ended closes (λ disk_told shut_is. not_err (shut disk_told shut_is)) alone why told printed line

@@ -6,7 +6,7 @@ use Rattle.flow_run.specs.declared.ended.Ended.{Ended}
 use Rattle.flow_run.specs.declared.ended.Ended.TheVariants as ending
 use Rattle.flow_run.specs.declared.ended.Fault.TheVariants as fault
 use Rattle.run_top.specs.Opening.{IsOfStore}
-use Rattle.run_top.specs.Run.{EndsShort}
+use Rattle.run_top.specs.Run.{LeavesShortLog}
 use Rattle.run_top.specs.Status.{answer_of_end}
 use Rattle.run_top.specs.declared.answer.Answer.{Answer}
 use Rattle.run_top.specs.declared.answer.Answer.TheVariants.{Done, Blocked, Sink}
@@ -34,11 +34,11 @@ rests (ending.Fault (fault.Damaged damage)) rest = absurd (⊎_elim (λ is. cc) 
 rests (ending.Fault fault.Memory) rest = absurd (⊎_elim (λ is. cc) (λ is. cc (is.1)) rest)
 
 module _ {D : Type 0} (moment : D → ℕ) (images : D → ℕ → Files → Type 0) (checkpoint : ℕ) (new : D) where
-  pub not_begun : (answer : Answer) → IsOfStore answer → EndsShort answer moment images checkpoint new
+  pub not_begun : (answer : Answer) → IsOfStore answer → LeavesShortLog answer moment images checkpoint new
   not_begun answer store rest = absurd (no_opening answer store rest)
 
-  pub has_ended : (ended : Ended) → flow_run.EndsShort moment images checkpoint ended new → EndsShort (answer_of_end ended) moment images checkpoint new
+  pub has_ended : (ended : Ended) → flow_run.EndsShort moment images checkpoint ended new → LeavesShortLog (answer_of_end ended) moment images checkpoint new
   has_ended ended short rest = short (rests ended rest)
 
-  pub not_shown : (answer : Answer) → answer ≡ Sink → EndsShort answer moment images checkpoint new
+  pub not_shown : (answer : Answer) → answer ≡ Sink → LeavesShortLog answer moment images checkpoint new
   not_shown answer is rest = absurd (no_sink answer is rest)

@@ -18,7 +18,7 @@ use Rattle.store_core.specs.Calls.{SinceSync}
 use Rattle.store_core.specs.Flow as store
 use Rattle.store_core.specs.Opened.{SameMeaning}
 use Rattle.store_core.specs.State.{stands_for, state_with}
-use Rattle.store_core.specs.Store.{StoreState, kept_by, Holds}
+use Rattle.store_core.specs.Store.{StoreState, kept_by, FilesHold}
 use Rattle.store_core.specs.Valid.{HeldFilesStandForKept, KeptIsValid}
 use Rattle.engine_core.specs.Committing.{identity_of}
 use Rattle.flow_run.specs.Going.{IsRunningAt}
@@ -36,7 +36,7 @@ Rows = (files : Files) (last : ℕ) (events : List Event) → events_in files la
 
 module _ (law : HeldFilesStandForKept) (flow : Flow) (s : StoreState) (lot : ℕ) (files : Files) (state : State) (events : List Event) where
   -- what the store has in memory is the state that the files stand for
-  state_is_kept : store.flow_in (kept_by s) ≡ identity_of flow → s.lot ≡ lot → events_in files (kept_by s).last_event ≡ Ok events → Holds s files
+  state_is_kept : store.flow_in (kept_by s) ≡ identity_of flow → s.lot ≡ lot → events_in files (kept_by s).last_event ≡ Ok events → FilesHold s files
       → stands_for (identity_of flow) lot files ≡ Ok state → state ≡ state_with (content_in files) events (kept_by s)
   state_is_kept of is told holds stands =
       ok_is (sym stands ∙ ap (λ (l : ℕ). stands_for (identity_of flow) l files) (sym is) ∙ ap (λ (f : store.Flow). stands_for f s.lot files) (sym of) ∙ law s files events holds told)
@@ -50,7 +50,7 @@ module _ {D : Type 0} (moment : D → ℕ) (images : D → ℕ → Files → Typ
       → IsRunningAt flow start time moment images s.lot (machine_at state left standing) old new [] (machine_at state left standing) left (record { standing = standing; puts = start.puts })
   starts start time le left standing work is consistent none last is_left since stands =
       let same : SameMeaning (identity_of flow) lot (held old) (held new) = since.each (moment new) (held new) since.begun (omega arith) is_left in
-      let holds : Holds s (held new) = work.kept.holds work.works (held new) is_left in
+      let holds : FilesHold s (held new) = work.kept.holds work.works (held new) is_left in
       let events : List Event = holds.events.events in
       let told : events_in (held new) (kept_by s).last_event ≡ Ok events = ap (events_in (held new)) last ∙ holds.events.says in
       let kept : state ≡ state_with (content_in (held new)) events (kept_by s) = state_is_kept law flow s lot (held new) state events work.flow_is is told holds (same.state ∙ stands) in

@@ -18,16 +18,16 @@ use Rattle.machine_model.specs.declared.flow.Connection.{Connection}
 use Rattle.machine_model.specs.declared.flow.Flow.{Flow}
 use Rattle.prov_store.specs.State.{counts_of}
 use Rattle.store_core.specs.Flow as store
-use Rattle.store_core.specs.State.{queue_of, queued}
+use Rattle.store_core.specs.State.{queue_of, queued_active}
 use Rattle.store_core.proofs.Sound.{unmap}
-use Rattle.engine_core.specs.Expiring.{IsContentOf}
-use Rattle.flow_report.specs.Summary.{batches_in, bytes_in, connections_text, count_text, files_in, kinds, summary}
+use Rattle.engine_core.specs.Expiring.{StandsForItsBytes}
+use Rattle.flow_report.specs.Summary.{connection_batches, connection_bytes, connections_text, count_text, connection_files, kinds, summary}
 use Rattle.flow_report.specs.Texts.{connection_text, line_of}
 use Rattle.flow_query.proofs.Counted.{length-queue}
 use Rattle.flow_run.specs.declared.ended.Ended.{Ended}
 use Rattle.flow_engine.specs.Closing.{Shows}
 use Rattle.flow_engine.specs.declared.close.Closed.{Closed}
-use Rattle.run_top.specs.Printing.{closing_text, count_of, end_line, end_text, machine_summary, queue_line}
+use Rattle.run_top.specs.Printing.{closing_text, count_of_kind, end_line, end_text, machine_summary, queue_line}
 
 -- ---- the bytes of a queue
 
@@ -48,52 +48,52 @@ bytes_fold (f ∷ files) front =
     omega (arith, rest, bytes_with f front, sum_by-cons (λ (y : QueuedFile). length y.bytes) f files)
 
 abbrev HaveSizes : (ContentRef → List ℕ) → List ActiveFile → Type 0
-HaveSizes contents files = All (λ a. IsContentOf contents a.file.content) files
+HaveSizes contents files = All (λ a. StandsForItsBytes contents a.file.content) files
 
 module _ (contents : ContentRef → List ℕ) (place : ℕ) where
   abbrev Here : List ActiveFile → List ActiveFile
   Here files = filter (λ a. a.connection == place) files
 
-  bytes_listed : (files : List ActiveFile) → HaveSizes contents files → content_bytes (map (queued contents) (Here files)) ≡ sum_by (λ a. a.file.content.size) (Here files)
+  bytes_listed : (files : List ActiveFile) → HaveSizes contents files → content_bytes (map (queued_active contents) (Here files)) ≡ sum_by (λ a. a.file.content.size) (Here files)
   bytes_listed [] all = refl
   bytes_listed (a ∷ files) all =
-      by (a.connection == place) (All-head (λ x. IsContentOf contents x.file.content) a files all).size (bytes_listed files (All-tail (λ x. IsContentOf contents x.file.content) a files all))
+      by (a.connection == place) (All-head (λ x. StandsForItsBytes contents x.file.content) a files all).size (bytes_listed files (All-tail (λ x. StandsForItsBytes contents x.file.content) a files all))
     where
-      by : (t : Bool) → length (contents a.file.content) ≡ a.file.content.size → content_bytes (map (queued contents) (Here files)) ≡ sum_by (λ x. x.file.content.size) (Here files)
-          → content_bytes (map (queued contents) (cond t (a ∷ Here files) (Here files))) ≡ sum_by (λ x. x.file.content.size) (cond t (a ∷ Here files) (Here files))
+      by : (t : Bool) → length (contents a.file.content) ≡ a.file.content.size → content_bytes (map (queued_active contents) (Here files)) ≡ sum_by (λ x. x.file.content.size) (Here files)
+          → content_bytes (map (queued_active contents) (cond t (a ∷ Here files) (Here files))) ≡ sum_by (λ x. x.file.content.size) (cond t (a ∷ Here files) (Here files))
       by true size rest =
-          omega (arith, size, rest, sum_by-cons (λ (y : QueuedFile). length y.bytes) (queued contents a) (map (queued contents) (Here files)), sum_by-cons (λ (x : ActiveFile). x.file.content.size) a (Here files))
+          omega (arith, size, rest, sum_by-cons (λ (y : QueuedFile). length y.bytes) (queued_active contents a) (map (queued_active contents) (Here files)), sum_by-cons (λ (x : ActiveFile). x.file.content.size) a (Here files))
       by false size rest = rest
 
   queue_bytes : (files : List ActiveFile) → HaveSizes contents files → content_bytes (queue_of contents files place) ≡ sum_by (λ a. a.file.content.size) (Here files)
-  queue_bytes files all = omega (arith, bytes_fold (map (queued contents) (Here files)) [], bytes_listed files all)
+  queue_bytes files all = omega (arith, bytes_fold (map (queued_active contents) (Here files)) [], bytes_listed files all)
 
 -- ---- the lines of connections
 
 module _ (contents : ContentRef → List ℕ) (k : Kept) (none : k.batches ≡ []) (all : HaveSizes contents k.files) where
-  files_are : (place : ℕ) → files_in place k ≡ length (queue_of contents k.files place)
+  files_are : (place : ℕ) → connection_files place k ≡ length (queue_of contents k.files place)
   files_are place =
-      let batches : sum_by (λ (b : SwapBatch). b.files) (batches_in place k) ≡ 0 = ap (λ (l : List SwapBatch). sum_by (λ (b : SwapBatch). b.files) (filter (λ b. b.connection == place) l)) none in
+      let batches : sum_by (λ (b : SwapBatch). b.files) (connection_batches place k) ≡ 0 = ap (λ (l : List SwapBatch). sum_by (λ (b : SwapBatch). b.files) (filter (λ b. b.connection == place) l)) none in
       omega (arith, batches, length-queue contents k.files place)
 
-  bytes_are : (place : ℕ) → bytes_in place k ≡ content_bytes (queue_of contents k.files place)
+  bytes_are : (place : ℕ) → connection_bytes place k ≡ content_bytes (queue_of contents k.files place)
   bytes_are place =
-      let batches : sum_by (λ (b : SwapBatch). b.bytes) (batches_in place k) ≡ 0 = ap (λ (l : List SwapBatch). sum_by (λ (b : SwapBatch). b.bytes) (filter (λ b. b.connection == place) l)) none in
+      let batches : sum_by (λ (b : SwapBatch). b.bytes) (connection_batches place k) ≡ 0 = ap (λ (l : List SwapBatch). sum_by (λ (b : SwapBatch). b.bytes) (filter (λ b. b.connection == place) l)) none in
       omega (arith, batches, queue_bytes contents place k.files all)
 
   lines_are : (from : ℕ) (connections : List Connection)
-      → flat_map (λ at. connection_text at.1.id (files_in at.0 k) (bytes_in at.0 k)) (enumerate_from from connections)
+      → flat_map (λ at. connection_text at.1.id (connection_files at.0 k) (connection_bytes at.0 k)) (enumerate_from from connections)
       ≡ flat_map queue_line (zip connections (map (λ c. queue_of contents k.files c.0) (enumerate_from from (map (λ (c : Connection). c.id) connections))))
   lines_are from [] = refl
   lines_are from (c ∷ connections) =
       let rest = lines_are (from + 1) connections in
-      ap (λ (n : ℕ). connection_text c.id n (bytes_in from k) ++ flat_map (λ at. connection_text at.1.id (files_in at.0 k) (bytes_in at.0 k)) (enumerate_from (from + 1) connections)) (files_are from)
-      ∙ ap (λ (n : ℕ). connection_text c.id (length (queue_of contents k.files from)) n ++ flat_map (λ at. connection_text at.1.id (files_in at.0 k) (bytes_in at.0 k)) (enumerate_from (from + 1) connections)) (bytes_are from)
+      ap (λ (n : ℕ). connection_text c.id n (connection_bytes from k) ++ flat_map (λ at. connection_text at.1.id (connection_files at.0 k) (connection_bytes at.0 k)) (enumerate_from (from + 1) connections)) (files_are from)
+      ∙ ap (λ (n : ℕ). connection_text c.id (length (queue_of contents k.files from)) n ++ flat_map (λ at. connection_text at.1.id (connection_files at.0 k) (connection_bytes at.0 k)) (enumerate_from (from + 1) connections)) (bytes_are from)
       ∙ ap (λ (l : List ℕ). queue_line (c, queue_of contents k.files from) ++ l) rest
 
 -- ---- the counts of events
 
-counts_are : (events : List Event) → flat_map (λ kind. count_text kind (slice_index (counts_of events) (code_of kind - 1))) kinds ≡ flat_map (λ kind. count_text kind (count_of events kind)) kinds
+counts_are : (events : List Event) → flat_map (λ kind. count_text kind (slice_index (counts_of events) (code_of kind - 1))) kinds ≡ flat_map (λ kind. count_text kind (count_of_kind events kind)) kinds
 unfolding counts_of
 counts_are events = refl
 
@@ -102,14 +102,14 @@ counts_are events = refl
 pub summary_is : (flow : Flow) (m : Machine) (closed : Closed) → Shows flow m closed → summary flow (kept_of closed.state) closed.left closed.events ≡ machine_summary flow m
 summary_is flow m closed shows =
     let k : Kept = kept_of closed.state in
-    let sizes : HaveSizes shows.state.contents k.files = unmap (IsContentOf shows.state.contents) k.files shows.state.read in
+    let sizes : HaveSizes shows.state.contents k.files = unmap (StandsForItsBytes shows.state.contents) k.files shows.state.read in
     let ids : k.connections ≡ map (λ (c : Connection). c.id) flow.connections = ap (λ (f : store.Flow). f.connections) shows.state.flow_is in
     let queues : map (λ c. queue_of shows.state.contents k.files c.0) (enumerate_from 0 k.connections) ≡ m.state.queues = ap (λ (s : State). s.queues) shows.state.is.is in
     let connections : connections_text flow.connections k ≡ flat_map queue_line (zip flow.connections m.state.queues)
     = lines_are shows.state.contents k shows.state.in_queues sizes 0 flow.connections
     ∙ ap (λ (l : List (List ℕ)). flat_map queue_line (zip flow.connections (map (λ c. queue_of shows.state.contents k.files c.0) (enumerate_from 0 l)))) (sym ids)
     ∙ ap (λ (l : List (List QueuedFile)). flat_map queue_line (zip flow.connections l)) queues in
-    let events : flat_map (λ kind. count_text kind (slice_index closed.events.counts (code_of kind - 1))) kinds ≡ flat_map (λ kind. count_text kind (count_of m.state.events kind)) kinds
+    let events : flat_map (λ kind. count_text kind (slice_index closed.events.counts (code_of kind - 1))) kinds ≡ flat_map (λ kind. count_text kind (count_of_kind m.state.events kind)) kinds
     = ap (λ (l : List ℕ). flat_map (λ kind. count_text kind (slice_index l (code_of kind - 1))) kinds) shows.state.counts ∙ counts_are m.state.events in
     λ i. connections i ++ (line_of (codes "inbox " ∷ decimal (shows.left i) ∷ []) ++ events i)
 

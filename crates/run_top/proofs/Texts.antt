@@ -13,14 +13,14 @@ use Rattle.flow_definition.specs.declared.limits.TheConstants.{TEXT_MAX}
 use Rattle.flow_definition.specs.declared.made.Made.{Made}
 use Rattle.flow_definition.specs.declared.rule.Rule.{Rule}
 use Rattle.flow_definition.specs.declared.rule.Rule.TheVariants.{TooMany}
-use Rattle.flow_definition.specs.Looks.{items_at}
+use Rattle.flow_definition.specs.Looks.{list_items_at}
 use Rattle.flow_definition.specs.Made.{AreMade}
 use Rattle.flow_definition.specs.Patterns.{HasRisen, Told}
 use Rattle.flow_definition.specs.Reading.{IsFlowOf}
 use Rattle.flow_definition.specs.Rules.{Path}
 use Rattle.flow_definition.specs.Verdict.{Accepts, IsAnswer, IsAnswerBehind, IsAnswerTo, IsSettled, IsTold, IsToldIn, Refuses, first_behind, object_in}
-use Rattle.flow_definition.specs.Walk.{first_of, first_rules}
-use Rattle.run_top.specs.Text.{IsRead, IsRefused}
+use Rattle.flow_definition.specs.Walk.{first_broken, first_rules}
+use Rattle.run_top.specs.Text.{IsReadFlow, TextIsRefused}
 
 -- ---- an answer that gives a flow
 
@@ -28,28 +28,28 @@ pub record IsAccepted (R : Type 0) (bytes : List ℕ) (flow : Flow) : Type 0 whe
   pub small : nat_lt TEXT_MAX (length bytes) ≡ false
   pub top : Data
   pub object : object_in bytes ≡ Some top
-  pub first : first_of first_rules top ≡ None
+  pub first : first_broken first_rules top ≡ None
   pub made : List Made
-  pub each : AreMade R (items_at Processors top) made
+  pub each : AreMade R (list_items_at Processors top) made
   pub behind : first_behind top made ≡ None
   pub is : IsFlowOf bytes top flow
 
 module _ (R : Type 0) (bytes : List ℕ) (flow : Flow) where
-  settled : (top : Data) → nat_lt TEXT_MAX (length bytes) ≡ false → object_in bytes ≡ Some top → first_of first_rules top ≡ None → IsSettled R bytes top (Ok flow) → IsAccepted R bytes flow
+  settled : (top : Data) → nat_lt TEXT_MAX (length bytes) ≡ false → object_in bytes ≡ Some top → first_broken first_rules top ≡ None → IsSettled R bytes top (Ok flow) → IsAccepted R bytes flow
   settled top small object first all = by (first_behind top all.0) refl all.2
     where
       by : (o : Option (Rule × Path)) → first_behind top all.0 ≡ o → MatchOption o (Accepts bytes top (Ok flow)) (λ broken. Refuses broken (Ok flow)) → IsAccepted R bytes flow
       by None behind is = record { small = small; top = top; object = object; first = first; made = all.0; each = all.1; behind = behind; is = is }
       by (Some broken) behind is = absurd is
 
-  answered : (top : Data) → nat_lt TEXT_MAX (length bytes) ≡ false → object_in bytes ≡ Some top → (o : Option (Rule × Path)) → first_of first_rules top ≡ o
+  answered : (top : Data) → nat_lt TEXT_MAX (length bytes) ≡ false → object_in bytes ≡ Some top → (o : Option (Rule × Path)) → first_broken first_rules top ≡ o
       → MatchOption o (IsAnswerBehind R bytes top (Ok flow)) (λ broken. Refuses broken (Ok flow)) → IsAccepted R bytes flow
   answered top small object None first is = settled top small object first is
   answered top small object (Some broken) first is = absurd is
 
   given : nat_lt TEXT_MAX (length bytes) ≡ false → (o : Option Data) → object_in bytes ≡ o → IsAnswerTo R bytes o (Ok flow) → IsAccepted R bytes flow
   given small None object is = absurd is
-  given small (Some top) object is = answered top small object (first_of first_rules top) refl is
+  given small (Some top) object is = answered top small object (first_broken first_rules top) refl is
 
   pub accepted : IsAnswer R bytes (Ok flow) → IsAccepted R bytes flow
   accepted answer = by (nat_lt TEXT_MAX (length bytes)) refl answer
@@ -68,7 +68,7 @@ is_whole R tells rest bytes flow front accept told =
     let small : length bytes ≤ TEXT_MAX = ltb-false TEXT_MAX (length bytes) accept.small in
     front told ∙ small_front rest (subst (λ (b : List ℕ). length b ≤ TEXT_MAX) (front told) small)
 
-pub is_read : (R : Type 0) (tells : Bool) (rest bytes : List ℕ) (flow : Flow) → (IsTrue tells → bytes ≡ take (TEXT_MAX + 1) rest) → IsAnswer R bytes (Ok flow) → IsSound flow → IsRead tells rest flow
+pub is_read : (R : Type 0) (tells : Bool) (rest bytes : List ℕ) (flow : Flow) → (IsTrue tells → bytes ≡ take (TEXT_MAX + 1) rest) → IsAnswer R bytes (Ok flow) → IsSound flow → IsReadFlow tells rest flow
 is_read R tells rest bytes flow front answer sound =
     let accept = accepted R bytes flow answer in
     record {
@@ -104,7 +104,7 @@ front_told before now rest answer is = by (nat_lt TEXT_MAX (length rest)) refl
         subst (λ (b : List ℕ). IsTold before now b answer) (take_all (TEXT_MAX + 1) rest (omega (arith, most))) is
 
 pub is_refused : (before now : Told) (tells : Bool) (rest bytes : List ℕ) (rule : Rule) (place : List ℕ) → (IsTrue tells → bytes ≡ take (TEXT_MAX + 1) rest)
-    → IsAnswer (HasRisen before.count now.count) bytes (Err (error.Rule rule place)) → IsTold before now bytes (Err (error.Rule rule place)) → IsRefused before now tells rest rule place
+    → IsAnswer (HasRisen before.count now.count) bytes (Err (error.Rule rule place)) → IsTold before now bytes (Err (error.Rule rule place)) → TextIsRefused before now tells rest rule place
 is_refused before now true rest bytes rule place front answer told = record {
   bytes = rest;
   whole = λ yes. refl;
@@ -114,6 +114,6 @@ is_refused before now true rest bytes rule place front answer told = record {
 is_refused before now false rest bytes rule place front answer told = record { bytes = bytes; whole = λ yes. absurd (cc); answer = answer; told = told }
 
 -- .. also where the rule and the place are given otherwise
-pub is_refused_so : (before now : Told) (tells : Bool) (rest : List ℕ) (rule other : Rule) (place elsewhere : List ℕ) → rule ≡ other → place ≡ elsewhere → IsRefused before now tells rest rule place → IsRefused before now tells rest other elsewhere
+pub is_refused_so : (before now : Told) (tells : Bool) (rest : List ℕ) (rule other : Rule) (place elsewhere : List ℕ) → rule ≡ other → place ≡ elsewhere → TextIsRefused before now tells rest rule place → TextIsRefused before now tells rest other elsewhere
 is_refused_so before now tells rest rule other place elsewhere rule_is place_is refused =
-    subst (λ (r : Rule). IsRefused before now tells rest r elsewhere) rule_is (subst (λ (p : List ℕ). IsRefused before now tells rest rule p) place_is refused)
+    subst (λ (r : Rule). TextIsRefused before now tells rest r elsewhere) rule_is (subst (λ (p : List ℕ). TextIsRefused before now tells rest rule p) place_is refused)

@@ -21,10 +21,10 @@ use Rattle.flow_run.specs.declared.ended.Ended.{Ended}
 use Rattle.flow_run.specs.declared.ended.Ended.TheVariants as ending
 use Rattle.flow_engine.specs.declared.run.Ran.{Ran}
 use Rattle.run_top.specs.Opening.{IsOfFlow, IsOfStore}
-use Rattle.run_top.specs.Printing.{IsLine, IsPrinted, IsRefusal, closing_text, refusal_line}
+use Rattle.run_top.specs.Printing.{IsLine, AnswerIsPrinted, IsRefusingAnswer, closing_text, refusal_line}
 use Rattle.run_top.specs.Run.{HasEnded, IsShownAs}
 use Rattle.run_top.specs.Status.{answer_of_end}
-use Rattle.run_top.specs.Trial.{HasTried, IsOfTrial, IsTried, RanInMemory, any_moment, new_machine, new_start, no_files, unless_fault, with_memory}
+use Rattle.run_top.specs.Trial.{HasTried, IsOfTrial, IsTried, RanInMemory, any_moment, new_machine, new_start, no_disk_files, unless_fault, with_memory}
 use Rattle.run_top.specs.declared.answer.Answer.{Answer}
 use Rattle.run_top.specs.declared.answer.Answer.TheVariants.{Memory, Sink}
 use Rattle.run_top.proofs.Empty.{none_kept}
@@ -47,7 +47,7 @@ abbrev Ends : Flow → (lot : ℕ) → Start → (time : ℕ) → (old new : Mem
 Ends flow lot start time old new opened left out ran = HasEnded flow ran any_moment start time true held_by moment_of left_by lot DEFAULT_COMMITS DEFAULT_CHECKPOINT opened old new left out
 
 module _ (flow : Flow) (lot start time : ℕ) (old new : MemoryDisk) (before left puts : List NamedFile) (stood : List ℕ → Option (List ℕ)) (out : Outgoing)
-    (empty : held_by old ≡ no_files) (begins : start ≡ 0) (nothing : puts ≡ []) (inbox outbox : List (List ℕ × Vec ℕ Global)) (no_inbox : inbox ≡ []) (listed : IsPermutation (map file_of inbox) before)
+    (empty : held_by old ≡ no_disk_files) (begins : start ≡ 0) (nothing : puts ≡ []) (inbox outbox : List (List ℕ × Vec ℕ Global)) (no_inbox : inbox ≡ []) (listed : IsPermutation (map file_of inbox) before)
     (no_outbox : outbox ≡ []) (stands : stood ≡ bytes_of (map file_of outbox)) where
   abbrev at_first : Start
   at_first = record { time = start; puts = puts }
@@ -116,7 +116,7 @@ of_store (Err answer) memory = subst IsOfStore (sym memory) tt
 
 pub tried : (count lot : ℕ) (flow : Flow) (run : Result Ran Answer) (answer : Answer) (sink_tells : Bool) (before after : List ℕ) → IsTrialFlow count flow
     → IfOk run (RanInMemory flow lot) → IfOk run (λ ran. MatchOption ran.closed (IsFault ran.ended) (λ closed. IsFault ran.ended → ⊥)) → IfErr run (λ a. a ≡ Memory) → IsShownAs run answer
-    → IfOk run (λ ran. IfSome ran.closed (λ closed. IsTrue sink_tells → IsPrinted answer (closing_text flow ran.ended closed) before after))
+    → IfOk run (λ ran. IfSome ran.closed (λ closed. IsTrue sink_tells → AnswerIsPrinted answer (closing_text flow ran.ended closed) before after))
     → HasTried count lot answer sink_tells before after ⊎ (answer ≡ Memory)
 tried count lot flow (Ok ran) answer sink_tells before after is in_memory closes memory told printed =
     let ends = in_memory.ended in
@@ -151,8 +151,8 @@ of_trial (Ok ran) answer no_fault memory told = ⊎_elim
     told
 of_trial (Err instead) answer no_fault memory told = subst IsOfTrial (sym (told ∙ memory)) tt
 
-pub memory_line : {S : Type 0} (faults : S → ℕ) (written : S → List ℕ) (old new : S) (answer : Answer) → (IsRefusal answer → IsLine faults written (refusal_line answer) old new) → answer ≡ Memory → IsLine faults written (refusal_line answer) old new
-memory_line faults written old new answer line is = line (subst IsRefusal (sym is) tt)
+pub memory_line : {S : Type 0} (faults : S → ℕ) (written : S → List ℕ) (old new : S) (answer : Answer) → (IsRefusingAnswer answer → IsLine faults written (refusal_line answer) old new) → answer ≡ Memory → IsLine faults written (refusal_line answer) old new
+memory_line faults written old new answer line is = line (subst IsRefusingAnswer (sym is) tt)
 
 -- there was no memory for the flow
 pub memory_alone : {S : Type 0} (count lot : ℕ) (sink_tells : Bool) (written : S → List ℕ) (faults : S → ℕ) (old new : S) (answer : Answer) → answer ≡ Memory

@@ -10,8 +10,8 @@ use Rattle.store_core.specs.Seen.{no_flow}
 use Rattle.store_core.specs.State.{stands_for}
 use Rattle.flow_report.specs.Texts.{damage_text, text_of}
 use Rattle.flow_report.specs.declared.line.Line.TheVariants as line
-use Rattle.flow_query.specs.Answers.{IsAnswer, IsSoundAnswer, TellsAbsence}
-use Rattle.flow_query.specs.OwnFlow.{IsMade}
+use Rattle.flow_query.specs.Answers.{IsQueryAnswer, IsSoundAnswer, TellsAbsence}
+use Rattle.flow_query.specs.OwnFlow.{StoreIsMade}
 use Rattle.flow_query.specs.declared.asking.Query.{Query}
 use Rattle.flow_query.specs.declared.asking.Query.TheVariants as query
 use Rattle.flow_query.specs.declared.error.QueryError.{QueryError}
@@ -56,11 +56,11 @@ pub record HasAnswered {S : Type 0} (query : Query) (status : ℕ) (disk_tells s
   pub between : S
   pub printed : IsTrue disk_tells → IsTrue sink_tells → (kept : Kept) → kept_in no_flow 0 files ≡ Ok kept
       → (state : State) → stands_for no_flow 0 files ≡ Ok state
-      → IsAnswer query kept.connections state (written old) (written between) result
+      → IsQueryAnswer query kept.connections state (written old) (written between) result
   -- it is the answer of what a run of any flow finds that opens these files, once a store is made
-  pub of_run : IsTrue disk_tells → IsTrue sink_tells → IsMade files → (flow : Flow) (lot : ℕ) (kept : Kept)
+  pub of_run : IsTrue disk_tells → IsTrue sink_tells → StoreIsMade files → (flow : Flow) (lot : ℕ) (kept : Kept)
       → kept_in flow lot files ≡ Ok kept → (state : State) → stands_for flow lot files ≡ Ok state
-      → IsAnswer query kept.connections state (written old) (written between) result
+      → IsQueryAnswer query kept.connections state (written old) (written between) result
   -- whatever the sink tells, an absence is told exactly where it is one
   pub absence : IsTrue disk_tells → (state : State) → stands_for no_flow 0 files ≡ Ok state
       → TellsAbsence query state result

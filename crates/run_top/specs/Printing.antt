@@ -12,14 +12,14 @@ use Rattle.machine_model.specs.Files.{content_bytes}
 use Rattle.machine_model.specs.State.{Machine, QueuedFile}
 use Rattle.machine_model.specs.declared.flow.Connection.{Connection}
 use Rattle.machine_model.specs.declared.flow.Flow.{Flow}
-use Rattle.flow_definition.specs.Numbers.{number_of}
+use Rattle.flow_definition.specs.Numbers.{rule_number}
 use Rattle.flow_report.specs.Summary.{count_text, kinds, summary}
 use Rattle.flow_report.specs.Texts.{connection_text, damage_text, line_of, text_of}
-use Rattle.flow_report.specs.Writing.{IsFront}
 use Rattle.flow_report.specs.declared.line.Line.TheVariants as line
 use Rattle.flow_run.specs.declared.ended.Ended.{Ended}
 use Rattle.flow_run.specs.declared.ended.Ended.TheVariants as ending
 use Rattle.flow_engine.specs.declared.close.Closed.{Closed}
+use Rattle.flow_query.specs.Parts.{HasFront}
 use Rattle.run_top.specs.declared.answer.Answer.{Answer}
 use Rattle.run_top.specs.declared.answer.Answer.TheVariants.{Done, Usage, Refused, OtherFlow, Damaged, Disk, Inbox, Outbox, Source, Sink, Blocked, Limit, Memory}
 use Rattle.run_top.specs.declared.printing.TheConstants.{OTHER_FLOW_RULE}
@@ -32,7 +32,7 @@ refused_line rule place = line_of (codes "flow refused: rule " ∷ decimal rule 
 -- the line of an answer; the end of a run whose store was closed has none
 abbrev pub refusal_line : Answer → List ℕ
 refusal_line Usage = text_of line.Usage
-refusal_line (Refused rule place) = refused_line (number_of rule) place
+refusal_line (Refused rule place) = refused_line (rule_number rule) place
 refusal_line OtherFlow = refused_line OTHER_FLOW_RULE (codes "/")
 refusal_line (Damaged damage) = damage_text damage
 refusal_line Disk = text_of line.DiskFault
@@ -43,12 +43,12 @@ refusal_line Memory = text_of line.OutOfMemory
 refusal_line _ = []
 
 -- an answer that isn't the end of a run whose store was closed, nor that its text couldn't be printed
-abbrev pub IsRefusal : Answer → Type 0
-IsRefusal Done = ⊥
-IsRefusal Sink = ⊥
-IsRefusal (Blocked connection) = ⊥
-IsRefusal (Limit limit) = ⊥
-IsRefusal _ = ⊤
+abbrev pub IsRefusingAnswer : Answer → Type 0
+IsRefusingAnswer Done = ⊥
+IsRefusingAnswer Sink = ⊥
+IsRefusingAnswer (Blocked connection) = ⊥
+IsRefusingAnswer (Limit limit) = ⊥
+IsRefusingAnswer _ = ⊤
 
 -- ---- the text of a run whose store was closed
 
@@ -74,15 +74,15 @@ end_line flow _ = []
 abbrev pub queue_line : Connection × List QueuedFile → List ℕ
 queue_line (connection, queue) = connection_text connection.id (length queue) (content_bytes queue)
 
-abbrev pub count_of : List Event → EventKind → ℕ
-count_of events kind = length (filter (λ event. code_of event.kind == code_of kind) events)
+abbrev pub count_of_kind : List Event → EventKind → ℕ
+count_of_kind events kind = length (filter (λ event. code_of event.kind == code_of kind) events)
 
 -- the connections in the flow's order, how many names are left in the inbox, and how many events there are of each kind
 abbrev pub machine_summary : Flow → Machine → List ℕ
 machine_summary flow m =
     flat_map queue_line (zip flow.connections m.state.queues)
     ++ (line_of (codes "inbox " ∷ decimal (length m.world.left) ∷ [])
-    ++ flat_map (λ kind. count_text kind (count_of m.state.events kind)) kinds)
+    ++ flat_map (λ kind. count_text kind (count_of_kind m.state.events kind)) kinds)
 
 -- the text of a run that ended so, at this machine
 abbrev pub end_text : Flow → Ended → Machine → List ℕ
@@ -90,12 +90,8 @@ end_text flow ended m = machine_summary flow m ++ end_line flow ended
 
 -- ---- what is left in the sink
 
--- behind what stood there stands a front of the text
-abbrev pub HasFront : (text before after : List ℕ) → Type 0
-HasFront text before after = (part : List ℕ) × IsFront part text × (after ≡ before ++ part)
-
 -- Behind what stood there stands the text, or where the sink's failure is told a front of it.
-pub record IsPrinted (answer : Answer) (text before after : List ℕ) : Type 0 where
+pub record AnswerIsPrinted (answer : Answer) (text before after : List ℕ) : Type 0 where
   pub whole : (answer ≡ Sink → ⊥) → after ≡ before ++ text
   pub front : answer ≡ Sink → HasFront text before after
 

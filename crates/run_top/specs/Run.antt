@@ -19,7 +19,7 @@ use Rattle.engine_core.specs.Committing.{identity_of}
 use Rattle.flow_definition.specs.Patterns.{Told}
 use Rattle.flow_definition.specs.declared.rule.Rule.{Rule}
 use Rattle.flow_words.specs.declared.command.RunOptions.{RunOptions}
-use Rattle.flow_run.specs.Ending.{IsAtRest, IsFault, IsLimitMet}
+use Rattle.flow_run.specs.Ending.{IsQuietOrBlocked, IsFault, IsLimitMet}
 use Rattle.flow_run.specs.Puts.{Outgoing, Start, outgoing}
 use Rattle.flow_run.specs.Run.{HasRun, machine_at}
 use Rattle.flow_run.specs.Turns.{AreMadeAt}
@@ -30,9 +30,9 @@ use Rattle.flow_run.specs.declared.ended.Fault.{Fault}
 use Rattle.flow_engine.specs.Closing.{Shows}
 use Rattle.flow_engine.specs.declared.run.Ran.{Ran}
 use Rattle.run_top.specs.Opening.{IsOfFlow, IsShutAnswer, IsToldBy}
-use Rattle.run_top.specs.Printing.{IsLine, IsPrinted, IsRefusal, end_text, refusal_line}
+use Rattle.run_top.specs.Printing.{IsLine, AnswerIsPrinted, IsRefusingAnswer, end_text, refusal_line}
 use Rattle.run_top.specs.Status.{answer_of_end, answer_of_fault}
-use Rattle.run_top.specs.Text.{IsOfText, IsRefused}
+use Rattle.run_top.specs.Text.{IsOfText, TextIsRefused}
 use Rattle.run_top.specs.declared.answer.Answer.{Answer}
 use Rattle.run_top.specs.declared.answer.Answer.TheVariants.{Done, Usage, Refused, OtherFlow, Damaged, Disk, Inbox, Outbox, Source, Sink, Blocked, Memory, Absent}
 use Rattle.run_top.specs.declared.answer.Answer.TheVariants.{Limit as Limited}
@@ -42,7 +42,7 @@ use Rattle.run_top.specs.declared.answer.Answer.TheVariants.{Limit as Limited}
 -- The flow has run from one time of the clock to another, with this journal, and ended so. Where the journal's limit
 -- ended it, that is `most`. Of each step's moment holds what holds of each moment that the clock gave; and where nothing
 -- was left to do, or all of it was held back, of the time too, and the log is short.
-pub record EndsWith {D : Type 0} (flow : Flow) (ended : Ended) (given : ℕ → Type 0) (start : Start) (time : ℕ)
+pub record RunEndsWith {D : Type 0} (flow : Flow) (ended : Ended) (given : ℕ → Type 0) (start : Start) (time : ℕ)
     (tells : Bool) (held : D → Files) (moment : D → ℕ) (images : D → ℕ → Files → Type 0) (lot most checkpoint : ℕ)
     (opened : Machine) (old new : D) (left : List NamedFile) (out : Outgoing) : Type 0 where
   pub journal : List Entry
@@ -50,13 +50,13 @@ pub record EndsWith {D : Type 0} (flow : Flow) (ended : Ended) (given : ℕ → 
   pub limited : (limit : Limit) → ended ≡ ending.Limit limit
       → IsLimitMet flow tells held moment images lot (moment old + 1) most limit new
   pub moments : AreMadeAt given journal
-  pub rest : IsAtRest ended → given time × IsShortOn moment images checkpoint new
+  pub rest : IsQuietOrBlocked ended → given time × IsShortOn moment images checkpoint new
 
 -- a run has ended so, and where its store was closed what it left is what the machine reached
 pub record HasEnded {D : Type 0} (flow : Flow) (ran : Ran) (given : ℕ → Type 0) (start : Start) (time : ℕ)
     (tells : Bool) (held : D → Files) (moment : D → ℕ) (images : D → ℕ → Files → Type 0) (lot most checkpoint : ℕ)
     (opened : Machine) (old new : D) (left : List NamedFile) (out : Outgoing) : Type 0 where
-  pub ends : EndsWith flow ran.ended given start time tells held moment images lot most checkpoint opened old new
+  pub ends : RunEndsWith flow ran.ended given start time tells held moment images lot most checkpoint opened old new
       left out
   pub shows : IfSome ran.closed (Shows flow ends.ran.reached)
 
@@ -66,7 +66,7 @@ pub record HasFailed {D : Type 0} (flow : Flow) (answer : Answer) (given : ℕ �
     (opened : Machine) (old new : D) (left : List NamedFile) (out : Outgoing) : Type 0 where
   pub cause : Fault
   pub told : answer ≡ answer_of_fault cause
-  pub ends : EndsWith flow
+  pub ends : RunEndsWith flow
       (ending.Fault cause) given start time tells held moment images lot most checkpoint opened old new left out
 
 -- the end is told, or where the store was closed that its text couldn't be printed
@@ -84,9 +84,10 @@ pub record HasShownEnd {D : Type 0} (flow : Flow) (answer : Answer) (given : ℕ
     (opened : Machine) (old new : D) (left : List NamedFile) (out : Outgoing) (sink_tells : Bool) (before after : List ℕ) : Type 0 where
   pub ended : Ended
   pub told : IsToldAs ended answer
-  pub ends : EndsWith flow ended given start time tells held moment images lot most checkpoint opened old new left out
+  pub ends : RunEndsWith flow ended given start time tells held moment images lot most checkpoint opened old new left
+      out
   pub printed : (IsFault ended → ⊥) → IsTrue sink_tells
-      → IsPrinted answer (end_text flow ended ends.ran.reached) before after
+      → AnswerIsPrinted answer (end_text flow ended ends.ran.reached) before after
 
 -- ---- where nothing was done
 
@@ -103,7 +104,7 @@ pub record IsNotRead {D I O S : Type 0} (answer : Answer) (before now : Told) (t
     (disk_old disk_new : D) (inbox_old inbox_new : I) (outbox_old outbox_new : O) (sink_old sink_new : S) : Type 0 where
   pub told : IsOfText answer
   pub refused : (rule : Rule) (place : List ℕ) → answer ≡ Refused rule place
-      → IsRefused before now tells text rule place
+      → TextIsRefused before now tells text rule place
   pub untouched : IsUntouched disk_old disk_new inbox_old inbox_new outbox_old outbox_new
   pub line : IsTrue sink_tells → IsLine sink_faults written (refusal_line answer) sink_old sink_new
 
@@ -147,16 +148,16 @@ WritesAlone moment images files old new = SinceSync moment images old new (OnlyS
 
 -- where nothing was left to do, or all of it was held back, checkpoints were made: whatever a stop may leave has a
 -- short log
-abbrev pub EndsShort : {D : Type 0} → Answer → (D → ℕ) → (D → ℕ → Files → Type 0) → (checkpoint : ℕ) → (new : D)
+abbrev pub LeavesShortLog : {D : Type 0} → Answer → (D → ℕ) → (D → ℕ → Files → Type 0) → (checkpoint : ℕ) → (new : D)
     → Type 0
-EndsShort answer moment images checkpoint new =
+LeavesShortLog answer moment images checkpoint new =
     (answer ≡ Done) ⊎ ((place : ℕ) × (answer ≡ Blocked place)) → IsShortOn moment images checkpoint new
 
 -- it has written so
-pub record HasWritten {D : Type 0} (answer : Answer) (moment : D → ℕ) (images : D → ℕ → Files → Type 0) (files : Files)
-    (checkpoint : ℕ) (old new : D) : Type 0 where
+pub record RunHasWritten {D : Type 0} (answer : Answer) (moment : D → ℕ) (images : D → ℕ → Files → Type 0)
+    (files : Files) (checkpoint : ℕ) (old new : D) : Type 0 where
   pub alone : WritesAlone moment images files old new
-  pub short : EndsShort answer moment images checkpoint new
+  pub short : LeavesShortLog answer moment images checkpoint new
 
 -- a live content was read behind the opening's first sync, and that told damage
 pub record IsToldByRead {D : Type 0} (flow : Flow) (tells : Bool) (held : D → Files) (moment : D → ℕ)
@@ -165,7 +166,7 @@ pub record IsToldByRead {D : Type 0} (flow : Flow) (tells : Bool) (held : D → 
   pub read : IsReadDamaged flow tells held moment images lot new
 
 -- this limit was met behind the opening's first sync
-pub record IsLimited {D : Type 0} (flow : Flow) (tells : Bool) (held : D → Files) (moment : D → ℕ)
+pub record RunIsLimited {D : Type 0} (flow : Flow) (tells : Bool) (held : D → Files) (moment : D → ℕ)
     (images : D → ℕ → Files → Type 0) (lot most : ℕ) (limit : Limit) (old new : D) : Type 0 where
   pub opened : moment old + 1 ≤ moment new
   pub met : IsLimitMet flow tells held moment images lot (moment old + 1) most limit new
@@ -182,7 +183,8 @@ IsOfRun _ = ⊤
 
 -- The answer of a flow that was read has its cause: the store that stands is another flow's, its files or a content
 -- that was read are damaged, or the limit was met.
-pub record HasCause {D I O : Type 0} (flow : Flow) (answer : Answer) (tells : Bool) (held : D → Files) (moment : D → ℕ)
+pub record AnswerHasCause {D I O : Type 0} (flow : Flow) (answer : Answer) (tells : Bool) (held : D → Files)
+    (moment : D → ℕ)
     (images : D → ℕ → Files → Type 0) (lot most : ℕ) (old new : D) (inbox_old inbox_new : I) (outbox_old outbox_new : O)
     : Type 0 where
   pub one_of : IsOfRun answer
@@ -191,10 +193,11 @@ pub record HasCause {D I O : Type 0} (flow : Flow) (answer : Answer) (tells : Bo
   pub damaged : (damage : Damage) → answer ≡ Damaged damage
       → IsToldShut (identity_of flow) answer tells held moment lot old new inbox_old inbox_new outbox_old outbox_new
       ⊎ IsToldByRead flow tells held moment images lot old new
-  pub limited : (limit : Limit) → answer ≡ Limited limit → IsLimited flow tells held moment images lot most limit old new
+  pub limited : (limit : Limit) → answer ≡ Limited limit
+      → RunIsLimited flow tells held moment images lot most limit old new
 
 -- A device's fault count never falls, and its fault is told only where the count rose, or stands at its type's end.
-pub record CountsEachFault (answer : Answer) (disk_old disk_new inbox_old inbox_new outbox_old outbox_new : ℕ)
+pub record RunCountsFaults (answer : Answer) (disk_old disk_new inbox_old inbox_new outbox_old outbox_new : ℕ)
     : Type 0 where
   pub disk : CountsFaults disk_old disk_new (answer ≡ Disk)
   pub inbox : CountsFaults inbox_old inbox_new (answer ≡ Inbox)
@@ -225,9 +228,10 @@ pub record Runs {D I O S : Type 0} (flow : Flow) (answer : Answer) (given : ℕ 
   -- Whatever inbox and outbox tell: only claims, events, the log, later logs with their snapshots, and a new store's
   -- snapshot are written, and where nothing is left to do or all of it is held back the log is short; or the store
   -- wasn't opened.
-  pub alone : HasWritten answer moment images (held old) options.checkpoint old new
+  pub alone : RunHasWritten answer moment images (held old) options.checkpoint old new
       ⊎ IsNotOpened answer moment images old new inbox_old inbox_new outbox_old outbox_new
-  pub why : HasCause flow answer tells held moment images lot options.max_commits
+  pub why : AnswerHasCause flow answer tells held moment images lot options.max_commits
       old new inbox_old inbox_new outbox_old outbox_new
   -- .. and behind any other answer than the end of a run whose store was closed stands its line
-  pub line : IsRefusal answer → IsTrue sink_tells → IsLine sink_faults written (refusal_line answer) sink_old sink_new
+  pub line : IsRefusingAnswer answer → IsTrue sink_tells
+      → IsLine sink_faults written (refusal_line answer) sink_old sink_new

@@ -43,15 +43,15 @@ answer_of_end (ending.Limit limit) = Limit limit
 answer_of_end (ending.Fault cause) = answer_of_fault cause
 
 -- what a run comes to, or what came instead of it
-abbrev pub answer_at : Result Ran Answer → Answer
-answer_at (Ok ran) = answer_of_end ran.ended
-answer_at (Err answer) = answer
+abbrev pub answer_of_run : Result Ran Answer → Answer
+answer_of_run (Ok ran) = answer_of_end ran.ended
+answer_of_run (Err answer) = answer
 
 -- what a refusal of the store to open means. No opening is refused by a limit
-abbrev pub error_of : StoreError → Answer
-error_of store.Disk = Disk
-error_of store.MustReopen = Disk
-error_of store.Memory = Memory
-error_of (store.Limit limit) = Memory
-error_of (store.Damaged damage) = Damaged damage
-error_of (store.OtherFlow kept found) = OtherFlow
+abbrev pub answer_of_opening : StoreError → Answer
+answer_of_opening store.Disk = Disk
+answer_of_opening store.MustReopen = Disk
+answer_of_opening store.Memory = Memory
+answer_of_opening (store.Limit limit) = Memory
+answer_of_opening (store.Damaged damage) = Damaged damage
+answer_of_opening (store.OtherFlow kept found) = OtherFlow

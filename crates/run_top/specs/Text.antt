@@ -20,7 +20,7 @@ pub record IsFlowIn (bytes : List ℕ) (flow : Flow) : Type 0 where
 
 -- The text breaks no rule, and the flow, which is sound, is one of it. Where the source tells, the text is all that it
 -- held.
-pub record IsRead (tells : Bool) (rest : List ℕ) (flow : Flow) : Type 0 where
+pub record IsReadFlow (tells : Bool) (rest : List ℕ) (flow : Flow) : Type 0 where
   pub bytes : List ℕ
   pub whole : IsTrue tells → bytes ≡ rest
   pub size : length bytes ≤ TEXT_MAX
@@ -29,14 +29,15 @@ pub record IsRead (tells : Bool) (rest : List ℕ) (flow : Flow) : Type 0 where
 
 -- The text breaks this rule, the lowest, and at this place first. A pattern is too big where the builder told so, which
 -- told this before and behind it.
-pub record IsRefused (before now : Told) (tells : Bool) (rest : List ℕ) (rule : Rule) (place : List ℕ) : Type 0 where
-  pub bytes : List ℕ
-  pub whole : IsTrue tells → bytes ≡ rest
-  pub answer : IsAnswer (HasRisen before.count now.count) bytes (Err (error.Rule rule place))
-  pub told : IsTold before now bytes (Err (error.Rule rule place))
+pub record TextIsRefused (before now : Told) (tells : Bool) (rest : List ℕ) (rule : Rule) (place : List ℕ) : Type 0
+  where
+    pub bytes : List ℕ
+    pub whole : IsTrue tells → bytes ≡ rest
+    pub answer : IsAnswer (HasRisen before.count now.count) bytes (Err (error.Rule rule place))
+    pub told : IsTold before now bytes (Err (error.Rule rule place))
 
 -- The text breaks a rule, with no pattern too big.
-pub record IsBroken (bytes : List ℕ) : Type 0 where
+pub record BreaksRule (bytes : List ℕ) : Type 0 where
   pub rule : Rule
   pub place : List ℕ
   pub answer : IsAnswer ⊥ bytes (Err (error.Rule rule place))

@@ -22,8 +22,8 @@ use Rattle.run_top.specs.declared.answer.Answer.TheVariants.{Done, Sink, Blocked
 use Rattle.run_top.specs.declared.answer.Answer.TheVariants.{Limit as Limited}
 
 -- a disk that has no files
-abbrev pub no_files : Files
-no_files = λ file. []
+abbrev pub no_disk_files : Files
+no_disk_files = λ file. []
 
 -- a new store of the flow, an inbox with no files and an outbox in which none stand
 abbrev pub new_machine : Flow → (lot : ℕ) → Machine
@@ -44,7 +44,7 @@ pub record HasTried (count lot : ℕ) (answer : Answer) (sink_tells : Bool) (bef
   pub is : IsTrialFlow count flow
   pub old : MemoryDisk
   pub new : MemoryDisk
-  pub empty : held_by old ≡ no_files
+  pub empty : held_by old ≡ no_disk_files
   pub time : ℕ
   pub left : List NamedFile
   pub out : Outgoing
@@ -77,7 +77,7 @@ pub record IsTried {S : Type 0} (answer : Answer) (count lot : ℕ) (sink_tells 
 pub record RanInMemory (flow : Flow) (lot : ℕ) (ran : Ran) : Type 0 where
   pub old : MemoryDisk
   pub new : MemoryDisk
-  pub empty : held_by old ≡ no_files
+  pub empty : held_by old ≡ no_disk_files
   pub time : ℕ
   pub left : List NamedFile
   pub out : Outgoing

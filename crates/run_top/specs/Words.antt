@@ -1,7 +1,7 @@
 -- What the words ask for.
 use Rattle.std.specs.Prelude.{◌≡◌, ⊤, ◌≤◌, List, Some, String, option_map}
 use Rattle.std.specs.declared.alloc.Global.{Global}
-use Rattle.flow_words.specs.Arguments.{texts}
+use Rattle.flow_words.specs.Arguments.{word_texts}
 use Rattle.flow_words.specs.Words.{AreInRange, words_of}
 use Rattle.flow_words.specs.declared.command.Command.{Command}
 use Rattle.flow_words.specs.declared.command.Command.TheVariants.{Run, Trial, Lineage, Content, Queues, Events, Check}
@@ -13,7 +13,7 @@ use Rattle.run_top.specs.declared.order.Order.TheVariants as order
 
 -- the words ask to run the flow with these options
 abbrev pub AskToRun : List (String Global) → RunOptions → Type 0
-AskToRun words options = words_of (texts words) ≡ Some (Run options)
+AskToRun words options = words_of (word_texts words) ≡ Some (Run options)
 
 -- the words ask for something else, or for nothing
 abbrev pub AskForNoRun : List (String Global) → Type 0
@@ -30,7 +30,7 @@ order_in Events = order.Ask query.Events
 order_in Check = order.Ask query.Check
 
 abbrev pub AskFor : List (String Global) → Order → Type 0
-AskFor words order = option_map order_in (words_of (texts words)) ≡ Some order
+AskFor words order = option_map order_in (words_of (word_texts words)) ≡ Some order
 
 abbrev pub AskForNothing : List (String Global) → Type 0
 AskForNothing words = (order : Order) → AskFor words order → ⊥

@@ -1,6 +1,6 @@
 //! What a command comes to, and the status that says so.
 ghost use Rattle.std.specs.Prelude.{◌≡◌};
-ghost use Rattle.run_top.specs.Status.{answer_of_end, answer_of_fault, error_of, status_of};
+ghost use Rattle.run_top.specs.Status.{answer_of_end, answer_of_fault, answer_of_opening, status_of};
 ghost use Rattle.run_top.specs.declared.answer.Answer.TheVariants.{Memory};
 
 use crate::status::{
@@ -103,7 +103,7 @@ impl From<AllocError> for Answer {
 }
 
 impl From<StoreError> for Answer {
-    ghost from_gives = { λ store_error answer. answer ≡ error_of store_error };
+    ghost from_gives = { λ store_error answer. answer ≡ answer_of_opening store_error };
 
     fn from(error: StoreError) -> Answer {
         match error {

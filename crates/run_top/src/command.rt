@@ -7,7 +7,7 @@ ghost use Rattle.machine_model.specs.State.{State};
 ghost use Rattle.machine_model.specs.declared.flow.Flow.{Flow as TheFlow};
 ghost use Rattle.store_core.specs.Opened.{IsShut};
 ghost use Rattle.engine_core.specs.Committing.{identity_of};
-ghost use Rattle.flow_definition.specs.Patterns.{told};
+ghost use Rattle.flow_definition.specs.Patterns.{told_by_builder};
 ghost use Rattle.flow_run.specs.Ending.{IsFault};
 ghost use Rattle.flow_run.specs.Puts.{outgoing};
 ghost use Rattle.flow_run.specs.Run.{machine_at};
@@ -15,9 +15,9 @@ ghost use Rattle.flow_engine.specs.Engine.{AreBuilt};
 ghost use Rattle.run_top.specs.Complete.{IsEndOrMemory, StandsStill};
 ghost use Rattle.run_top.specs.Opening.{IsOfFlow, IsOfStore};
 ghost use Rattle.run_top.specs.Printing.{IsLine, refusal_line};
-ghost use Rattle.run_top.specs.Run.{CountsEachFault, HasCause, HasEnded, HasFailed, HasWritten, IsLeftShut, IsNotOpened, IsNotRead, IsUntouched, Runs};
-ghost use Rattle.run_top.specs.Status.{answer_at, answer_of_end, status_of};
-ghost use Rattle.run_top.specs.Text.{IsBroken, IsRead};
+ghost use Rattle.run_top.specs.Run.{RunCountsFaults, AnswerHasCause, HasEnded, HasFailed, RunHasWritten, IsLeftShut, IsNotOpened, IsNotRead, IsUntouched, Runs};
+ghost use Rattle.run_top.specs.Status.{answer_of_run, answer_of_end, status_of};
+ghost use Rattle.run_top.specs.Text.{BreaksRule, IsReadFlow};
 ghost use Rattle.run_top.specs.declared.answer.Answer.{Answer as TheAnswer};
 ghost use Rattle.flow_words.specs.declared.command.RunOptions.{RunOptions as TheOptions};
 ghost use Rattle.run_top.specs.Words.{AskForNoRun, AskToRun};
@@ -68,25 +68,28 @@ pub fn run<R, D: Disk, I: Inbox, O: Outbox, F: Source, P: Patterns, S: Sink, C: 
     // nothing was done.
     ensures asked { (options : TheOptions) → AskToRun words.now options
         → (answer : TheAnswer) × (result ≡ status_of answer)
-        × (((one : TheFlow) × IsRead F.tells (F.rest flow.old) one
+        × (((one : TheFlow) × IsReadFlow F.tells (F.rest flow.old) one
         × Runs one answer C.given (C.time clock.old) (C.time clock.new) lot options D.tells D.held D.moment D.images
         disk.old disk.new I.tells I.left inbox.old inbox.new O.tells O.standing O.puts outbox.old outbox.new
         S.tells S.written S.faults sink.old sink.new)
-        ⊎ IsNotRead answer (told P.faults P.refused patterns.old) (told P.faults P.refused patterns.new) F.tells
+        ⊎ IsNotRead answer (told_by_builder P.faults P.refused patterns.old)
+        (told_by_builder P.faults P.refused patterns.new) F.tells
         (F.rest flow.old) S.tells S.written S.faults
         disk.old disk.new inbox.old inbox.new outbox.old outbox.new sink.old sink.new) }
 
     // Where the text breaks a rule, no flow was read.
-    ensures broken { (options : TheOptions) → AskToRun words.now options → IsTrue F.tells → IsBroken (F.rest flow.old)
+    ensures broken { (options : TheOptions) → AskToRun words.now options → IsTrue F.tells → BreaksRule (F.rest flow.old)
         → (answer : TheAnswer) × (result ≡ status_of answer)
-        × IsNotRead answer (told P.faults P.refused patterns.old) (told P.faults P.refused patterns.new) F.tells
+        × IsNotRead answer (told_by_builder P.faults P.refused patterns.old)
+        (told_by_builder P.faults P.refused patterns.new) F.tells
         (F.rest flow.old) S.tells S.written S.faults
         disk.old disk.new inbox.old inbox.new outbox.old outbox.new sink.old sink.new }
 
     // Where the text breaks no rule, the files stand for a state of its flow and nothing fails, the run comes to its end
     // and tells it, or memory is wanting.
     ensures complete { (options : TheOptions) → AskToRun words.now options
-        → IsTrue F.tells → (IsBroken (F.rest flow.old) → ⊥) → (one : TheFlow) → IsRead F.tells (F.rest flow.old) one
+        → IsTrue F.tells → (BreaksRule (F.rest flow.old) → ⊥) → (one : TheFlow)
+        → IsReadFlow F.tells (F.rest flow.old) one
         → IsTrue D.tells → (state : State) → IsOfFlow one lot (D.held disk.old) state
         → StandsStill (F.faults flow.old) (F.faults flow.new)
         → StandsStill (P.faults patterns.old) (P.faults patterns.new)
@@ -103,7 +106,7 @@ pub fn run<R, D: Disk, I: Inbox, O: Outbox, F: Source, P: Patterns, S: Sink, C: 
 
     // A device's fault is told only where its count rose.
     ensures faults { (answer : TheAnswer) × (result ≡ status_of answer)
-        × CountsEachFault answer (D.faults disk.old) (D.faults disk.new)
+        × RunCountsFaults answer (D.faults disk.old) (D.faults disk.new)
         (I.faults inbox.old) (I.faults inbox.new) (O.faults outbox.old) (O.faults outbox.new)
         × CountsFaults (F.faults flow.old) (F.faults flow.new) (answer ≡ Answer.Source)
         × CountsFaults (S.faults sink.old) (S.faults sink.new) (answer ≡ Answer.Sink) }
@@ -129,22 +132,24 @@ fn answer_words<D: Disk, I: Inbox, O: Outbox, F: Source, P: Patterns, S: Sink, C
     gate: &G,
 ) -> Answer
     ensures asked { (options : TheOptions) → AskToRun words.now options
-        → (((one : TheFlow) × IsRead F.tells (F.rest flow.old) one
+        → (((one : TheFlow) × IsReadFlow F.tells (F.rest flow.old) one
         × Runs one result C.given (C.time clock.old) (C.time clock.new) lot options D.tells D.held D.moment D.images
         disk.old disk.new I.tells I.left inbox.old inbox.new O.tells O.standing O.puts outbox.old outbox.new
         S.tells S.written S.faults sink.old sink.new)
-        ⊎ IsNotRead result (told P.faults P.refused patterns.old) (told P.faults P.refused patterns.new) F.tells
+        ⊎ IsNotRead result (told_by_builder P.faults P.refused patterns.old)
+        (told_by_builder P.faults P.refused patterns.new) F.tells
         (F.rest flow.old) S.tells S.written S.faults
         disk.old disk.new inbox.old inbox.new outbox.old outbox.new sink.old sink.new) }
-    ensures broken { (options : TheOptions) → AskToRun words.now options → IsTrue F.tells → IsBroken (F.rest flow.old)
-        → IsNotRead result (told P.faults P.refused patterns.old) (told P.faults P.refused patterns.new) F.tells
+    ensures broken { (options : TheOptions) → AskToRun words.now options → IsTrue F.tells → BreaksRule (F.rest flow.old)
+        → IsNotRead result (told_by_builder P.faults P.refused patterns.old)
+        (told_by_builder P.faults P.refused patterns.new) F.tells
         (F.rest flow.old) S.tells S.written S.faults
         disk.old disk.new inbox.old inbox.new outbox.old outbox.new sink.old sink.new }
     ensures usage { AskForNoRun words.now → ((result ≡ Answer.Usage) ⊎ (result ≡ Answer.Memory))
         × IsUntouched disk.old disk.new inbox.old inbox.new outbox.old outbox.new
         × (flow.new ≡ flow.old) × (patterns.new ≡ patterns.old) × (clock.new ≡ clock.old)
         × (IsTrue S.tells → IsLine S.faults S.written (refusal_line result) sink.old sink.new) }
-    ensures faults { CountsEachFault result (D.faults disk.old) (D.faults disk.new)
+    ensures faults { RunCountsFaults result (D.faults disk.old) (D.faults disk.new)
         (I.faults inbox.old) (I.faults inbox.new) (O.faults outbox.old) (O.faults outbox.new)
         × CountsFaults (F.faults flow.old) (F.faults flow.new) (result ≡ Answer.Source)
         × CountsFaults (S.faults sink.old) (S.faults sink.new) (result ≡ Answer.Sink) }
@@ -187,18 +192,20 @@ fn run_text<D: Disk, I: Inbox, O: Outbox, F: Source, P: Patterns, S: Sink, C: Cl
     gate: &G,
 ) -> Answer
     requires most { options.max_commits ≤ COMMITS_MAX }
-    ensures asked { (((one : TheFlow) × IsRead F.tells (F.rest flow.old) one
+    ensures asked { (((one : TheFlow) × IsReadFlow F.tells (F.rest flow.old) one
         × Runs one result C.given (C.time clock.old) (C.time clock.new) lot options D.tells D.held D.moment D.images
         disk.old disk.new I.tells I.left inbox.old inbox.new O.tells O.standing O.puts outbox.old outbox.new
         S.tells S.written S.faults sink.old sink.new)
-        ⊎ IsNotRead result (told P.faults P.refused patterns.old) (told P.faults P.refused patterns.new) F.tells
+        ⊎ IsNotRead result (told_by_builder P.faults P.refused patterns.old)
+        (told_by_builder P.faults P.refused patterns.new) F.tells
         (F.rest flow.old) S.tells S.written S.faults
         disk.old disk.new inbox.old inbox.new outbox.old outbox.new sink.old sink.new) }
-    ensures broken { IsTrue F.tells → IsBroken (F.rest flow.old)
-        → IsNotRead result (told P.faults P.refused patterns.old) (told P.faults P.refused patterns.new) F.tells
+    ensures broken { IsTrue F.tells → BreaksRule (F.rest flow.old)
+        → IsNotRead result (told_by_builder P.faults P.refused patterns.old)
+        (told_by_builder P.faults P.refused patterns.new) F.tells
         (F.rest flow.old) S.tells S.written S.faults
         disk.old disk.new inbox.old inbox.new outbox.old outbox.new sink.old sink.new }
-    ensures faults { CountsEachFault result (D.faults disk.old) (D.faults disk.new)
+    ensures faults { RunCountsFaults result (D.faults disk.old) (D.faults disk.new)
         (I.faults inbox.old) (I.faults inbox.new) (O.faults outbox.old) (O.faults outbox.new)
         × CountsFaults (F.faults flow.old) (F.faults flow.new) (result ≡ Answer.Source)
         × CountsFaults (S.faults sink.old) (S.faults sink.new) (result ≡ Answer.Sink) }
@@ -232,7 +239,7 @@ fn run_read<D: Disk, I: Inbox, O: Outbox, S: Sink, C: Clock, G: Gate>(
         D.tells D.held D.moment D.images
         disk.old disk.new I.tells I.left inbox.old inbox.new O.tells O.standing O.puts outbox.old outbox.new
         S.tells S.written S.faults sink.old sink.new }
-    ensures faults { CountsEachFault result (D.faults disk.old) (D.faults disk.new)
+    ensures faults { RunCountsFaults result (D.faults disk.old) (D.faults disk.new)
         (I.faults inbox.old) (I.faults inbox.new) (O.faults outbox.old) (O.faults outbox.new)
         × CountsFaults (S.faults sink.old) (S.faults sink.new) (result ≡ Answer.Sink) }
 {
@@ -290,14 +297,14 @@ pub(crate) fn run_over<D: Disk, I: Inbox, O: Outbox, C: Clock, G: Gate>(
         × (IsLeftShut (identity_of flow.now) answer D.held D.moment D.images lot
         disk.old disk.new inbox.old inbox.new outbox.old outbox.new
         ⊎ IsNotOpened answer D.moment D.images disk.old disk.new inbox.old inbox.new outbox.old outbox.new) }
-    ensures alone { IfOk result (λ ran. HasWritten (answer_of_end ran.ended) D.moment D.images (D.held disk.old)
+    ensures alone { IfOk result (λ ran. RunHasWritten (answer_of_end ran.ended) D.moment D.images (D.held disk.old)
         checkpoint disk.old disk.new) }
-    ensures barely { IfErr result (λ answer. HasWritten answer D.moment D.images (D.held disk.old) checkpoint
+    ensures barely { IfErr result (λ answer. RunHasWritten answer D.moment D.images (D.held disk.old) checkpoint
         disk.old disk.new
         ⊎ IsNotOpened answer D.moment D.images disk.old disk.new inbox.old inbox.new outbox.old outbox.new) }
-    ensures why { HasCause flow.now (answer_at result) D.tells D.held D.moment D.images lot most
+    ensures why { AnswerHasCause flow.now (answer_of_run result) D.tells D.held D.moment D.images lot most
         disk.old disk.new inbox.old inbox.new outbox.old outbox.new }
-    ensures faults { CountsEachFault (answer_at result) (D.faults disk.old) (D.faults disk.new)
+    ensures faults { RunCountsFaults (answer_of_run result) (D.faults disk.old) (D.faults disk.new)
         (I.faults inbox.old) (I.faults inbox.new) (O.faults outbox.old) (O.faults outbox.new) }
 {
     failed_openings_end_a_run::<D>();

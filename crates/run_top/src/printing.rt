@@ -5,7 +5,7 @@ ghost use Rattle.flow_report.specs.Texts.{text_of};
 ghost use Rattle.flow_report.specs.Writing.{Writes};
 ghost use Rattle.flow_run.specs.Ending.{IsFault};
 ghost use Rattle.run_top.specs.Opening.{IsOfStore};
-ghost use Rattle.run_top.specs.Printing.{IsLine, IsPrinted, IsRefusal, closing_text, connection_at, end_line, limit_word, refusal_line, refused_line};
+ghost use Rattle.run_top.specs.Printing.{IsLine, AnswerIsPrinted, IsRefusingAnswer, closing_text, connection_at, end_line, limit_word, refusal_line, refused_line};
 ghost use Rattle.run_top.specs.Run.{IsShownAs, IsToldAs};
 ghost use Rattle.run_top.specs.Status.{status_of};
 
@@ -62,8 +62,8 @@ pub(crate) fn show<S: Sink>(sink: &mut S, flow: &Flow, run: Result<Ran, Answer>)
     requires refused { IfErr run IsOfStore }
     ensures told { IsShownAs run result }
     ensures printed { IfOk run (λ ran. IfSome ran.closed (λ closed. IsTrue S.tells
-        → IsPrinted result (closing_text flow.now ran.ended closed) (S.written sink.old) (S.written sink.new))) }
-    ensures line { IsRefusal result → IsTrue S.tells
+        → AnswerIsPrinted result (closing_text flow.now ran.ended closed) (S.written sink.old) (S.written sink.new))) }
+    ensures line { IsRefusingAnswer result → IsTrue S.tells
         → IsLine S.faults S.written (refusal_line result) sink.old sink.new }
     ensures faults { CountsFaults (S.faults sink.old) (S.faults sink.new) (result ≡ Answer.Sink) }
 {
@@ -98,8 +98,8 @@ fn show_end<S: Sink>(sink: &mut S, flow: &Flow, ended: Ended, closed: &Option<Cl
     requires closed { MatchOption closed.now (IsFault ended) (λ closed. IsFault ended → ⊥) }
     ensures told { IsToldAs ended result }
     ensures printed { IfSome closed.now (λ closed. IsTrue S.tells
-        → IsPrinted result (closing_text flow.now ended closed) (S.written sink.old) (S.written sink.new)) }
-    ensures line { IsRefusal result → IsTrue S.tells
+        → AnswerIsPrinted result (closing_text flow.now ended closed) (S.written sink.old) (S.written sink.new)) }
+    ensures line { IsRefusingAnswer result → IsTrue S.tells
         → IsLine S.faults S.written (refusal_line result) sink.old sink.new }
     ensures faults { CountsFaults (S.faults sink.old) (S.faults sink.new) (result ≡ Answer.Sink) }
 {

@@ -1,9 +1,9 @@
 //! Reading the text of a flow from its source.
 ghost use Rattle.std.specs.Prelude.{◌≡◌, ◌⊎◌, ℕ, ◌+◌, ◌≤◌, ◌<◌, List, [], ◌++◌, true, false, take, length, IsTrue, IsErr, IsErrOf, IfOk, IfErr};
 ghost use Rattle.disk_trait.specs.Faults.{CountsFaults};
-ghost use Rattle.flow_definition.specs.Patterns.{told};
+ghost use Rattle.flow_definition.specs.Patterns.{told_by_builder};
 ghost use Rattle.flow_definition.specs.declared.rule.Rule.{Rule as TheRule};
-ghost use Rattle.run_top.specs.Text.{IsBroken, IsOfText, IsRead, IsRefused};
+ghost use Rattle.run_top.specs.Text.{BreaksRule, IsOfText, IsReadFlow, TextIsRefused};
 
 use crate::Answer;
 use flow_definition::{FlowError, Patterns, TEXT_MAX, read_flow};
@@ -20,11 +20,12 @@ pub(crate) fn read<F: Source, P: Patterns>(
     source: &mut F,
     patterns: &mut P,
 ) -> Result<Flow, Answer>
-    ensures accepted { IfOk result (IsRead F.tells (F.rest source.old)) }
+    ensures accepted { IfOk result (IsReadFlow F.tells (F.rest source.old)) }
     ensures refused { (rule : TheRule) (place : List ℕ) → IsErrOf result (Answer.Refused rule place)
-        → IsRefused (told P.faults P.refused patterns.old) (told P.faults P.refused patterns.new) F.tells
+        → TextIsRefused (told_by_builder P.faults P.refused patterns.old)
+        (told_by_builder P.faults P.refused patterns.new) F.tells
         (F.rest source.old) rule place }
-    ensures broken { IsTrue F.tells → IsBroken (F.rest source.old) → IsErr result }
+    ensures broken { IsTrue F.tells → BreaksRule (F.rest source.old) → IsErr result }
     ensures kinds { IfErr result IsOfText }
     ensures cause { CountsFaults (F.faults source.old) (F.faults source.new) (IsErrOf result Answer.Source) }
 {

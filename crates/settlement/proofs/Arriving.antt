@@ -14,7 +14,7 @@ use Rattle.flowfile_record.specs.Shared.{own_bytes}
 use Rattle.flowfile_record.specs.declared.stored.Placed.{Placed}
 use Rattle.settlement.specs.Contents.{fresh_in}
 use Rattle.settlement.specs.Ending.{goes_to}
-use Rattle.settlement.specs.Placing.{Newcomer, first_of, firsts, placed_at, placed_from, wanted}
+use Rattle.settlement.specs.Placing.{EndedNewcomer, first_newcomer, firsts, placed_at, placed_from, wanted}
 use Rattle.settlement.proofs.ByArrival.{put_last, put_all}
 use Rattle.settlement.proofs.Clones.{clones_from, fresh-own}
 use Rattle.settlement.proofs.EndedFiles.{Case, ended_of}
@@ -32,13 +32,13 @@ comer file _ = []
 abbrev pub comers : List SettledFile → List SettlementClone → List Comer
 comers files clones = flat_map (λ file. comer file file.goes) files ++ map (λ clone. (clone.connection, clone.number, clone.original)) clones
 
-abbrev pub as_placed : Case → Comer → Newcomer
+abbrev pub as_placed : Case → Comer → EndedNewcomer
 as_placed c one = (one.0, one.1, ended_of c one.2)
 
 abbrev pub as_queued : Comer → machine.Newcomer
 as_queued one = (one.0, in_queue one.2 one.1)
 
-first_same : (c : Case) (file : SettledFile) (goes : Destination) → first_of (ended_of c file) (goes_to goes) ≡ map (as_placed c) (comer file goes)
+first_same : (c : Case) (file : SettledFile) (goes : Destination) → first_newcomer (ended_of c file) (goes_to goes) ≡ map (as_placed c) (comer file goes)
 first_same c file (placing.Queues first others) = refl
 first_same c file placing.Returns = refl
 first_same c file (placing.Drops relationship) = refl

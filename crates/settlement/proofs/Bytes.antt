@@ -11,8 +11,8 @@ use Rattle.flowfile_record.specs.declared.flow_file.FlowFile.{FlowFile}
 use Rattle.flowfile_record.specs.declared.worked.Body.{Body}
 use Rattle.flowfile_record.specs.declared.worked.Body.TheVariants.{Whole, Part, New}
 use Rattle.process_session.specs.declared.file.Source.{Source}
-use Rattle.settlement.specs.Contents.{content_in, fresh_in, kept_content, source_bytes, IsBodyWithin}
-use Rattle.settlement.specs.Handed.{AreRead, sizes_of}
+use Rattle.settlement.specs.Contents.{body_content, fresh_in, kept_content, source_bytes, IsBodyWithin}
+use Rattle.settlement.specs.Handed.{AreReadSources, content_sizes}
 
 abbrev pub contents_of : (bytes : ContentRef → List ℕ) → List FlowFile → List (List ℕ)
 contents_of bytes taken = map (λ file. bytes file.content) taken
@@ -22,7 +22,7 @@ pub record IsStamp (at : ContentRef) (content : List ℕ) : Type 0 where
   pub size : at.size ≡ length content
   pub digest : at.digest ≡ sha256 content
 
-kept_stamp : (bytes : ContentRef → List ℕ) (taken : List FlowFile) (sources : List Source) (of : ℕ) → AreRead bytes taken sources
+kept_stamp : (bytes : ContentRef → List ℕ) (taken : List FlowFile) (sources : List Source) (of : ℕ) → AreReadSources bytes taken sources
     → IsStamp (kept_content taken of) (unwrap_or (slice_get (contents_of bytes taken) of) [])
 kept_stamp bytes [] [] of read = record { size = refl; digest = refl }
 kept_stamp bytes [] (source ∷ sources) of read = absurd read
@@ -47,7 +47,7 @@ part_of_read None whole offset size is within =
     let nothing : offset ≡ 0 = omega arith in
     rw (none, nothing) refl
 
-part_same : (bytes : ContentRef → List ℕ) (taken : List FlowFile) (sources : List Source) (of offset size : ℕ) → AreRead bytes taken sources
+part_same : (bytes : ContentRef → List ℕ) (taken : List FlowFile) (sources : List Source) (of offset size : ℕ) → AreReadSources bytes taken sources
     → offset + size ≤ length (source_bytes sources of)
     → slice_range (source_bytes sources of) offset (offset + size) ≡ take size (drop offset (unwrap_or (slice_get (contents_of bytes taken) of) []))
 part_same bytes [] [] of offset size read within = part_of_read None [] offset size tt within
@@ -62,7 +62,7 @@ part_read : (read : Option (List ℕ)) (whole : List ℕ) (offset size : ℕ) �
 part_read (Some read) whole offset size is within = omega (arith, within, ap length is)
 part_read None whole offset size is within = omega (arith, within)
 
-part_within : (bytes : ContentRef → List ℕ) (taken : List FlowFile) (sources : List Source) (of offset size : ℕ) → AreRead bytes taken sources
+part_within : (bytes : ContentRef → List ℕ) (taken : List FlowFile) (sources : List Source) (of offset size : ℕ) → AreReadSources bytes taken sources
     → offset + size ≤ length (source_bytes sources of) → offset + size ≤ length (unwrap_or (slice_get (contents_of bytes taken) of) [])
 part_within bytes [] [] of offset size read within = omega (arith, within)
 part_within bytes [] (source ∷ sources) of offset size read within = absurd read
@@ -74,8 +74,8 @@ part_size : (whole : List ℕ) (offset size : ℕ) → offset + size ≤ length 
 part_size whole offset size within = omega (arith, within, length-take size (drop offset whole), length-drop offset whole)
 
 -- a reference to a file's content has its size and its digest
-pub content-stamp : (bytes : ContentRef → List ℕ) (taken : List FlowFile) (sources : List Source) (body : Body) → AreRead bytes taken sources → IsBodyWithin sources body
-    → IsStamp (content_in taken sources body) (content_of (contents_of bytes taken) body)
+pub content-stamp : (bytes : ContentRef → List ℕ) (taken : List FlowFile) (sources : List Source) (body : Body) → AreReadSources bytes taken sources → IsBodyWithin sources body
+    → IsStamp (body_content taken sources body) (content_of (contents_of bytes taken) body)
 content-stamp bytes taken sources (Whole of) read within = kept_stamp bytes taken sources of read
 content-stamp bytes taken sources (Part of offset size) read within = record {
   size = part_size (unwrap_or (slice_get (contents_of bytes taken) of) []) offset size (part_within bytes taken sources of offset size read within);
@@ -84,7 +84,7 @@ content-stamp bytes taken sources (Part of offset size) read within = record {
 content-stamp bytes taken sources (New written) read within = record { size = refl; digest = refl }
 
 -- the size of a taken content
-pub kept-size : (taken : List FlowFile) (of : ℕ) → of < length taken → (kept_content taken of).size ≡ slice_index (sizes_of taken) of
+pub kept-size : (taken : List FlowFile) (of : ℕ) → of < length taken → (kept_content taken of).size ≡ slice_index (content_sizes taken) of
 kept-size [] of h = absurd (omega arith)
 kept-size (file ∷ taken) zero h = refl
 kept-size (file ∷ taken) (suc of) h = kept-size taken of (omega arith)
@@ -95,8 +95,8 @@ same_range whole offset size =
     ap (λ n. take n (drop offset whole)) same
 
 -- the bytes of a file's content are those that come with it, or else those that its reference stands for
-pub content-bytes : (bytes : ContentRef → List ℕ) (taken : List FlowFile) (sources : List Source) (body : Body) → HaveRanges bytes → IsBodyOver (sizes_of taken) body
-    → unwrap_or (own_bytes (fresh_in body)) (bytes (content_in taken sources body)) ≡ content_of (contents_of bytes taken) body
+pub content-bytes : (bytes : ContentRef → List ℕ) (taken : List FlowFile) (sources : List Source) (body : Body) → HaveRanges bytes → IsBodyOver (content_sizes taken) body
+    → unwrap_or (own_bytes (fresh_in body)) (bytes (body_content taken sources body)) ≡ content_of (contents_of bytes taken) body
 content-bytes bytes taken sources (Whole of) ranges over = sym (kept_bytes bytes taken of (omega (arith, over, length-map taken (λ (file : FlowFile). file.content.size))))
 content-bytes bytes taken sources (Part of offset size) ranges over =
     let there : of < length taken = omega (arith, over.0, length-map taken (λ (file : FlowFile). file.content.size)) in

@@ -9,7 +9,7 @@ use Rattle.std.proofs.lemmas.List.Elements.{filter-append}
 use Rattle.std.proofs.lemmas.List.FromFn.{length-map-range_with_len, get_or-map-range_with_len}
 use Rattle.flowfile_record.specs.declared.worked.Origin.{Origin}
 use Rattle.flowfile_record.specs.declared.worked.Origin.TheVariants as origin
-use Rattle.settlement.specs.Telling.{children_of, is_child, parent_of, with_child}
+use Rattle.settlement.specs.Telling.{children_of, is_child, parent_of, with_child_number}
 use Rattle.settlement.specs.declared.file.EndedFile.{EndedFile}
 use Rattle.settlement.specs.declared.offspring.Kinship.{Kinship}
 use Rattle.settlement.specs.declared.offspring.Kinship.TheVariants.{Forked, Cloned}
@@ -73,7 +73,7 @@ set_at old i parent number h = elim (cases_eq i parent) [
 ]
 
 with_child_is : (kinship : Kinship) (files : List EndedFile) (file : EndedFile) (parent : Option ℕ) (n : ℕ) → parent_of kinship file.worked.origin ≡ parent
-    → with_child parent file.number (lists kinship files n) ≡ lists kinship (files ++ file ∷ []) n
+    → with_child_number parent file.number (lists kinship files n) ≡ lists kinship (files ++ file ∷ []) n
 with_child_is kinship files file None n is =
     let same : (place : ℕ) → children_of kinship files place ≡ children_of kinship (files ++ file ∷ []) place =
     λ place. sym (children_push kinship files file None place is ∙ append-nil (children_of kinship files place)) in
@@ -93,11 +93,11 @@ with_child_is kinship files file (Some parent) n is =
 
 -- one file more
 pub lists_more : (kinship : Kinship) (files : List EndedFile) (i : ℕ) (file : EndedFile) (n : ℕ) (old new : List (List ℕ)) → i < length files → file ≡ get_or files i file
-    → new ≡ with_child (parent_of kinship file.worked.origin) file.number old → old ≡ map (children_of kinship (take i files)) (range_with_len 0 n)
+    → new ≡ with_child_number (parent_of kinship file.worked.origin) file.number old → old ≡ map (children_of kinship (take i files)) (range_with_len 0 n)
     → new ≡ map (children_of kinship (take (i + 1) files)) (range_with_len 0 n)
 lists_more kinship files i file n old new h is added before =
     added
-    ∙ ap (with_child (parent_of kinship file.worked.origin) file.number) before
+    ∙ ap (with_child_number (parent_of kinship file.worked.origin) file.number) before
     ∙ with_child_is kinship (take i files) file (parent_of kinship file.worked.origin) n refl
     ∙ ap (λ x. lists kinship (take i files ++ x ∷ []) n) is
     ∙ ap (λ xs. lists kinship xs n) (sym (take_more files i file h))

@@ -17,7 +17,7 @@ use Rattle.machine_model.specs.declared.flow.Flow.{Flow}
 use Rattle.machine_model.specs.Changing.{placed_file, placed_into, queued_file}
 use Rattle.machine_model.proofs.Tally.{Each, each-append, tally}
 use Rattle.settlement.specs.Contents.{fresh_in, shared_in}
-use Rattle.settlement.specs.Placing.{Newcomer, PlacingFrom, arrived, cloned_from, clones_of, first_of, firsts, further, placed_at, placed_from, returned, returning, wanted}
+use Rattle.settlement.specs.Placing.{EndedNewcomer, PlacingFrom, arrived, cloned_from, clones_of, first_newcomer, firsts, further, placed_at, placed_from, returned, returning, wanted}
 use Rattle.settlement.specs.Recording.{IsRecordable}
 use Rattle.settlement.specs.declared.file.EndedFile.{EndedFile}
 use Rattle.settlement.specs.declared.file.Goes.{Goes}
@@ -25,7 +25,7 @@ use Rattle.settlement.specs.declared.file.Goes.TheVariants.{Queues, Returns, Dro
 use Rattle.settlement.proofs.Placed.{length-placed, placed-append}
 
 -- the clones as newcomers, numbered in turn
-abbrev pub clones_from : (number : ℕ) → List (EndedFile × ℕ) → List Newcomer
+abbrev pub clones_from : (number : ℕ) → List (EndedFile × ℕ) → List EndedNewcomer
 clones_from number [] = []
 clones_from number (clone ∷ clones) = (clone.1, number, clone.0) ∷ clones_from (number + 1) clones
 
@@ -93,7 +93,7 @@ get_behind [] p after = refl
 get_behind (q ∷ before) p after = get_behind before p after
 
 goes_clones : (all before after : List Placed) (most place at number arrival : ℕ) (file : EndedFile) (goes : Goes)
-    → all ≡ before ++ (placed_from at (first_of file goes) ++ after) → length before ≡ place → place + length (first_of file goes) ≤ most
+    → all ≡ before ++ (placed_from at (first_newcomer file goes) ++ after) → length before ≡ place → place + length (first_newcomer file goes) ≤ most
     → AllZip (IsClone all most) (clones_of place number arrival file (further goes)) (placed_from arrival (clones_from number (map (λ connection. (file, connection)) (further goes))))
 goes_clones all before after most place at number arrival file (Queues first others) is long few =
     let there : slice_get all place ≡ Some (placed_at at (first, file.number, file)) =
@@ -114,7 +114,7 @@ clones_alike : (all before after : List Placed) (most place at number arrival : 
     → AllZip (IsClone all most) (cloned_from place number arrival files) (placed_from arrival (clones_from number (wanted files)))
 clones_alike all before after most place at number arrival [] is long few = tt
 clones_alike all before after most place at number arrival (file ∷ files) is long few =
-    let head = first_of file file.goes in
+    let head = first_newcomer file file.goes in
     let heads = placed_from at head in
     let later = placed_from (at + length head) (firsts files) in
     let copies : List (EndedFile × ℕ) = map (λ (connection : ℕ). (file, connection)) (further file.goes) in
@@ -239,7 +239,7 @@ fresh_alone (Whole place) of is = absurd cc
 fresh_alone (Part place offset size) of is = absurd cc
 fresh_alone (New bytes) of is = absurd cc
 
-news_alone : (arrival : ℕ) (news : List Newcomer) → Each SharesNothing (placed_from arrival news)
+news_alone : (arrival : ℕ) (news : List EndedNewcomer) → Each SharesNothing (placed_from arrival news)
 news_alone arrival [] = tt
 news_alone arrival (one ∷ news) = (fresh_alone one.2.worked.body, news_alone (arrival + 1) news)
 

@@ -23,12 +23,12 @@ use Rattle.machine_model.specs.Placing.{count_made, entered_in, numbers_from}
 use Rattle.machine_model.proofs.Among.{Among, contains_among}
 use Rattle.machine_model.proofs.Tally.{Each, each-append, each-map}
 use Rattle.process_session.specs.declared.file.Source.{Source}
-use Rattle.settlement.specs.Contents.{content_in, fresh_in, kept_content, source_bytes, IsBodyWithin}
+use Rattle.settlement.specs.Contents.{body_content, fresh_in, kept_content, source_bytes, IsBodyWithin}
 use Rattle.settlement.specs.Ending.{EndingPlace, ended_file, ended_files}
-use Rattle.settlement.specs.Handed.{AreRead, MaySettle, sizes_of}
-use Rattle.settlement.specs.Placing.{Newcomer, PlacingFrom, arrived, first_of, firsts, further, placed_from, returned, returning, wanted}
-use Rattle.settlement.specs.TellsOf.{BringsNoneAsClone, IsContentBy, TellsOf}
-use Rattle.settlement.specs.Whole.{place_in, placing_at, settled_in}
+use Rattle.settlement.specs.Handed.{AreReadSources, MaySettle, content_sizes}
+use Rattle.settlement.specs.Placing.{EndedNewcomer, PlacingFrom, arrived, first_newcomer, firsts, further, placed_from, returned, returning, wanted}
+use Rattle.settlement.specs.TellsOf.{BringsNoneAsClone, IsContentBy, TellsOfEnded}
+use Rattle.settlement.specs.Whole.{ending_place, placing_at, settled_in}
 use Rattle.settlement.specs.declared.counters.Counters.{Counters}
 use Rattle.settlement.specs.declared.file.EndedFile.{EndedFile}
 use Rattle.settlement.specs.declared.file.Goes.{Goes}
@@ -45,9 +45,9 @@ abbrev OfFile : (ContentRef → Fresh → Type 0) → EndedFile → Type 0
 OfFile Holds file = Holds file.content (fresh_in file.worked.body)
 
 abbrev OfBody : (ContentRef → Fresh → Type 0) → List FlowFile → List Source → Worked → Type 0
-OfBody Holds taken sources file = Holds (content_in taken sources file.body) (fresh_in file.body)
+OfBody Holds taken sources file = Holds (body_content taken sources file.body) (fresh_in file.body)
 
-abbrev OfNew : (ContentRef → Fresh → Type 0) → Newcomer → Type 0
+abbrev OfNew : (ContentRef → Fresh → Type 0) → EndedNewcomer → Type 0
 OfNew Holds one = OfFile Holds one.2
 
 abbrev OfClone : (ContentRef → Fresh → Type 0) → EndedFile × ℕ → Type 0
@@ -60,11 +60,11 @@ zipped_hold Holds at (number ∷ numbers) [] files hold = tt
 zipped_hold Holds at (number ∷ numbers) (moment ∷ entered) [] hold = tt
 zipped_hold Holds at (number ∷ numbers) (moment ∷ entered) (file ∷ files) hold = (hold.0, zipped_hold Holds at numbers entered files hold.1)
 
-placed_hold : (Holds : ContentRef → Fresh → Type 0) (arrival : ℕ) (news : List Newcomer) → Each (OfNew Holds) news → Each (OfPlaced Holds) (placed_from arrival news)
+placed_hold : (Holds : ContentRef → Fresh → Type 0) (arrival : ℕ) (news : List EndedNewcomer) → Each (OfNew Holds) news → Each (OfPlaced Holds) (placed_from arrival news)
 placed_hold Holds arrival [] hold = tt
 placed_hold Holds arrival (one ∷ news) hold = (hold.0, placed_hold Holds (arrival + 1) news hold.1)
 
-first_holds : (Holds : ContentRef → Fresh → Type 0) (file : EndedFile) (goes : Goes) → OfFile Holds file → Each (OfNew Holds) (first_of file goes)
+first_holds : (Holds : ContentRef → Fresh → Type 0) (file : EndedFile) (goes : Goes) → OfFile Holds file → Each (OfNew Holds) (first_newcomer file goes)
 first_holds Holds file (Queues first others) hold = (hold, tt)
 first_holds Holds file Returns hold = tt
 first_holds Holds file (Drops relationship) hold = tt
@@ -73,7 +73,7 @@ first_holds Holds file Leaves hold = tt
 firsts_hold : (Holds : ContentRef → Fresh → Type 0) (files : List EndedFile) → Each (OfFile Holds) files → Each (OfNew Holds) (firsts files)
 firsts_hold Holds [] hold = tt
 firsts_hold Holds (file ∷ files) hold =
-    each-append (OfNew Holds) (first_of file file.goes) (firsts files) (first_holds Holds file file.goes hold.0) (firsts_hold Holds files hold.1)
+    each-append (OfNew Holds) (first_newcomer file file.goes) (firsts files) (first_holds Holds file file.goes hold.0) (firsts_hold Holds files hold.1)
 
 wanted_hold : (Holds : ContentRef → Fresh → Type 0) (files : List EndedFile) → Each (OfFile Holds) files → Each (OfClone Holds) (wanted files)
 wanted_hold Holds [] hold = tt
@@ -124,7 +124,7 @@ digest_there [] of h = absurd (omega arith)
 digest_there (file ∷ taken) zero h = inl refl
 digest_there (file ∷ taken) (suc of) h = inr (digest_there taken of (omega arith))
 
-content_holds : (taken : List FlowFile) (sources : List Source) (body : Body) → IsBodyOver (sizes_of taken) body → IsContentBy taken (content_in taken sources body) (fresh_in body)
+content_holds : (taken : List FlowFile) (sources : List Source) (body : Body) → IsBodyOver (content_sizes taken) body → IsContentBy taken (body_content taken sources body) (fresh_in body)
 content_holds taken sources (Whole of) over =
     let there : of < length taken = omega (arith, over, length-map taken (λ (file : FlowFile). file.content.size)) in
     let contents = map (λ (file : FlowFile). file.content) taken in
@@ -147,8 +147,8 @@ content_holds taken sources (New bytes) over = (refl, refl)
 abbrev HasDigest : (ContentRef → List ℕ) → ContentRef → Fresh → Type 0
 HasDigest bytes content fresh = is_stored fresh ≡ true → sha256 (bytes content) ≡ content.digest
 
-digest_holds : (bytes : ContentRef → List ℕ) (taken : List FlowFile) (sources : List Source) (body : Body) → HaveRanges bytes → AreRead bytes taken sources → IsBodyOver (sizes_of taken) body
-    → IsBodyWithin sources body → HasDigest bytes (content_in taken sources body) (fresh_in body)
+digest_holds : (bytes : ContentRef → List ℕ) (taken : List FlowFile) (sources : List Source) (body : Body) → HaveRanges bytes → AreReadSources bytes taken sources → IsBodyOver (content_sizes taken) body
+    → IsBodyWithin sources body → HasDigest bytes (body_content taken sources body) (fresh_in body)
 digest_holds bytes taken sources (Whole of) ranges read over within stored =
     ap sha256 (content-bytes bytes taken sources (Whole of) ranges over) ∙ sym (content-stamp bytes taken sources (Whole of) read within).digest
 digest_holds bytes taken sources (Part of offset size) ranges read over within stored =
@@ -182,15 +182,15 @@ files_written written taken sources (file ∷ files) has =
 
 -- what holds of each body that an outcome may have holds of those of its files
 bodies_hold : (Holds : ContentRef → Fresh → Type 0) (taken : List FlowFile) (sources : List Source) (relationships : ℕ) (files : List Worked)
-    → ((body : Body) → IsBodyOver (sizes_of taken) body → IsBodyWithin sources body → Holds (content_in taken sources body) (fresh_in body))
-    → All (IsWorked relationships (sizes_of taken)) files → All (λ file. IsBodyWithin sources file.body) files → Each (OfBody Holds taken sources) files
+    → ((body : Body) → IsBodyOver (content_sizes taken) body → IsBodyWithin sources body → Holds (body_content taken sources body) (fresh_in body))
+    → All (IsWorked relationships (content_sizes taken)) files → All (λ file. IsBodyWithin sources file.body) files → Each (OfBody Holds taken sources) files
 bodies_hold Holds taken sources relationships [] holds worked within = tt
 bodies_hold Holds taken sources relationships (file ∷ files) holds worked within = (
-  holds file.body (All-head (IsWorked relationships (sizes_of taken)) file files worked).body (All-head (λ file. IsBodyWithin sources file.body) file files within),
-  bodies_hold Holds taken sources relationships files holds (All-tail (IsWorked relationships (sizes_of taken)) file files worked) (All-tail (λ file. IsBodyWithin sources file.body) file files within),
+  holds file.body (All-head (IsWorked relationships (content_sizes taken)) file files worked).body (All-head (λ file. IsBodyWithin sources file.body) file files within),
+  bodies_hold Holds taken sources relationships files holds (All-tail (IsWorked relationships (content_sizes taken)) file files worked) (All-tail (λ file. IsBodyWithin sources file.body) file files within),
 )
 
-pub settled-tells : (flow : Flow) (given : Given) (counters : Counters) (ended : Ended) (processor : Processor) → MaySettle flow counters ended → TellsOf given counters ended (settled_in flow given counters ended processor)
+pub settled-tells : (flow : Flow) (given : Given) (counters : Counters) (ended : Ended) (processor : Processor) → MaySettle flow counters ended → TellsOfEnded given counters ended (settled_in flow given counters ended processor)
 settled-tells flow given counters ended processor may = record {
   processor = refl;
   moment = refl;
@@ -209,7 +209,7 @@ settled-tells flow given counters ended processor may = record {
     outcome = ended.outcome.files
 
     at : EndingPlace
-    at = place_in flow given counters ended processor
+    at = ending_place flow given counters ended processor
 
     from : PlacingFrom
     from = placing_at at ended.connection counters.next_arrival
@@ -220,7 +220,7 @@ settled-tells flow given counters ended processor may = record {
     first : ℕ
     first = counters.next_number + count_made outcome
 
-    bodies : (Holds : ContentRef → Fresh → Type 0) → ((body : Body) → IsBodyOver (sizes_of ended.taken) body → IsBodyWithin ended.sources body → Holds (content_in ended.taken ended.sources body) (fresh_in body))
+    bodies : (Holds : ContentRef → Fresh → Type 0) → ((body : Body) → IsBodyOver (content_sizes ended.taken) body → IsBodyWithin ended.sources body → Holds (body_content ended.taken ended.sources body) (fresh_in body))
         → Each (OfBody Holds ended.taken ended.sources) outcome
     bodies Holds holds = bodies_hold Holds ended.taken ended.sources may.relationships outcome holds may.outcome.each may.parts
 
@@ -234,6 +234,6 @@ settled-tells flow given counters ended processor may = record {
         subst (λ n. AreInTurn 0 n outcome) (length-map ended.taken (λ (file : FlowFile). file.content.size) ∙ sym (length-map ended.taken (λ (file : FlowFile). file.number))) may.outcome.in_turn
 
 pub if-tells : {E : Type 0} (flow : Flow) (given : Given) (counters : Counters) (ended : Ended) (processor : Processor) (result : Result Settled E) → MaySettle flow counters ended
-    → IfOk result (λ settled. settled ≡ settled_in flow given counters ended processor) → IfOk result (TellsOf given counters ended)
-if-tells flow given counters ended processor (Ok settled) may is = subst (TellsOf given counters ended) (sym is) (settled-tells flow given counters ended processor may)
+    → IfOk result (λ settled. settled ≡ settled_in flow given counters ended processor) → IfOk result (TellsOfEnded given counters ended)
+if-tells flow given counters ended processor (Ok settled) may is = subst (TellsOfEnded given counters ended) (sym is) (settled-tells flow given counters ended processor may)
 if-tells flow given counters ended processor (Err error) may is = is

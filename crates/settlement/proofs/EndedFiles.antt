@@ -13,10 +13,10 @@ use Rattle.machine_model.specs.declared.given.Given.{Given}
 use Rattle.machine_model.specs.Changing.{queued_file}
 use Rattle.machine_model.specs.Placing.{EndedSession, SettledFile, settled_file, settled_files, numbers_from, entered_in}
 use Rattle.machine_model.specs.State.{QueuedFile, State}
-use Rattle.settlement.specs.Contents.{content_in, IsBodyWithin}
+use Rattle.settlement.specs.Contents.{body_content, IsBodyWithin}
 use Rattle.settlement.specs.Ending.{EndingPlace, ended_file, ended_files, goes_to}
-use Rattle.settlement.specs.Handed.{AreRead, session_of}
-use Rattle.settlement.specs.Whole.{place_in}
+use Rattle.settlement.specs.Handed.{AreReadSources, ended_session}
+use Rattle.settlement.specs.Whole.{ending_place}
 use Rattle.settlement.specs.declared.counters.Counters.{Counters}
 use Rattle.settlement.specs.declared.file.EndedFile.{EndedFile}
 use Rattle.settlement.specs.declared.handed.Ended.{Ended}
@@ -45,12 +45,12 @@ pub record Case : Type 0 where
 
 -- they stand where the calls inside say
 abbrev pub by_body : Case → Case
-by_body c = record c { content = λ file. content_in c.ended.taken c.ended.sources file.worked.body }
+by_body c = record c { content = λ file. body_content c.ended.taken c.ended.sources file.worked.body }
 
 -- .. with the size and the digest of their bytes
 abbrev pub by_bytes : Case → Case
 by_bytes c = record c {
-  content = λ file. record (content_in c.ended.taken c.ended.sources file.worked.body) { size = length file.bytes; digest = sha256 file.bytes };
+  content = λ file. record (body_content c.ended.taken c.ended.sources file.worked.body) { size = length file.bytes; digest = sha256 file.bytes };
 }
 
 -- a machine's file as the calls inside have it
@@ -65,10 +65,10 @@ ended_of c file = record {
 }
 
 abbrev pub place : Case → EndingPlace
-place c = place_in c.flow c.given (counters_of c.state) c.ended c.processor
+place c = ending_place c.flow c.given (counters_of c.state) c.ended c.processor
 
 abbrev pub session : Case → EndedSession
-session c = session_of c.flow c.given c.ended c.processor c.bytes c.state
+session c = ended_session c.flow c.given c.ended c.processor c.bytes c.state
 
 pub taken_contents : (bytes : ContentRef → List ℕ) (taken : List FlowFile) → map (λ (file : QueuedFile). file.bytes) (map (queued_file bytes) taken) ≡ contents_of bytes taken
 taken_contents bytes taken = map-map (λ (file : QueuedFile). file.bytes) (queued_file bytes) taken
@@ -83,7 +83,7 @@ taken_moments bytes taken = map-map (λ (file : QueuedFile). file.entered) (queu
 
 -- the content of a file stands where the case says
 abbrev IsAsSaid : Case → Worked → Type 0
-IsAsSaid c worked = (number entered : ℕ) → content_in c.ended.taken c.ended.sources worked.body ≡ c.content (settled_file (session c) (number, entered, worked))
+IsAsSaid c worked = (number entered : ℕ) → body_content c.ended.taken c.ended.sources worked.body ≡ c.content (settled_file (session c) (number, entered, worked))
 
 each_same : (c : Case) (numbers entered : List ℕ) (files : List Worked) → All (IsAsSaid c) files
     → map (λ f. ended_file (place c) (f.0, f.1.0, f.1.1)) (zip numbers (zip entered files))
@@ -108,11 +108,11 @@ ended-by-body c files = all_same (by_body c) files (λ i d lt number entered. re
 stamped : (at : ContentRef) (content : List ℕ) → IsStamp at content → at ≡ record at { size = length content; digest = sha256 content }
 stamped at content stamp = λ i. record at { size = stamp.size i; digest = stamp.digest i }
 
-one_read : (c : Case) (worked : Worked) → AreRead c.bytes c.ended.taken c.ended.sources → IsBodyWithin c.ended.sources worked.body → IsAsSaid (by_bytes c) worked
+one_read : (c : Case) (worked : Worked) → AreReadSources c.bytes c.ended.taken c.ended.sources → IsBodyWithin c.ended.sources worked.body → IsAsSaid (by_bytes c) worked
 one_read c worked read within number entered =
-    rw (taken_contents c.bytes c.ended.taken) (stamped (content_in c.ended.taken c.ended.sources worked.body) (content_of (contents_of c.bytes c.ended.taken) worked.body)
+    rw (taken_contents c.bytes c.ended.taken) (stamped (body_content c.ended.taken c.ended.sources worked.body) (content_of (contents_of c.bytes c.ended.taken) worked.body)
     (content-stamp c.bytes c.ended.taken c.ended.sources worked.body read within))
 
-pub ended-by-bytes : (c : Case) (files : List Worked) → AreRead c.bytes c.ended.taken c.ended.sources → All (λ file. IsBodyWithin c.ended.sources file.body) files
+pub ended-by-bytes : (c : Case) (files : List Worked) → AreReadSources c.bytes c.ended.taken c.ended.sources → All (λ file. IsBodyWithin c.ended.sources file.body) files
     → ended_files (place c) c.state.next_number files ≡ map (ended_of (by_bytes c)) (settled_files (session c) files)
 ended-by-bytes c files read within = all_same (by_bytes c) files (λ i d lt. one_read c (get_or files i d) read (within i d lt))

@@ -21,9 +21,9 @@ use Rattle.machine_model.specs.State.{QueuedFile, State}
 use Rattle.machine_model.proofs.Among.{Among, all_among, among_contained, makes}
 use Rattle.machine_model.proofs.Keyed.{once_from_differ}
 use Rattle.machine_model.proofs.Tally.{Each, bit, many, run_below, run_once}
-use Rattle.settlement.specs.Contents.{content_in, IsBodyWithin}
+use Rattle.settlement.specs.Contents.{body_content, IsBodyWithin}
 use Rattle.settlement.specs.Ending.{ended_files}
-use Rattle.settlement.specs.Handed.{AreRead, IsHanded, MaySettle, session_of, sizes_of}
+use Rattle.settlement.specs.Handed.{AreReadSources, SessionIsHanded, MaySettle, ended_session, content_sizes}
 use Rattle.settlement.specs.Placing.{wanted}
 use Rattle.settlement.specs.StateAfter.{LeavesAs, Settles}
 use Rattle.settlement.specs.Whole.{settled_in}
@@ -41,14 +41,14 @@ use Rattle.settlement.proofs.ToldEvents.{told}
 
 -- ---- bytes
 
-all_has : (c : Case) (relationships : ℕ) (numbers entered : List ℕ) (files : List Worked) → HaveRanges c.bytes → All (IsWorked relationships (sizes_of c.ended.taken)) files
+all_has : (c : Case) (relationships : ℕ) (numbers entered : List ℕ) (files : List Worked) → HaveRanges c.bytes → All (IsWorked relationships (content_sizes c.ended.taken)) files
     → Each (HasBytes (by_body c)) (map (λ f. settled_file (session c) (f.0, f.1.0, f.1.1)) (zip numbers (zip entered files)))
 all_has c relationships [] entered files ranges worked = tt
 all_has c relationships (number ∷ numbers) [] files ranges worked = tt
 all_has c relationships (number ∷ numbers) (moment ∷ entered) [] ranges worked = tt
 all_has c relationships (number ∷ numbers) (moment ∷ entered) (file ∷ files) ranges worked = (
-  rw (taken_contents c.bytes c.ended.taken) (content-bytes c.bytes c.ended.taken c.ended.sources file.body ranges (All-head (IsWorked relationships (sizes_of c.ended.taken)) file files worked).body),
-  all_has c relationships numbers entered files ranges (All-tail (IsWorked relationships (sizes_of c.ended.taken)) file files worked),
+  rw (taken_contents c.bytes c.ended.taken) (content-bytes c.bytes c.ended.taken c.ended.sources file.body ranges (All-head (IsWorked relationships (content_sizes c.ended.taken)) file files worked).body),
+  all_has c relationships numbers entered files ranges (All-tail (IsWorked relationships (content_sizes c.ended.taken)) file files worked),
 )
 
 -- ---- numbers
@@ -67,10 +67,10 @@ case_of flow given ended processor bytes state = record {
   processor = processor;
   bytes = bytes;
   state = state;
-  content = λ file. content_in ended.taken ended.sources file.worked.body;
+  content = λ file. body_content ended.taken ended.sources file.worked.body;
 }
 
-stands : (c : Case) (counters : Counters) → MaySettle c.flow counters c.ended → IsHanded c.flow counters c.ended c.processor c.bytes c.state → HaveRanges c.bytes → Stands (by_body c)
+stands : (c : Case) (counters : Counters) → MaySettle c.flow counters c.ended → SessionIsHanded c.flow counters c.ended c.processor c.bytes c.state → HaveRanges c.bytes → Stands (by_body c)
 stands c counters may handed ranges = record { valid = handed.valid; there = there; known = record { turn = turn; once = once; either = either }; bytes = has }
   where
     there : (one : FlowFile) → Among one c.ended.taken → Among (queued_file c.bytes one) (queue_at c.state c.ended.connection)
@@ -95,7 +95,7 @@ stands c counters may handed ranges = record { valid = handed.valid; there = the
     either : Each (IsEitherOne (by_body c)) (files_of c)
     either =
         rw (taken_numbers c.bytes c.ended.taken)
-        (each-either (by_body c) may.relationships (sizes_of c.ended.taken) 0 c.state.next_number (entered_in c.given.moment (map (λ (file : QueuedFile). file.entered) (map (queued_file c.bytes) c.ended.taken)) c.ended.outcome.files) c.ended.outcome.files (omega arith) turn may.outcome.each)
+        (each-either (by_body c) may.relationships (content_sizes c.ended.taken) 0 c.state.next_number (entered_in c.given.moment (map (λ (file : QueuedFile). file.entered) (map (queued_file c.bytes) c.ended.taken)) c.ended.outcome.files) c.ended.outcome.files (omega arith) turn may.outcome.each)
 
     has : Each (HasBytes (by_body c)) (files_of c)
     has = all_has c may.relationships (numbers_from c.state.next_number (map (λ (file : QueuedFile). file.number) (map (queued_file c.bytes) c.ended.taken)) c.ended.outcome.files) (entered_in c.given.moment (map (λ (file : QueuedFile). file.entered) (map (queued_file c.bytes) c.ended.taken)) c.ended.outcome.files) c.ended.outcome.files ranges may.outcome.each
@@ -108,7 +108,7 @@ files_few c (number ∷ numbers) [] files = omega arith
 files_few c (number ∷ numbers) (moment ∷ entered) [] = omega arith
 files_few c (number ∷ numbers) (moment ∷ entered) (file ∷ files) = omega (arith, files_few c numbers entered files)
 
-fits : (c : Case) (counters : Counters) → MaySettle c.flow counters c.ended → IsHanded c.flow counters c.ended c.processor c.bytes c.state → AreRead c.bytes c.ended.taken c.ended.sources → EventsFit c
+fits : (c : Case) (counters : Counters) → MaySettle c.flow counters c.ended → SessionIsHanded c.flow counters c.ended c.processor c.bytes c.state → AreReadSources c.bytes c.ended.taken c.ended.sources → EventsFit c
 fits c counters may handed read =
     let files = map (ended_of (by_bytes c)) (files_of c) in
     let few : length files ≤ 10000 = omega (arith, length-map (files_of c) (ended_of (by_bytes c)), files_few c (numbers_from c.state.next_number (map (λ (file : QueuedFile). file.number) (map (queued_file c.bytes) c.ended.taken)) c.ended.outcome.files) (entered_in c.given.moment (map (λ (file : QueuedFile). file.entered) (map (queued_file c.bytes) c.ended.taken)) c.ended.outcome.files) c.ended.outcome.files, may.outcome.count) in
@@ -127,10 +127,10 @@ made c = settled_in c.flow c.given (counters_of c.state) c.ended c.processor
 made_by_body : (c : Case) → made c ≡ settled_over c (ended_all (by_body c))
 made_by_body c = ap (settled_over c) (ended-by-body c c.ended.outcome.files)
 
-made_by_bytes : (c : Case) → AreRead c.bytes c.ended.taken c.ended.sources → All (λ file. IsBodyWithin c.ended.sources file.body) c.ended.outcome.files → made c ≡ settled_over c (ended_all (by_bytes c))
+made_by_bytes : (c : Case) → AreReadSources c.bytes c.ended.taken c.ended.sources → All (λ file. IsBodyWithin c.ended.sources file.body) c.ended.outcome.files → made c ≡ settled_over c (ended_all (by_bytes c))
 made_by_bytes c read within = ap (settled_over c) (ended-by-bytes c c.ended.outcome.files read within)
 
-leaves : (c : Case) (counters : Counters) → MaySettle c.flow counters c.ended → IsHanded c.flow counters c.ended c.processor c.bytes c.state
+leaves : (c : Case) (counters : Counters) → MaySettle c.flow counters c.ended → SessionIsHanded c.flow counters c.ended c.processor c.bytes c.state
     → LeavesAs c.ended c.bytes (state_after c.bytes c.state (made c)) (settle (session c) c.ended.outcome)
 leaves c counters may handed = record {
   queues = λ ranges. ap (λ settled. (state_after c.bytes c.state settled).queues) (made_by_body c) ∙ over-queues (by_body c) (stands c counters may handed ranges);
@@ -150,7 +150,7 @@ pub settled-settles : (flow : Flow) (given : Given) (counters : Counters) (ended
     → ((other : Processor) → slice_get flow.processors ended.processor ≡ Some other → other ≡ processor)
     → Settles flow given counters ended (settled_in flow given counters ended processor)
 settled-settles flow given counters ended processor may only other bytes state handed =
-    let wanted = settle (session_of flow given ended other bytes state) ended.outcome in
+    let wanted = settle (ended_session flow given ended other bytes state) ended.outcome in
     let same : counters_of state ≡ counters = λ i. record { store = handed.store i; next_number = handed.next_number i; next_arrival = handed.next_arrival i; last_event = handed.last_event i } in
     subst (λ k. LeavesAs ended bytes (state_after bytes state (settled_in flow given k ended processor)) wanted) same
     (subst (λ p. LeavesAs ended bytes (state_after bytes state (settled_in flow given (counters_of state) ended p)) wanted) (only other handed.found)

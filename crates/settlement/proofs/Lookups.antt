@@ -9,7 +9,7 @@ use Rattle.flowfile_record.specs.declared.event.Event.{Event}
 use Rattle.flowfile_record.specs.declared.event.EventKind.TheVariants as kind
 use Rattle.flowfile_record.specs.declared.flow_file.FlowFile.{FlowFile}
 use Rattle.flowfile_record.specs.declared.worked.Sent.{Sent}
-use Rattle.settlement.specs.Telling.{Adds, Told, Unnumbered, alone, children_of, if_other, is_child, sent}
+use Rattle.settlement.specs.Telling.{AddsDrafts, ToldSession, Unnumbered, draft_alone, children_of, if_other, is_child, send_drafts}
 use Rattle.settlement.specs.declared.file.EndedFile.{EndedFile}
 use Rattle.settlement.specs.declared.offspring.Kinship.{Kinship}
 use Rattle.settlement.proofs.AddedEvents.{adds-none}
@@ -33,14 +33,14 @@ some_at xs i x h is = within xs i x (ltb-true i (length xs) (sym h)) ∙ ap (λ 
 
 -- ---- nothing is told
 
-pub adds_nothing : (first : ℕ) (events : List Event) (drafts : List Unnumbered) → drafts ≡ [] → Adds first events drafts events
+pub adds_nothing : (first : ℕ) (events : List Event) (drafts : List Unnumbered) → drafts ≡ [] → AddsDrafts first events drafts events
 adds_nothing first events drafts none = rw none (adds-none first events)
 
-pub sent_nowhere : (told : Told) (put : Sent) → slice_get told.files put.place ≡ None → sent told (Some put) ≡ []
-sent_nowhere told put none = ap (λ found. option_map_or (λ file. alone told kind.Send file put.name ∷ []) found []) none
+pub sent_nowhere : (told : ToldSession) (put : Sent) → slice_get told.files put.place ≡ None → send_drafts told (Some put) ≡ []
+sent_nowhere told put none = ap (λ found. option_map_or (λ file. draft_alone told kind.Send file put.name ∷ []) found []) none
 
-pub same_is_silent : (told : Told) (file : EndedFile) (taken : FlowFile) → same_attributes taken.attributes file.worked.attributes ≡ true → if_other told file (Some taken) ≡ []
-same_is_silent told file taken same = ap (λ b. cond b [] (alone told kind.AttributesModified file [] ∷ [])) same
+pub same_is_silent : (told : ToldSession) (file : EndedFile) (taken : FlowFile) → same_attributes taken.attributes file.worked.attributes ≡ true → if_other told file (Some taken) ≡ []
+same_is_silent told file taken same = ap (λ b. cond b [] (draft_alone told kind.AttributesModified file [] ∷ [])) same
 
 -- ---- children
 
@@ -70,8 +70,8 @@ pub no_child : (kinship : Kinship) (place : ℕ) (file : EndedFile) (old : List 
 no_child kinship place file old h = rw h (sym (append-nil old))
 
 -- other drafts that are the same
-pub on_ok_told : {E : Type 0} (result : Result (Unit {0}) E) (first : ℕ) (old new : List Event) (drafts others : List Unnumbered) → drafts ≡ others → OnOk result (Adds first old drafts new) → OnOk result (Adds first old others new)
-on_ok_told result first old new drafts others same told = subst (λ ds. OnOk result (Adds first old ds new)) same told
+pub on_ok_told : {E : Type 0} (result : Result (Unit {0}) E) (first : ℕ) (old new : List Event) (drafts others : List Unnumbered) → drafts ≡ others → OnOk result (AddsDrafts first old drafts new) → OnOk result (AddsDrafts first old others new)
+on_ok_told result first old new drafts others same told = subst (λ ds. OnOk result (AddsDrafts first old ds new)) same told
 
 pub got_is : {X : Type 0} (xs : List X) (i : ℕ) (x other : X) → i < length xs → x ≡ get_or xs i x → slice_get xs i ≡ Some other → other ≡ x
 got_is xs i x other h is found =

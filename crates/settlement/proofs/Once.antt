@@ -15,7 +15,7 @@ use Rattle.machine_model.proofs.Numbers.{numbers_are}
 use Rattle.machine_model.proofs.Tally.{Each, each-append}
 use Rattle.settlement.specs.Contents.{shared_in}
 use Rattle.settlement.specs.Ending.{EndingPlace, ended_file, ended_files}
-use Rattle.settlement.specs.Placing.{Newcomer, PlacingFrom, arrived, cloned_from, clones_of, first_of, firsts, further, placed_from, returned, returning}
+use Rattle.settlement.specs.Placing.{EndedNewcomer, PlacingFrom, arrived, cloned_from, clones_of, first_newcomer, firsts, further, placed_from, returned, returning}
 use Rattle.settlement.specs.TellsOf.{BringsNoneAsClone, IsNumberOfClone}
 use Rattle.settlement.specs.declared.counters.Counters.{Counters}
 use Rattle.settlement.specs.declared.file.EndedFile.{EndedFile}
@@ -65,10 +65,10 @@ zipped_are counters ended at (number ∷ numbers) (moment ∷ entered) (file ∷
 
 -- ---- what is placed of them
 
-abbrev IsSessionOne : Counters → Ended → Newcomer → Type 0
+abbrev IsSessionOne : Counters → Ended → EndedNewcomer → Type 0
 IsSessionOne counters ended one = IsOfSession counters ended one.1
 
-first_is : (counters : Counters) (ended : Ended) (file : EndedFile) (goes : Goes) → IsSessionFile counters ended file → Each (IsSessionOne counters ended) (first_of file goes)
+first_is : (counters : Counters) (ended : Ended) (file : EndedFile) (goes : Goes) → IsSessionFile counters ended file → Each (IsSessionOne counters ended) (first_newcomer file goes)
 first_is counters ended file (Queues first others) is = (is, tt)
 first_is counters ended file Returns is = tt
 first_is counters ended file (Drops relationship) is = tt
@@ -77,9 +77,9 @@ first_is counters ended file Leaves is = tt
 firsts_are : (counters : Counters) (ended : Ended) (files : List EndedFile) → Each (IsSessionFile counters ended) files → Each (IsSessionOne counters ended) (firsts files)
 firsts_are counters ended [] are = tt
 firsts_are counters ended (file ∷ files) are =
-    each-append (IsSessionOne counters ended) (first_of file file.goes) (firsts files) (first_is counters ended file file.goes are.0) (firsts_are counters ended files are.1)
+    each-append (IsSessionOne counters ended) (first_newcomer file file.goes) (firsts files) (first_is counters ended file file.goes are.0) (firsts_are counters ended files are.1)
 
-news_bring : (counters : Counters) (ended : Ended) (arrival : ℕ) (news : List Newcomer) → Each (IsSessionOne counters ended) news
+news_bring : (counters : Counters) (ended : Ended) (arrival : ℕ) (news : List EndedNewcomer) → Each (IsSessionOne counters ended) news
     → Each (BringsNoneAsClone counters ended) (placed_from arrival news)
 news_bring counters ended arrival [] are = tt
 news_bring counters ended arrival (one ∷ news) are = (λ clone. absurd (no_clone counters ended one.1 are.0 clone), news_bring counters ended (arrival + 1) news are.1)
@@ -114,7 +114,7 @@ cloned_bring : (counters : Counters) (ended : Ended) (place number arrival : ℕ
 cloned_bring counters ended place number arrival [] = tt
 cloned_bring counters ended place number arrival (file ∷ files) =
     each-append (BringsNoneAsClone counters ended) (clones_of place number arrival file (further file.goes)) _ (clones_bring counters ended place number arrival file (further file.goes))
-    (cloned_bring counters ended (place + length (first_of file file.goes)) (number + length (further file.goes)) (arrival + length (further file.goes)) files)
+    (cloned_bring counters ended (place + length (first_newcomer file file.goes)) (number + length (further file.goes)) (arrival + length (further file.goes)) files)
 
 -- ---- all of them
 

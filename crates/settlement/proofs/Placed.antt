@@ -2,19 +2,19 @@
 use Rattle.std.proofs.Common.{◌≡◌, ℕ, suc, ◌+◌, ◌<◌, ◌≤◌, List, [], ◌∷◌, ◌++◌, length, get_or, drop, refl, sym, ap, ◌∙◌, arith, append_assoc, append-nil, length-append}
 use Rattle.std.proofs.lemmas.List.Concat.{flat_map-append}
 use Rattle.flowfile_record.specs.declared.stored.Placed.{Placed}
-use Rattle.settlement.specs.Placing.{Newcomer, PlacingFrom, arrived, cloned_from, clones_of, first_of, firsts, further, placed_at, placed_from, returned, returning, wanted}
+use Rattle.settlement.specs.Placing.{EndedNewcomer, PlacingFrom, arrived, cloned_from, clones_of, first_newcomer, firsts, further, placed_at, placed_from, returned, returning, wanted}
 use Rattle.settlement.specs.declared.file.EndedFile.{EndedFile}
 use Rattle.settlement.specs.declared.file.Goes.{Goes}
 use Rattle.settlement.specs.declared.file.Goes.TheVariants.{Queues, Returns, Drops, Leaves}
 use Rattle.settlement.proofs.Steps.{left, length_wanted_one, wanted_left}
 
-pub placed-append : (arrival : ℕ) (xs ys : List Newcomer) → placed_from arrival (xs ++ ys) ≡ placed_from arrival xs ++ placed_from (arrival + length xs) ys
+pub placed-append : (arrival : ℕ) (xs ys : List EndedNewcomer) → placed_from arrival (xs ++ ys) ≡ placed_from arrival xs ++ placed_from (arrival + length xs) ys
 placed-append arrival [] ys = ap (λ n. placed_from n ys) (omega arith)
 placed-append arrival (x ∷ xs) ys =
     let moved : arrival + 1 + length xs ≡ arrival + suc (length xs) = omega arith in
     ap (λ rest. placed_at arrival x ∷ rest) (placed-append (arrival + 1) xs ys ∙ ap (λ n. placed_from (arrival + 1) xs ++ placed_from n ys) moved)
 
-pub length-placed : (arrival : ℕ) (xs : List Newcomer) → length (placed_from arrival xs) ≡ length xs
+pub length-placed : (arrival : ℕ) (xs : List EndedNewcomer) → length (placed_from arrival xs) ≡ length xs
 length-placed arrival [] = refl
 length-placed arrival (x ∷ xs) = ap suc (length-placed (arrival + 1) xs)
 
@@ -24,14 +24,14 @@ length-clones_of place number arrival file (connection ∷ connections) = ap suc
 
 -- what a step over the clones of one more file leaves
 pub clones_step : (place next number arrival : ℕ) (old new whole : List Placed) (files : List EndedFile) (i : ℕ) (file : EndedFile) → i < length files → file ≡ get_or files i file
-    → next ≡ place + length (first_of file file.goes)
+    → next ≡ place + length (first_newcomer file file.goes)
     → new ≡ old ++ clones_of place (number + length old) (arrival + length old) file (further file.goes)
     → old ++ cloned_from place (number + length old) (arrival + length old) (drop i files) ≡ whole
     → new ++ cloned_from next (number + length new) (arrival + length new) (drop (i + 1) files) ≡ whole
 clones_step place next number arrival old new whole files i file h is next_is added before =
     let rest = drop (i + 1) files in
     let count = length (further file.goes) in
-    let later = place + length (first_of file file.goes) in
+    let later = place + length (first_newcomer file file.goes) in
     let more = clones_of place (number + length old) (arrival + length old) file (further file.goes) in
     let long : length new ≡ length old + count
     = ap length added ∙ length-append old more ∙ ap (λ n. length old + n) (length-clones_of place (number + length old) (arrival + length old) file (further file.goes)) in
@@ -57,22 +57,22 @@ clones_counted place number arrival old new files i file h is added before =
 
 -- where the next file that goes on is placed
 pub places_on : (place : ℕ) (files : List EndedFile) (i : ℕ) (file : EndedFile) → i < length files → file ≡ get_or files i file
-    → place + length (firsts (drop i files)) ≡ place + length (first_of file file.goes) + length (firsts (drop (i + 1) files))
+    → place + length (firsts (drop i files)) ≡ place + length (first_newcomer file file.goes) + length (firsts (drop (i + 1) files))
 places_on place files i file h is =
-    omega (arith, ap (λ xs. length (firsts xs)) (left files i file h is), length-append (first_of file file.goes) (firsts (drop (i + 1) files)))
+    omega (arith, ap (λ xs. length (firsts xs)) (left files i file h is), length-append (first_newcomer file file.goes) (firsts (drop (i + 1) files)))
 
 -- what goes on of one more file
 pub firsts_step : (arrival : ℕ) (old new : List Placed) (done : List EndedFile) (file : EndedFile) → old ≡ placed_from arrival (firsts done)
-    → new ≡ old ++ placed_from (arrival + length old) (first_of file file.goes) → new ≡ placed_from arrival (firsts (done ++ file ∷ []))
+    → new ≡ old ++ placed_from (arrival + length old) (first_newcomer file file.goes) → new ≡ placed_from arrival (firsts (done ++ file ∷ []))
 firsts_step arrival old new done file before added =
     let long : length old ≡ length (firsts done) = ap length before ∙ length-placed arrival (firsts done) in
-    let one : firsts (file ∷ []) ≡ first_of file file.goes = append-nil (first_of file file.goes) in
+    let one : firsts (file ∷ []) ≡ first_newcomer file file.goes = append-nil (first_newcomer file file.goes) in
     added
-    ∙ ap (λ n. old ++ placed_from (arrival + n) (first_of file file.goes)) long
-    ∙ ap (λ xs. xs ++ placed_from (arrival + length (firsts done)) (first_of file file.goes)) before
-    ∙ sym (placed-append arrival (firsts done) (first_of file file.goes))
+    ∙ ap (λ n. old ++ placed_from (arrival + n) (first_newcomer file file.goes)) long
+    ∙ ap (λ xs. xs ++ placed_from (arrival + length (firsts done)) (first_newcomer file file.goes)) before
+    ∙ sym (placed-append arrival (firsts done) (first_newcomer file file.goes))
     ∙ ap (λ xs. placed_from arrival (firsts done ++ xs)) (sym one)
-    ∙ ap (placed_from arrival) (sym (flat_map-append (λ (file : EndedFile). first_of file file.goes) done (file ∷ [])))
+    ∙ ap (placed_from arrival) (sym (flat_map-append (λ (file : EndedFile). first_newcomer file file.goes) done (file ∷ [])))
 
 pub returned_step : (at : PlacingFrom) (old new : List Placed) (done : List EndedFile) (file : EndedFile) → old ≡ returned at done → new ≡ old ++ returning at file file.goes → new ≡ returned at (done ++ file ∷ [])
 returned_step at old new done file before added =
@@ -82,9 +82,9 @@ returned_step at old new done file before added =
 
 firsts_few : (files : List EndedFile) → length (firsts files) ≤ length files
 firsts_few [] = omega arith
-firsts_few (file ∷ files) = omega (arith, length-append (first_of file file.goes) (firsts files), one_at_most file.goes, firsts_few files)
+firsts_few (file ∷ files) = omega (arith, length-append (first_newcomer file file.goes) (firsts files), one_at_most file.goes, firsts_few files)
   where
-    one_at_most : (goes : Goes) → length (first_of file goes) ≤ 1
+    one_at_most : (goes : Goes) → length (first_newcomer file goes) ≤ 1
     one_at_most (Queues first others) = omega arith
     one_at_most Returns = omega arith
     one_at_most (Drops relationship) = omega arith
@@ -94,7 +94,7 @@ firsts_few (file ∷ files) = omega (arith, length-append (first_of file file.go
 pub firsts_placed : (arrival : ℕ) (old : List Placed) (done : List EndedFile) → old ≡ placed_from arrival (firsts done) → length old ≤ length done
 firsts_placed arrival old done is = omega (arith, ap length is, length-placed arrival (firsts done), firsts_few done)
 
-one_place : (from : PlacingFrom) (file : EndedFile) (goes : Goes) → length (returning from file goes) + length (first_of file goes) ≤ 1
+one_place : (from : PlacingFrom) (file : EndedFile) (goes : Goes) → length (returning from file goes) + length (first_newcomer file goes) ≤ 1
 one_place from file (Queues first others) = omega arith
 one_place from file Returns = omega arith
 one_place from file (Drops relationship) = omega arith
@@ -107,7 +107,7 @@ few_places from (file ∷ files) =
     omega (
       arith,
       length-append (returning from file file.goes) (returned from files),
-      length-append (first_of file file.goes) (firsts files),
+      length-append (first_newcomer file file.goes) (firsts files),
       one_place from file file.goes,
       few_places from files,
     )

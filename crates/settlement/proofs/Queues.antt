@@ -24,7 +24,7 @@ use Rattle.machine_model.proofs.Ordered.{pairs_head, pairs_nil, pairs_tail}
 use Rattle.machine_model.proofs.Tally.{Each, each-append, bit, many, tally, tally-append, tally-map, find-passes, run_below}
 use Rattle.machine_model.proofs.Took.{find-contains}
 use Rattle.settlement.specs.Ending.{goes_to}
-use Rattle.settlement.specs.Placing.{arrival_of, placed_at, returned, returning}
+use Rattle.settlement.specs.Placing.{taken_arrival, placed_at, returned, returning}
 use Rattle.settlement.specs.Whole.{placing_at}
 use Rattle.settlement.proofs.Arriving.{HasBytes, placed-queued}
 use Rattle.settlement.proofs.ByArrival.{AreApart, Has, IsKept, Rising, Stays, stays-in-place, these, put_all}
@@ -82,7 +82,7 @@ found_back c number (file ∷ files) once =
 back_same : (c : Case) (all : List Placed) (file : SettledFile) (goes : Destination) → HasBytes c file → (connection : ℕ)
     → placed_into c.bytes all connection (returning (placing_at (place c) c.ended.connection c.state.next_arrival) (ended_of c file) (goes_to goes)) ≡ cond (c.ended.connection == connection) (back_of c file goes) []
 back_same c all file placing.Returns has connection =
-    let at = arrival_of c.ended.taken file.worked.origin in
+    let at = taken_arrival c.ended.taken file.worked.origin in
     elim (c.ended.connection == connection) as (λ b. map (placed_file c.bytes all) (cond b (placed_at at (c.ended.connection, file.number, ended_of c file) ∷ []) []) ≡ cond b (in_queue file file.number at ∷ []) []) [
       | true ↦ ap (λ one. one ∷ []) (placed-queued c all at c.ended.connection file.number file has)
       | false ↦ refl
@@ -240,7 +240,7 @@ kept_as_it_is c file all known below absent same =
 pub record IsOnly (c : Case) (file : QueuedFile) : Type 0 where
   pub taken : (one : FlowFile) → Among one c.ended.taken → one.number ≡ file.number → one.arrival ≡ file.arrival
 
-stays_found : (c : Case) (file : QueuedFile) (found : SettledFile) → arrival_of c.ended.taken found.worked.origin ≡ file.arrival → staying_as file (Some found) ≡ back c found
+stays_found : (c : Case) (file : QueuedFile) (found : SettledFile) → taken_arrival c.ended.taken found.worked.origin ≡ file.arrival → staying_as file (Some found) ≡ back c found
 stays_found c file found is = by_goal found.goes refl
   where
     by_goal : (goes : Destination) → found.goes ≡ goes → staying_as file (Some found) ≡ back_of c found goes
@@ -341,12 +341,12 @@ same_connection c s k file there is =
 -- ---- a file that was taken
 
 comes_or_goes : (c : Case) (file : QueuedFile) (all : List QueuedFile) (found : SettledFile) → is_number_among (gone c) file.number ≡ true
-    → stays c file ≡ back c found → these file.number all ≡ back c found → arrival_of c.ended.taken found.worked.origin ≡ file.arrival → Stays (keeps c) (stays c) all file
+    → stays c file ≡ back c found → these file.number all ≡ back c found → taken_arrival c.ended.taken found.worked.origin ≡ file.arrival → Stays (keeps c) (stays c) all file
 comes_or_goes c file all found is same these_are arrival = by_goal found.goes refl
   where
     by_goal : (goes : Destination) → found.goes ≡ goes → Stays (keeps c) (stays c) all file
     by_goal placing.Returns goes =
-        let new = in_queue found found.number (arrival_of c.ended.taken found.worked.origin) in
+        let new = in_queue found found.number (taken_arrival c.ended.taken found.worked.origin) in
         let one : back c found ≡ new ∷ [] = ap (back_of c found) goes in
         inr (inr (record { goes = ap not is; new = new; comes = same ∙ one; only = these_are ∙ one; place = arrival }))
     by_goal (placing.Queues first others) goes =
@@ -357,7 +357,7 @@ comes_or_goes c file all found is same these_are arrival = by_goal found.goes re
         let none : back c found ≡ [] = ap (back_of c found) goes in inr (inl (record { goes = ap not is; nothing = same ∙ none; none = these_are ∙ none }))
 
 found_arrival : (c : Case) (file : QueuedFile) (found : SettledFile) → IsOnly c file → IsEitherOne c found → found.number ≡ file.number → file.number < c.state.next_number
-    → arrival_of c.ended.taken found.worked.origin ≡ file.arrival
+    → taken_arrival c.ended.taken found.worked.origin ≡ file.arrival
 found_arrival c file found only (inl one) is below = one.arrival ∙ only.taken one.taken one.there (sym one.number ∙ is)
 found_arrival c file found only (inr new) is below = absurd (omega (arith, new.number))
 

@@ -22,10 +22,10 @@ use Rattle.machine_model.specs.Placing.{connections_of, count_made, entered_in, 
 use Rattle.machine_model.proofs.Tally.{Each, each-append, tally}
 use Rattle.settlement.specs.Contents.{fresh_in}
 use Rattle.settlement.specs.Ending.{EndingPlace, ended_file, ended_files}
-use Rattle.settlement.specs.Handed.{MaySettle, sizes_of}
-use Rattle.settlement.specs.Placing.{Newcomer, PlacingFrom, arrived, first_of, firsts, further, placed_from, returned, returning, wanted}
+use Rattle.settlement.specs.Handed.{MaySettle, content_sizes}
+use Rattle.settlement.specs.Placing.{EndedNewcomer, PlacingFrom, arrived, first_newcomer, firsts, further, placed_from, returned, returning, wanted}
 use Rattle.settlement.specs.Recording.{IsRecordable, MayRecord, Records, RecordsAll}
-use Rattle.settlement.specs.Whole.{place_in, placing_at, settled_in}
+use Rattle.settlement.specs.Whole.{ending_place, placing_at, settled_in}
 use Rattle.settlement.specs.declared.counters.Counters.{Counters}
 use Rattle.settlement.specs.declared.file.EndedFile.{EndedFile}
 use Rattle.settlement.specs.declared.file.Goes.{Goes}
@@ -55,7 +55,7 @@ record AreSound (at : EndingPlace) (connection relationships place count : ℕ) 
   there : 0 < count → connection < length at.flow.connections
   moments : AreMoments entered
   turn : AreInTurn place count files
-  each : All (IsWorked relationships (sizes_of at.taken)) files
+  each : All (IsWorked relationships (content_sizes at.taken)) files
 
 zipped_fit : (at : EndingPlace) (connection relationships place count : ℕ) (numbers entered : List ℕ) (files : List Worked) → AreSound at connection relationships place count entered files
     → Each (IsFit (length at.flow.connections) connection) (map (λ f. ended_file at (f.0, f.1.0, f.1.1)) (zip numbers (zip entered files)))
@@ -63,13 +63,13 @@ zipped_fit at connection relationships place count [] entered files sound = tt
 zipped_fit at connection relationships place count (number ∷ numbers) [] files sound = tt
 zipped_fit at connection relationships place count (number ∷ numbers) (moment ∷ entered) [] sound = tt
 zipped_fit at connection relationships place count (number ∷ numbers) (moment ∷ entered) (file ∷ files) sound =
-    let worked = All-head (IsWorked relationships (sizes_of at.taken)) file files sound.each in (
+    let worked = All-head (IsWorked relationships (content_sizes at.taken)) file files sound.each in (
       record {
         told = record {
-          attributes = (named-within relationships (sizes_of at.taken) at.store number file file.origin refl worked).limits;
+          attributes = (named-within relationships (content_sizes at.taken) at.store number file file.origin refl worked).limits;
           entered = sound.moments.0;
           penalty_end = penalty-moment file.penalised at.moment at.processor.penalty;
-          fresh = fresh-fits (sizes_of at.taken) file.body worked.body;
+          fresh = fresh-fits (content_sizes at.taken) file.body worked.body;
         };
         goes = goes-few at.flow at.place connection at.processor relationships place count file.origin file.«end» sound.few sound.there sound.turn.0 worked.ends;
       },
@@ -78,18 +78,18 @@ zipped_fit at connection relationships place count (number ∷ numbers) (moment 
         there = sound.there;
         moments = sound.moments.1;
         turn = sound.turn.2;
-        each = All-tail (IsWorked relationships (sizes_of at.taken)) file files sound.each;
+        each = All-tail (IsWorked relationships (content_sizes at.taken)) file files sound.each;
       }),
     )
 
-zipped_sizes : (at : EndingPlace) (relationships : ℕ) (numbers entered : List ℕ) (files : List Worked) → All (IsWorked relationships (sizes_of at.taken)) files
+zipped_sizes : (at : EndingPlace) (relationships : ℕ) (numbers entered : List ℕ) (files : List Worked) → All (IsWorked relationships (content_sizes at.taken)) files
     → tally (weight encoded_size) (map (λ f. ended_file at (f.0, f.1.0, f.1.1)) (zip numbers (zip entered files))) ≤ tally (λ (file : Worked). encoded_size file.attributes) files + length files * FILENAME_SIZE
 zipped_sizes at relationships [] entered files each = omega arith
 zipped_sizes at relationships (number ∷ numbers) [] files each = omega arith
 zipped_sizes at relationships (number ∷ numbers) (moment ∷ entered) [] each = omega arith
 zipped_sizes at relationships (number ∷ numbers) (moment ∷ entered) (file ∷ files) each =
-    let first = named-within relationships (sizes_of at.taken) at.store number file file.origin refl (All-head (IsWorked relationships (sizes_of at.taken)) file files each) in
-    omega (arith, first.size, zipped_sizes at relationships numbers entered files (All-tail (IsWorked relationships (sizes_of at.taken)) file files each))
+    let first = named-within relationships (content_sizes at.taken) at.store number file file.origin refl (All-head (IsWorked relationships (content_sizes at.taken)) file files each) in
+    omega (arith, first.size, zipped_sizes at relationships numbers entered files (All-tail (IsWorked relationships (content_sizes at.taken)) file files each))
 
 zipped_count : (at : EndingPlace) (numbers entered : List ℕ) (files : List Worked) → length (map (λ f. ended_file at (f.0, f.1.0, f.1.1)) (zip numbers (zip entered files))) ≤ length files
 zipped_count at [] entered files = omega arith
@@ -100,20 +100,20 @@ zipped_count at (number ∷ numbers) (moment ∷ entered) (file ∷ files) = ome
 -- ---- what is placed of them
 
 -- a newcomer that can be told
-abbrev IsNews : (most : ℕ) → Newcomer → Type 0
+abbrev IsNews : (most : ℕ) → EndedNewcomer → Type 0
 IsNews most one = (one.0 < most) × IsTold one.2
 
 abbrev IsWanted : (most : ℕ) → EndedFile × ℕ → Type 0
 IsWanted most clone = (clone.1 < most) × IsTold clone.0
 
-news_fit : (flow : Flow) (arrival : ℕ) (news : List Newcomer) → Each (IsNews (length flow.connections)) news → Each (IsRecordable flow) (placed_from arrival news)
+news_fit : (flow : Flow) (arrival : ℕ) (news : List EndedNewcomer) → Each (IsNews (length flow.connections)) news → Each (IsRecordable flow) (placed_from arrival news)
 news_fit flow arrival [] fit = tt
 news_fit flow arrival (one ∷ news) fit = (
   record { connection = fit.0.0; attributes = fit.0.1.attributes; entered = fit.0.1.entered; penalty_end = fit.0.1.penalty_end; fresh = fit.0.1.fresh },
   news_fit flow (arrival + 1) news fit.1,
 )
 
-first_fits : (most connection : ℕ) (file : EndedFile) (goes : Goes) → IsTold file → AreBelow most connection goes → Each (IsNews most) (first_of file goes)
+first_fits : (most connection : ℕ) (file : EndedFile) (goes : Goes) → IsTold file → AreBelow most connection goes → Each (IsNews most) (first_newcomer file goes)
 first_fits most connection file (Queues first others) told below = ((below.0, told), tt)
 first_fits most connection file Returns told below = tt
 first_fits most connection file (Drops relationship) told below = tt
@@ -139,7 +139,7 @@ returning_fits flow at file Leaves told below = tt
 firsts_fit : (most connection : ℕ) (files : List EndedFile) → Each (IsFit most connection) files → Each (IsNews most) (firsts files)
 firsts_fit most connection [] fit = tt
 firsts_fit most connection (file ∷ files) fit =
-    each-append (IsNews most) (first_of file file.goes) (firsts files) (first_fits most connection file file.goes fit.0.told fit.0.goes.below) (firsts_fit most connection files fit.1)
+    each-append (IsNews most) (first_newcomer file file.goes) (firsts files) (first_fits most connection file file.goes fit.0.told fit.0.goes.below) (firsts_fit most connection files fit.1)
 
 wanted_fit : (most connection : ℕ) (files : List EndedFile) → Each (IsFit most connection) files → Each (IsWanted most) (wanted files)
 wanted_fit most connection [] fit = tt
@@ -186,7 +186,7 @@ kept_moments (file ∷ taken) entered = (All-head HasMoment file taken entered, 
 pub settled-records : (flow : Flow) (given : Given) (counters : Counters) (ended : Ended) (processor : Processor) → given.moment < 2 ^ 64 → MaySettle flow counters ended → MayRecord flow ended processor
     → Records flow given counters ended processor (settled_in flow given counters ended processor)
 settled-records flow given counters ended processor now may records =
-    let at = place_in flow given counters ended processor in
+    let at = ending_place flow given counters ended processor in
     let from = placing_at at ended.connection counters.next_arrival in
     let outcome = ended.outcome.files in
     let numbers = numbers_from counters.next_number (map (λ (file : FlowFile). file.number) ended.taken) outcome in
@@ -196,7 +196,7 @@ settled-records flow given counters ended processor now may records =
     let first = counters.next_number + count_made outcome in
     let placed = returned from files ++ arrived from first files in
     let fit : Each (IsFit (length flow.connections) ended.connection) files
-    = zipped_fit at ended.connection may.relationships 0 (length (sizes_of ended.taken)) numbers entered outcome (record {
+    = zipped_fit at ended.connection may.relationships 0 (length (content_sizes ended.taken)) numbers entered outcome (record {
       few = records.fan_out;
       there = λ some. records.connection (omega (arith, length-map ended.taken (λ (file : FlowFile). file.content.size)));
       moments = entered-moments given.moment own outcome now (kept_moments ended.taken records.entered);

@@ -7,7 +7,7 @@ use Rattle.flowfile_record.specs.Attributes.{AttributeMap}
 use Rattle.flowfile_record.specs.declared.stored.Placed.{Placed}
 use Rattle.machine_model.specs.declared.limits.TheConstants.{FAN_OUT_MAX}
 use Rattle.machine_model.proofs.Tally.{Each, tally, tally-append}
-use Rattle.settlement.specs.Placing.{Newcomer, PlacingFrom, arrived, first_of, firsts, further, placed_from, returned, returning, wanted}
+use Rattle.settlement.specs.Placing.{EndedNewcomer, PlacingFrom, arrived, first_newcomer, firsts, further, placed_from, returned, returning, wanted}
 use Rattle.settlement.specs.declared.file.EndedFile.{EndedFile}
 use Rattle.settlement.specs.declared.file.Goes.{Goes}
 use Rattle.settlement.specs.declared.file.Goes.TheVariants.{Queues, Returns, Drops, Leaves}
@@ -31,11 +31,11 @@ weight w file = w file.worked.attributes
 abbrev pub placed_weight : (AttributeMap → ℕ) → Placed → ℕ
 placed_weight w p = w p.file.attributes
 
-placed_weighs : (w : AttributeMap → ℕ) (arrival : ℕ) (news : List Newcomer) → tally (placed_weight w) (placed_from arrival news) ≡ tally (λ (one : Newcomer). weight w one.2) news
+placed_weighs : (w : AttributeMap → ℕ) (arrival : ℕ) (news : List EndedNewcomer) → tally (placed_weight w) (placed_from arrival news) ≡ tally (λ (one : EndedNewcomer). weight w one.2) news
 placed_weighs w arrival [] = refl
 placed_weighs w arrival (one ∷ news) = ap (λ n. weight w one.2 + n) (placed_weighs w (arrival + 1) news)
 
-clones_weigh : (w : AttributeMap → ℕ) (number : ℕ) (clones : List (EndedFile × ℕ)) → tally (λ (one : Newcomer). weight w one.2) (clones_from number clones) ≡ tally (λ (clone : EndedFile × ℕ). weight w clone.0) clones
+clones_weigh : (w : AttributeMap → ℕ) (number : ℕ) (clones : List (EndedFile × ℕ)) → tally (λ (one : EndedNewcomer). weight w one.2) (clones_from number clones) ≡ tally (λ (clone : EndedFile × ℕ). weight w clone.0) clones
 clones_weigh w number [] = refl
 clones_weigh w number (clone ∷ clones) = ap (λ n. weight w clone.0 + n) (clones_weigh w (number + 1) clones)
 
@@ -49,7 +49,7 @@ copies_weigh w file (other ∷ others) = omega (arith, copies_weigh w file other
 
 -- a file in all the queues that it goes to
 file_weighs : (w : AttributeMap → ℕ) (at : PlacingFrom) (file : EndedFile) (goes : Goes) → places_of goes ≤ FAN_OUT_MAX
-    → tally (placed_weight w) (returning at file goes) + tally (λ (one : Newcomer). weight w one.2) (first_of file goes) + tally (λ (clone : EndedFile × ℕ). weight w clone.0) (map (λ connection. (file, connection)) (further goes))
+    → tally (placed_weight w) (returning at file goes) + tally (λ (one : EndedNewcomer). weight w one.2) (first_newcomer file goes) + tally (λ (clone : EndedFile × ℕ). weight w clone.0) (map (λ connection. (file, connection)) (further goes))
     ≤ FAN_OUT_MAX * weight w file
 file_weighs w at file (Queues first others) few =
     omega (arith, copies_weigh w file others, mul-le-mul_right (weight w file) few, one_more (length others) (weight w file))
@@ -58,13 +58,13 @@ file_weighs w at file (Drops relationship) few = omega arith
 file_weighs w at file Leaves few = omega arith
 
 files_weigh : (w : AttributeMap → ℕ) (at : PlacingFrom) (files : List EndedFile) → Each (λ (file : EndedFile). places_of file.goes ≤ FAN_OUT_MAX) files
-    → tally (placed_weight w) (returned at files) + tally (λ (one : Newcomer). weight w one.2) (firsts files) + tally (λ (clone : EndedFile × ℕ). weight w clone.0) (wanted files) ≤ FAN_OUT_MAX * tally (weight w) files
+    → tally (placed_weight w) (returned at files) + tally (λ (one : EndedNewcomer). weight w one.2) (firsts files) + tally (λ (clone : EndedFile × ℕ). weight w clone.0) (wanted files) ≤ FAN_OUT_MAX * tally (weight w) files
 files_weigh w at [] few = omega arith
 files_weigh w at (file ∷ files) few =
     omega (
       arith,
       tally-append (placed_weight w) (returning at file file.goes) (returned at files),
-      tally-append (λ (one : Newcomer). weight w one.2) (first_of file file.goes) (firsts files),
+      tally-append (λ (one : EndedNewcomer). weight w one.2) (first_newcomer file file.goes) (firsts files),
       tally-append (λ (clone : EndedFile × ℕ). weight w clone.0) (map (λ connection. (file, connection)) (further file.goes)) (wanted files),
       file_weighs w at file file.goes few.0,
       files_weigh w at files few.1,

@@ -28,7 +28,7 @@ use Rattle.machine_model.proofs.Places.{place_of}
 use Rattle.machine_model.proofs.Tally.{Each, each-append, each-map}
 use Rattle.settlement.specs.Placing.{arrived, firsts, placed_from, returned, wanted}
 use Rattle.settlement.specs.Telling.{all_drafts, numbered_wrapping}
-use Rattle.settlement.specs.Whole.{count_of, placing_at, told_of}
+use Rattle.settlement.specs.Whole.{generator_count, placing_at, told_of}
 use Rattle.settlement.specs.declared.file.EndedFile.{EndedFile}
 use Rattle.settlement.proofs.ByArrival.{put_all}
 use Rattle.settlement.proofs.AddedEvents.{numbers-fit}
@@ -54,7 +54,7 @@ settled_over c files =
       events = numbered_wrapping (c.state.last_event + 1) (all_drafts (told_of c.processor c.ended.taken c.given files) c.ended.outcome.sent first_clone);
       next_number = first_clone + length (wanted files);
       next_arrival = c.state.next_arrival + (length (firsts files) + length (wanted files));
-      count = count_of c.processor.kind c.ended.processor c.given.index;
+      count = generator_count c.processor.kind c.ended.processor c.given.index;
     }
 
 abbrev pub ended_all : Case → List EndedFile
@@ -163,7 +163,7 @@ queues_same c s =
 
 -- ---- counters and counts
 
-counts_same : (kind : Kind) (place index : ℕ) (counts : List ℕ) → with_count (count_of kind place index) counts ≡ counts_after kind place index counts
+counts_same : (kind : Kind) (place index : ℕ) (counts : List ℕ) → with_count (generator_count kind place index) counts ≡ counts_after kind place index counts
 counts_same (GenerateFlowFile count text) place index counts = refl
 counts_same _ place index counts = refl
 

@@ -7,8 +7,8 @@ use Rattle.flowfile_record.specs.declared.event.Event.{Event}
 use Rattle.flowfile_record.specs.declared.worked.Worked.{Worked}
 use Rattle.machine_model.specs.Placing.{next_behind, number_by, numbers_from}
 use Rattle.settlement.specs.Ending.{least_from, least_with}
-use Rattle.settlement.specs.Placing.{first_of, firsts, further, wanted}
-use Rattle.settlement.specs.Telling.{Adds, Told, Unnumbered, clone_event, clone_events, numbered_wrapping}
+use Rattle.settlement.specs.Placing.{first_newcomer, firsts, further, wanted}
+use Rattle.settlement.specs.Telling.{AddsDrafts, ToldSession, Unnumbered, clone_draft, clone_events, numbered_wrapping}
 use Rattle.settlement.specs.declared.file.EndedFile.{EndedFile}
 use Rattle.settlement.proofs.AddedEvents.{adds-on, clones-append}
 
@@ -17,7 +17,7 @@ pub left : {X : Type 0} (xs : List X) (i : ℕ) (x : X) → i < length xs → x 
 left xs i x h is = drop_more xs i x h ∙ ap (λ y. y ∷ drop (i + 1) xs) (sym is)
 
 pub row_more : (first : ℕ) (old new whole : List Event) (r : ℕ × EndedFile → List Unnumbered) (files : List EndedFile) (i : ℕ) (file : EndedFile) → i < length files → file ≡ get_or files i file
-    → Adds first old (r (i, file)) new → old ++ numbered_wrapping (first + length old) (flat_map r (enumerate_from i (drop i files))) ≡ whole
+    → AddsDrafts first old (r (i, file)) new → old ++ numbered_wrapping (first + length old) (flat_map r (enumerate_from i (drop i files))) ≡ whole
     → new ++ numbered_wrapping (first + length new) (flat_map r (enumerate_from (i + 1) (drop (i + 1) files))) ≡ whole
 row_more first old new whole r files i file h is adds before =
     adds-on first old new (r (i, file)) (flat_map r (enumerate_from (i + 1) (drop (i + 1) files))) adds
@@ -29,7 +29,7 @@ pub row_all : (n : ℕ) (old whole : List Event) (r : ℕ × EndedFile → List 
 row_all n old whole r files i h is =
     sym (append-nil old) ∙ ap (λ rest. old ++ numbered_wrapping n (flat_map r (enumerate_from i rest))) (sym (drop_all i files h)) ∙ is
 
-pub each_more : (first : ℕ) (old new whole : List Event) (g : ℕ → Unnumbered) (xs : List ℕ) (i x : ℕ) → i < length xs → x ≡ get_or xs i x → Adds first old (g x ∷ []) new
+pub each_more : (first : ℕ) (old new whole : List Event) (g : ℕ → Unnumbered) (xs : List ℕ) (i x : ℕ) → i < length xs → x ≡ get_or xs i x → AddsDrafts first old (g x ∷ []) new
     → old ++ numbered_wrapping (first + length old) (map g (drop i xs)) ≡ whole → new ++ numbered_wrapping (first + length new) (map g (drop (i + 1) xs)) ≡ whole
 each_more first old new whole g xs i x h is adds before =
     adds-on first old new (g x ∷ []) (map g (drop (i + 1) xs)) adds
@@ -40,16 +40,16 @@ pub each_all : (n : ℕ) (old whole : List Event) (g : ℕ → Unnumbered) (xs :
 each_all n old whole g xs i h is = sym (append-nil old) ∙ ap (λ rest. old ++ numbered_wrapping n (map g rest)) (sym (drop_all i xs h)) ∙ is
 
 -- one more clone of a file
-pub clone_more : (first : ℕ) (old new whole : List Event) (told : Told) (file : EndedFile) (connections : List ℕ) (i next : ℕ) → i < length connections
-    → Adds first old (clone_event told file next ∷ []) new
+pub clone_more : (first : ℕ) (old new whole : List Event) (told : ToldSession) (file : EndedFile) (connections : List ℕ) (i next : ℕ) → i < length connections
+    → AddsDrafts first old (clone_draft told file next ∷ []) new
     → old ++ numbered_wrapping (first + length old) (clone_events told next (map (λ connection. (file, connection)) (drop i connections))) ≡ whole
     → new ++ numbered_wrapping (first + length new) (clone_events told (next + 1) (map (λ connection. (file, connection)) (drop (i + 1) connections))) ≡ whole
 clone_more first old new whole told file connections i next h adds before =
-    adds-on first old new (clone_event told file next ∷ []) (clone_events told (next + 1) (map (λ connection. (file, connection)) (drop (i + 1) connections))) adds
+    adds-on first old new (clone_draft told file next ∷ []) (clone_events told (next + 1) (map (λ connection. (file, connection)) (drop (i + 1) connections))) adds
     ∙ ap (λ rest. old ++ numbered_wrapping (first + length old) (clone_events told next (map (λ connection. (file, connection)) rest))) (sym (drop_more connections i 0 h))
     ∙ before
 
-pub clone_all : (n : ℕ) (old whole : List Event) (told : Told) (file : EndedFile) (connections : List ℕ) (i next : ℕ) → length connections ≤ i
+pub clone_all : (n : ℕ) (old whole : List Event) (told : ToldSession) (file : EndedFile) (connections : List ℕ) (i next : ℕ) → length connections ≤ i
     → old ++ numbered_wrapping n (clone_events told next (map (λ connection. (file, connection)) (drop i connections))) ≡ whole → old ≡ whole
 clone_all n old whole told file connections i next h is =
     sym (append-nil old) ∙ ap (λ rest. old ++ numbered_wrapping n (clone_events told next (map (λ connection. (file, connection)) rest))) (sym (drop_all i connections h)) ∙ is
@@ -62,8 +62,8 @@ pub length_wanted_one : (file : EndedFile) → length (wanted (file ∷ [])) ≡
 length_wanted_one file = ap length (wanted_one file) ∙ length-map (further file.goes) (λ connection. (file, connection))
 
 -- the clones of one more file
-pub clones_more : (first : ℕ) (old new whole : List Event) (told : Told) (files : List EndedFile) (i next next' : ℕ) (file : EndedFile) → i < length files → file ≡ get_or files i file
-    → next' ≡ next + length (further file.goes) → Adds first old (clone_events told next (wanted (file ∷ []))) new
+pub clones_more : (first : ℕ) (old new whole : List Event) (told : ToldSession) (files : List EndedFile) (i next next' : ℕ) (file : EndedFile) → i < length files → file ≡ get_or files i file
+    → next' ≡ next + length (further file.goes) → AddsDrafts first old (clone_events told next (wanted (file ∷ []))) new
     → old ++ numbered_wrapping (first + length old) (clone_events told next (wanted (drop i files))) ≡ whole
     → new ++ numbered_wrapping (first + length new) (clone_events told next' (wanted (drop (i + 1) files))) ≡ whole
 clones_more first old new whole told files i next next' file h is count adds before =
@@ -77,7 +77,7 @@ clones_more first old new whole told files i next next' file h is count adds bef
     ∙ ap (λ xs. old ++ numbered_wrapping (first + length old) (clone_events told next (wanted xs))) (sym (left files i file h is))
     ∙ before
 
-pub clones_all : (n : ℕ) (old whole : List Event) (told : Told) (files : List EndedFile) (i next : ℕ) → length files ≤ i
+pub clones_all : (n : ℕ) (old whole : List Event) (told : ToldSession) (files : List EndedFile) (i next : ℕ) → length files ≤ i
     → old ++ numbered_wrapping n (clone_events told next (wanted (drop i files))) ≡ whole → old ≡ whole
 clones_all n old whole told files i next h is =
     sym (append-nil old) ∙ ap (λ rest. old ++ numbered_wrapping n (clone_events told next (wanted rest))) (sym (drop_all i files h)) ∙ is
@@ -91,9 +91,9 @@ wanted_left files i file h is =
     ∙ ap (λ n. n + length (wanted (drop (i + 1) files))) (length-map (further file.goes) (λ connection. (file, connection)))
 
 pub firsts_left : (files : List EndedFile) (i : ℕ) (file : EndedFile) → i < length files → file ≡ get_or files i file
-    → length (firsts (drop i files)) ≡ length (first_of file file.goes) + length (firsts (drop (i + 1) files))
+    → length (firsts (drop i files)) ≡ length (first_newcomer file file.goes) + length (firsts (drop (i + 1) files))
 firsts_left files i file h is =
-    ap (λ rest. length (firsts rest)) (left files i file h is) ∙ length-append (first_of file file.goes) (firsts (drop (i + 1) files))
+    ap (λ rest. length (firsts rest)) (left files i file h is) ∙ length-append (first_newcomer file file.goes) (firsts (drop (i + 1) files))
 
 -- ---- numbers and moments
 

@@ -16,12 +16,12 @@ use Rattle.machine_model.specs.Settling.{in_queue}
 use Rattle.machine_model.specs.State.{QueuedFile}
 use Rattle.machine_model.proofs.Among.{Among}
 use Rattle.machine_model.proofs.Tally.{Each}
-use Rattle.settlement.specs.Placing.{arrival_of}
+use Rattle.settlement.specs.Placing.{taken_arrival}
 use Rattle.settlement.proofs.EndedFiles.{Case, session}
 
 -- what comes back of a file
 abbrev pub back_of : Case → SettledFile → Destination → List QueuedFile
-back_of c file placing.Returns = in_queue file file.number (arrival_of c.ended.taken file.worked.origin) ∷ []
+back_of c file placing.Returns = in_queue file file.number (taken_arrival c.ended.taken file.worked.origin) ∷ []
 back_of c file _ = []
 
 abbrev pub back : Case → SettledFile → List QueuedFile
@@ -32,7 +32,7 @@ pub record IsTakenOne (c : Case) (file : SettledFile) : Type 0 where
   pub taken : FlowFile
   pub there : Among taken c.ended.taken
   pub number : file.number ≡ taken.number
-  pub arrival : arrival_of c.ended.taken file.worked.origin ≡ taken.arrival
+  pub arrival : taken_arrival c.ended.taken file.worked.origin ≡ taken.arrival
 
 -- a new one has a new number, and doesn't come back
 pub record IsNewOne (c : Case) (file : SettledFile) : Type 0 where
@@ -85,7 +85,7 @@ step_of : (c : Case) (relationships place next entered : ℕ) (worked : Worked) 
 step_of c relationships place next entered worked (origin.Taken of) is le turn ends =
     let within : of < length c.ended.taken = omega (arith, turn.0, turn.1) in
     let at = taken_at c.ended.taken of within in
-    (inl (record { taken = at.file; there = at.there; number = at.number; arrival = ap (arrival_of c.ended.taken) is ∙ at.arrival }), omega arith)
+    (inl (record { taken = at.file; there = at.there; number = at.number; arrival = ap (taken_arrival c.ended.taken) is ∙ at.arrival }), omega arith)
 step_of c relationships place next entered worked origin.Created is le turn ends = (inr (record { number = le; stays_out = made_goes_on c (settled_file (session c) (next, entered, worked)) relationships origin.Created worked.«end» refl ends }), omega arith)
 step_of c relationships place next entered worked origin.Received is le turn ends = (inr (record { number = le; stays_out = made_goes_on c (settled_file (session c) (next, entered, worked)) relationships origin.Received worked.«end» refl ends }), omega arith)
 step_of c relationships place next entered worked (origin.Forked of) is le turn ends = (inr (record { number = le; stays_out = made_goes_on c (settled_file (session c) (next, entered, worked)) relationships (origin.Forked of) worked.«end» refl ends }), omega arith)

@@ -19,7 +19,7 @@ use Rattle.machine_model.specs.Placing.{EndedSession, SettledFile, SettlementClo
 use Rattle.machine_model.specs.State.{QueuedFile}
 use Rattle.settlement.specs.Ending.{goes_to}
 use Rattle.settlement.specs.Placing.{wanted, further}
-use Rattle.settlement.specs.Telling.{Told, Unnumbered, alone, number_at, created, received, fork_of, joined, clone_event, modified, attributes_modified, if_other, routed, dropped, row_at, row_of, sent, clone_events, all_drafts}
+use Rattle.settlement.specs.Telling.{ToldSession, Unnumbered, draft_alone, ended_number, create_drafts, receive_drafts, fork_drafts, join_drafts, clone_draft, modify_drafts, attributes_drafts, if_other, route_drafts, drop_drafts, row_at, row_drafts, send_drafts, clone_events, all_drafts}
 use Rattle.settlement.specs.Whole.{told_of}
 use Rattle.settlement.specs.declared.file.EndedFile.{EndedFile}
 use Rattle.settlement.specs.declared.rows.Row.{Row}
@@ -27,7 +27,7 @@ use Rattle.settlement.specs.declared.rows.Row.TheVariants as row
 use Rattle.settlement.proofs.EndedFiles.{Case, by_bytes, ended_of, session}
 use Rattle.settlement.proofs.Listing.{map-map, filter-map, get-map, flat_map-map, map-flat_map, flat_map-same, enumerated-map, enumerated-each}
 
-abbrev pub told : Case → List SettledFile → Told
+abbrev pub told : Case → List SettledFile → ToldSession
 told c files = told_of c.processor c.ended.taken c.given (map (ended_of (by_bytes c)) files)
 
 -- the events of drafts
@@ -40,7 +40,7 @@ events-cond false xs ys = refl
 
 -- ---- rows of a file alone
 
-created_same : (c : Case) (files : List SettledFile) (file : SettledFile) (from : Origin) → created (told c files) (ended_of (by_bytes c) file) from ≡ events (machine.created (session c) file from)
+created_same : (c : Case) (files : List SettledFile) (file : SettledFile) (from : Origin) → create_drafts (told c files) (ended_of (by_bytes c) file) from ≡ events (machine.created (session c) file from)
 created_same c files file origin.Created = refl
 created_same c files file origin.Received = refl
 created_same c files file (origin.Taken of) = refl
@@ -49,7 +49,7 @@ created_same c files file (origin.Part of) = refl
 created_same c files file (origin.Cloned of) = refl
 created_same c files file (origin.Joined of) = refl
 
-received_same : (c : Case) (files : List SettledFile) (file : SettledFile) (from : Origin) → received (told c files) (ended_of (by_bytes c) file) from ≡ events (machine.received (session c) file from)
+received_same : (c : Case) (files : List SettledFile) (file : SettledFile) (from : Origin) → receive_drafts (told c files) (ended_of (by_bytes c) file) from ≡ events (machine.received (session c) file from)
 received_same c files file origin.Created = refl
 received_same c files file origin.Received = refl
 received_same c files file (origin.Taken of) = refl
@@ -58,7 +58,7 @@ received_same c files file (origin.Part of) = refl
 received_same c files file (origin.Cloned of) = refl
 received_same c files file (origin.Joined of) = refl
 
-modified_same : (c : Case) (files : List SettledFile) (file : SettledFile) (from : Origin) → modified (told c files) (ended_of (by_bytes c) file) from ≡ events (machine.modified (session c) file from)
+modified_same : (c : Case) (files : List SettledFile) (file : SettledFile) (from : Origin) → modify_drafts (told c files) (ended_of (by_bytes c) file) from ≡ events (machine.modified (session c) file from)
 modified_same c files file origin.Created = refl
 modified_same c files file origin.Received = refl
 modified_same c files file (origin.Taken of) =
@@ -75,7 +75,7 @@ other_same c files file None = refl
 other_same c files file (Some taken) = sym (events-cond (same_attributes taken.attributes file.attributes) [] _)
 
 attributes_same : (c : Case) (files : List SettledFile) (file : SettledFile) (from : Origin)
-    → attributes_modified (told c files) (ended_of (by_bytes c) file) from ≡ events (machine.attributes_modified (session c) file from)
+    → attributes_drafts (told c files) (ended_of (by_bytes c) file) from ≡ events (machine.attributes_modified (session c) file from)
 attributes_same c files file (origin.Taken of) =
     ap (cond (is_removed file.worked.«end» || file.worked.written) [])
     (other_same c files file (slice_get c.ended.taken of)
@@ -89,11 +89,11 @@ attributes_same c files file (origin.Part of) = refl
 attributes_same c files file (origin.Cloned of) = refl
 attributes_same c files file (origin.Joined of) = refl
 
-routed_same : (c : Case) (files : List SettledFile) (file : SettledFile) (to : Option ℕ) → routed (told c files) (ended_of (by_bytes c) file) to ≡ events (machine.routed (session c) file to)
+routed_same : (c : Case) (files : List SettledFile) (file : SettledFile) (to : Option ℕ) → route_drafts (told c files) (ended_of (by_bytes c) file) to ≡ events (machine.routed (session c) file to)
 routed_same c files file None = refl
 routed_same c files file (Some relationship) = refl
 
-dropped_same : (c : Case) (files : List SettledFile) (file : SettledFile) (goes : Destination) → dropped (told c files) (ended_of (by_bytes c) file) (goes_to goes) ≡ events (machine.dropped (session c) file goes)
+dropped_same : (c : Case) (files : List SettledFile) (file : SettledFile) (goes : Destination) → drop_drafts (told c files) (ended_of (by_bytes c) file) (goes_to goes) ≡ events (machine.dropped (session c) file goes)
 dropped_same c files file (placing.Queues first others) = refl
 dropped_same c files file placing.Returns = refl
 dropped_same c files file (placing.Drops relationship) = refl
@@ -104,10 +104,10 @@ dropped_same c files file placing.Leaves = refl
 numbers_same : (c : Case) (files : List SettledFile) → map (λ (file : EndedFile). file.number) (map (ended_of (by_bytes c)) files) ≡ map (λ (file : SettledFile). file.number) files
 numbers_same c files = map-map (λ (file : EndedFile). file.number) (ended_of (by_bytes c)) files
 
-number_at_same : (c : Case) (files : List SettledFile) → number_at (map (ended_of (by_bytes c)) files) ≡ machine.number_at files
+number_at_same : (c : Case) (files : List SettledFile) → ended_number (map (ended_of (by_bytes c)) files) ≡ machine.number_at files
 number_at_same c files = λ i place. slice_index (numbers_same c files i) place
 
-joined_same : (c : Case) (files : List SettledFile) (file : SettledFile) (from : Origin) → joined (told c files) (ended_of (by_bytes c) file) from ≡ events (machine.joined (session c) files file from)
+joined_same : (c : Case) (files : List SettledFile) (file : SettledFile) (from : Origin) → join_drafts (told c files) (ended_of (by_bytes c) file) from ≡ events (machine.joined (session c) files file from)
 joined_same c files file (origin.Joined parents) =
     ap (λ at. machine.of_file (session c) kind.Join file (machine.ascending (map at parents)) (file.number ∷ []) [] ∷ []) (number_at_same c files)
 joined_same c files file origin.Created = refl
@@ -124,33 +124,33 @@ chosen_same c p files =
     ap (map (λ (file : EndedFile). file.number)) (filter-map (λ (file : EndedFile). p file.worked.origin) (ended_of (by_bytes c)) files)
     ∙ numbers_same c (filter (λ (file : SettledFile). p file.worked.origin) files)
 
-fork_same : (c : Case) (files : List SettledFile) (file : SettledFile) (children : List ℕ) → fork_of (told c files) (ended_of (by_bytes c) file) children ≡ events (machine.fork_of (session c) file children)
+fork_same : (c : Case) (files : List SettledFile) (file : SettledFile) (children : List ℕ) → fork_drafts (told c files) (ended_of (by_bytes c) file) children ≡ events (machine.fork_of (session c) file children)
 fork_same c files file [] = refl
 fork_same c files file (child ∷ children) = refl
 
 forked_same : (c : Case) (files : List SettledFile) (k : ℕ) (file : SettledFile) → row_at (told c files) row.Forked (k, ended_of (by_bytes c) file) ≡ events (machine.fork_of (session c) file (machine.forked_children files k))
 forked_same c files k file =
-    ap (fork_of (told c files) (ended_of (by_bytes c) file)) (chosen_same c (machine.is_forked_from k) files) ∙ fork_same c files file (machine.forked_children files k)
+    ap (fork_drafts (told c files) (ended_of (by_bytes c) file)) (chosen_same c (machine.is_forked_from k) files) ∙ fork_same c files file (machine.forked_children files k)
 
 cloned_same : (c : Case) (files : List SettledFile) (k : ℕ) (file : SettledFile)
     → row_at (told c files) row.Cloned (k, ended_of (by_bytes c) file) ≡ events (map (λ (copy : SettledFile). machine.clone_event (session c) file copy.number) (machine.copies files k))
 cloned_same c files k file =
-    ap (map (clone_event (told c files) (ended_of (by_bytes c) file))) (chosen_same c (machine.is_cloned_from k) files)
-    ∙ map-map (clone_event (told c files) (ended_of (by_bytes c) file)) (λ (copy : SettledFile). copy.number) (machine.copies files k)
+    ap (map (clone_draft (told c files) (ended_of (by_bytes c) file))) (chosen_same c (machine.is_cloned_from k) files)
+    ∙ map-map (clone_draft (told c files) (ended_of (by_bytes c) file)) (λ (copy : SettledFile). copy.number) (machine.copies files k)
     ∙ sym (map-map (λ (draft : Draft). draft.event) (λ (copy : SettledFile). machine.clone_event (session c) file copy.number) (machine.copies files k))
 
 -- ---- what is sent, and clones
 
 sent_at : (c : Case) (files : List SettledFile) (put : Sent) (found : Option SettledFile)
-    → option_map_or (λ file. alone (told c files) kind.Send file put.name ∷ []) (option_map (ended_of (by_bytes c)) found) []
+    → option_map_or (λ file. draft_alone (told c files) kind.Send file put.name ∷ []) (option_map (ended_of (by_bytes c)) found) []
     ≡ events (option_map_or (λ file. machine.alone (session c) kind.Send file put.name ∷ []) found [])
 sent_at c files put None = refl
 sent_at c files put (Some file) = refl
 
-sent_same : (c : Case) (files : List SettledFile) (put : Option Sent) → sent (told c files) put ≡ events (machine.sent (session c) files put)
+sent_same : (c : Case) (files : List SettledFile) (put : Option Sent) → send_drafts (told c files) put ≡ events (machine.sent (session c) files put)
 sent_same c files None = refl
 sent_same c files (Some put) =
-    ap (λ found. option_map_or (λ file. alone (told c files) kind.Send file put.name ∷ []) found []) (get-map (ended_of (by_bytes c)) files put.place)
+    ap (λ found. option_map_or (λ file. draft_alone (told c files) kind.Send file put.name ∷ []) found []) (get-map (ended_of (by_bytes c)) files put.place)
     ∙ sent_at c files put (slice_get files put.place)
 
 pub further_same : (goes : Destination) → further (goes_to goes) ≡ further_connections goes
@@ -193,13 +193,13 @@ together : (a b c d e f g h s l o : List Draft)
 together a b c d e f g h s l o = simp map-append
 
 each_row : (c : Case) (files : List SettledFile) (r : Row) (m : SettledFile → List Draft) → ((k : ℕ) (file : SettledFile) → row_at (told c files) r (k, ended_of (by_bytes c) file) ≡ events (m file))
-    → row_of (told c files) r ≡ events (flat_map m files)
+    → row_drafts (told c files) r ≡ events (flat_map m files)
 each_row c files r m each =
     enumerated-each (row_at (told c files) r) (λ file. events (m file)) (ended_of (by_bytes c)) each 0 files ∙ sym (map-flat_map (λ (draft : Draft). draft.event) m files)
 
 -- the same, where what is told of a file goes by its place
 each_place : (c : Case) (files : List SettledFile) (r : Row) (m : ℕ × SettledFile → List Draft) → ((k : ℕ) (file : SettledFile) → row_at (told c files) r (k, ended_of (by_bytes c) file) ≡ events (m (k, file)))
-    → row_of (told c files) r ≡ events (flat_map m (enumerate_from 0 files))
+    → row_drafts (told c files) r ≡ events (flat_map m (enumerate_from 0 files))
 each_place c files r m each =
     enumerated-map (row_at (told c files) r) (λ f. events (m f)) (ended_of (by_bytes c)) each 0 files ∙ sym (map-flat_map (λ (draft : Draft). draft.event) m (enumerate_from 0 files))
 
@@ -220,9 +220,9 @@ drafts-same c outcome =
     let clones_row : clone_events (told c files) first (wanted (map (ended_of (by_bytes c)) files)) ≡ events clone_drafts
     = ap (clone_events (told c files) first) (wanted-same (by_bytes c) files) ∙ clones_same c files first (wanted_clones files) in
     let dropped_row = each_row c files row.Dropped (λ file. machine.dropped (session c) file file.goes) (λ k file. dropped_same c files file file.goes) in
-    regroup (row_of (told c files) row.Created) (row_of (told c files) row.Received) (row_of (told c files) row.Forked) (row_of (told c files) row.Joined) (row_of (told c files) row.Cloned)
-    (row_of (told c files) row.ContentModified) (row_of (told c files) row.AttributesModified) (row_of (told c files) row.Routed) (sent (told c files) outcome.sent)
-    (clone_events (told c files) first (wanted (map (ended_of (by_bytes c)) files))) (row_of (told c files) row.Dropped)
+    regroup (row_drafts (told c files) row.Created) (row_drafts (told c files) row.Received) (row_drafts (told c files) row.Forked) (row_drafts (told c files) row.Joined) (row_drafts (told c files) row.Cloned)
+    (row_drafts (told c files) row.ContentModified) (row_drafts (told c files) row.AttributesModified) (row_drafts (told c files) row.Routed) (send_drafts (told c files) outcome.sent)
+    (clone_events (told c files) first (wanted (map (ended_of (by_bytes c)) files))) (row_drafts (told c files) row.Dropped)
     ∙ (λ i. in_rows (created_row i) (received_row i) (forked_row i) (joined_row i) (cloned_row i) (modified_row i) (attributes_row i) (routed_row i) (sent_row i) (clones_row i) (dropped_row i))
     ∙ sym (together (flat_map (λ file. machine.created (session c) file file.worked.origin) files) (flat_map (λ file. machine.received (session c) file file.worked.origin) files)
     (machine.forks (session c) files) (flat_map (λ file. machine.joined (session c) files file file.worked.origin) files) (machine.clonings (session c) files)

@@ -19,10 +19,10 @@ use Rattle.machine_model.specs.Placing.{count_made}
 use Rattle.process_session.specs.declared.file.Source.{Source}
 use Rattle.settlement.specs.Contents.{kept_content, BeginsWithin, IsBodyWithin}
 use Rattle.settlement.specs.Ending.{EndingPlace, IsWorkedWithin, ended_files}
-use Rattle.settlement.specs.Handed.{MaySettle, sizes_of}
+use Rattle.settlement.specs.Handed.{MaySettle, content_sizes}
 use Rattle.settlement.specs.Placing.{arrived, firsts, returned, wanted}
 use Rattle.settlement.specs.Telling.{all_drafts, numbered_wrapping}
-use Rattle.settlement.specs.Whole.{MayEnd, count_of, place_in, placing_at, settled_of, told_of}
+use Rattle.settlement.specs.Whole.{MayEndAt, generator_count, ending_place, placing_at, settled_of, told_of}
 use Rattle.settlement.specs.declared.counters.Counters.{Counters}
 use Rattle.settlement.specs.declared.file.EndedFile.{EndedFile}
 use Rattle.settlement.specs.declared.handed.Ended.{Ended}
@@ -31,7 +31,7 @@ pub settled_is : (at : EndingPlace) (given : Given) (counters : Counters) (conne
     (count : Option Counted) → files ≡ ended_files at counters.next_number outcome.files → made ≡ count_made outcome.files
     → placed ≡ returned (placing_at at connection counters.next_arrival) files ++ arrived (placing_at at connection counters.next_arrival) (counters.next_number + made) files
     → events ≡ numbered_wrapping (counters.last_event + 1) (all_drafts (told_of at.processor at.taken given files) outcome.sent (counters.next_number + made))
-    → gone ≡ map (λ file. file.number) at.taken → first ≡ length (firsts files) → clones ≡ length (wanted files) → count ≡ count_of at.processor.kind at.place given.index
+    → gone ≡ map (λ file. file.number) at.taken → first ≡ length (firsts files) → clones ≡ length (wanted files) → count ≡ generator_count at.processor.kind at.place given.index
     → ◌≡◌ {A = Settled}
     (record {
       processor = at.place;
@@ -66,23 +66,23 @@ abbrev EndsWithin : FlowFile → Type 0
 EndsWithin file = file.content.offset + file.content.size < 2 ^ 64
 
 -- a part begins where the taken content ends, or before it
-begins : (taken : List FlowFile) (body : Body) → All EndsWithin taken → IsBodyOver (sizes_of taken) body → BeginsWithin taken body
+begins : (taken : List FlowFile) (body : Body) → All EndsWithin taken → IsBodyOver (content_sizes taken) body → BeginsWithin taken body
 begins taken (Whole of) ends over = tt
 begins taken (New bytes) ends over = tt
 begins taken (Part of offset size) ends over = begins_at taken of offset size ends over.1
   where
-    begins_at : (taken : List FlowFile) (of offset size : ℕ) → All EndsWithin taken → offset + size ≤ slice_index (sizes_of taken) of → (kept_content taken of).offset + offset < 2 ^ 64
+    begins_at : (taken : List FlowFile) (of offset size : ℕ) → All EndsWithin taken → offset + size ≤ slice_index (content_sizes taken) of → (kept_content taken of).offset + offset < 2 ^ 64
     begins_at [] of offset size ends within = omega (arith, within)
     begins_at (file ∷ taken) zero offset size ends within = omega (arith, within, All-head EndsWithin file taken ends)
     begins_at (file ∷ taken) (suc of) offset size ends within = begins_at taken of offset size (All-tail EndsWithin file taken ends) within
 
 all_within : (taken : List FlowFile) (sources : List Source) (relationships : ℕ) (files : List Worked) → All EndsWithin taken → All (λ file. IsBodyWithin sources file.body) files
-    → All (IsWorked relationships (sizes_of taken)) files → All (IsWorkedWithin taken sources) files
+    → All (IsWorked relationships (content_sizes taken)) files → All (IsWorkedWithin taken sources) files
 all_within taken sources relationships files ends parts worked =
     λ i d lt. record { body = parts i d lt; begins = begins taken (get_or files i d).body ends (worked i d lt).body; named = (worked i d lt).named }
 
 pub may-end : (flow : Flow) (given : Given) (counters : Counters) (ended : Ended) (processor : Processor) → MaySettle flow counters ended
-    → MayEnd (place_in flow given counters ended processor) counters ended.outcome
+    → MayEndAt (ending_place flow given counters ended processor) counters ended.outcome
 may-end flow given counters ended processor may = record {
   connections = may.connections;
   within = all_within ended.taken ended.sources may.relationships ended.outcome.files may.ends may.parts may.outcome.each;

@@ -24,12 +24,12 @@ abbrev pub source_bytes : List Source → ℕ → List ℕ
 source_bytes sources place = option_map_or (λ source. unwrap_or source.bytes []) (slice_get sources place) []
 
 -- a part of a taken content stands within it
-abbrev pub content_in : List FlowFile → List Source → Body → ContentRef
-content_in taken sources (Whole of) = kept_content taken of
-content_in taken sources (Part of offset size) =
+abbrev pub body_content : List FlowFile → List Source → Body → ContentRef
+body_content taken sources (Whole of) = kept_content taken of
+body_content taken sources (Part of offset size) =
     range_of (kept_content taken of) offset size
     (sha256 (slice_range (source_bytes sources of) offset (offset + size)))
-content_in taken sources (New bytes) = fresh_ref bytes
+body_content taken sources (New bytes) = fresh_ref bytes
 
 -- where the content of a body comes from: one that isn't in the store yet has its bytes
 abbrev pub fresh_in : Body → Fresh

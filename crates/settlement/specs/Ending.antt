@@ -10,7 +10,7 @@ use Rattle.machine_model.specs.declared.flow.Flow.{Flow}
 use Rattle.machine_model.specs.declared.flow.Processor.{Processor}
 use Rattle.machine_model.specs.Placing as placing
 use Rattle.machine_model.specs.Placing.{Destination, goes, least, numbers_from, entered_in, with_filename, penalty_end_of}
-use Rattle.settlement.specs.Contents.{content_in, BeginsWithin, IsBodyWithin}
+use Rattle.settlement.specs.Contents.{body_content, BeginsWithin, IsBodyWithin}
 use Rattle.settlement.specs.declared.file.EndedFile.{EndedFile}
 use Rattle.settlement.specs.declared.file.Goes.{Goes}
 use Rattle.settlement.specs.declared.file.Goes.TheVariants.{Queues, Returns, Drops, Leaves}
@@ -62,7 +62,7 @@ abbrev pub ended_file : EndingPlace → ℕ × ℕ × Worked → EndedFile
 ended_file at (number, entered, worked) = record {
   number = number;
   worked = named_file at.store number worked;
-  content = content_in at.taken at.sources worked.body;
+  content = body_content at.taken at.sources worked.body;
   entered = entered;
   penalty_end = penalty_end_of worked.penalised at.moment at.processor.penalty;
   goes = goes_to (goes at.flow at.place at.processor worked.«end»);

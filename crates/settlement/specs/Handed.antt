@@ -21,8 +21,8 @@ use Rattle.settlement.specs.declared.handed.Ended.{Ended}
 
 -- ---- what a settlement asks for
 
-abbrev pub sizes_of : List FlowFile → List ℕ
-sizes_of taken = map (λ file. file.content.size) taken
+abbrev pub content_sizes : List FlowFile → List ℕ
+content_sizes taken = map (λ file. file.content.size) taken
 
 -- The processor is one of the flow, whose connections have places of 16 bits. The contents of the taken files end within
 -- 64 bits. The outcome is one over these files, and parts are of contents that were read. The counters are numbers of a
@@ -32,7 +32,7 @@ pub record MaySettle (flow : Flow) (counters : Counters) (ended : Ended) : Type 
   pub connections : length flow.connections ≤ 2 ^ 16
   pub ends : All (λ file. file.content.offset + file.content.size < 2 ^ 64) ended.taken
   pub relationships : ℕ
-  pub outcome : IsOutcome relationships (sizes_of ended.taken) ended.outcome
+  pub outcome : IsOutcome relationships (content_sizes ended.taken) ended.outcome
   pub parts : All (λ file. IsBodyWithin ended.sources file.body) ended.outcome.files
   pub next_number : counters.next_number < NUMBER_LIMIT
   pub next_arrival : counters.next_arrival < NUMBER_LIMIT
@@ -40,8 +40,8 @@ pub record MaySettle (flow : Flow) (counters : Counters) (ended : Ended) : Type 
 
 -- ---- the session that it stands for, where references stand for these bytes
 
-abbrev pub session_of : Flow → Given → Ended → Processor → (bytes : ContentRef → List ℕ) → State → EndedSession
-session_of flow given ended processor bytes state = record {
+abbrev pub ended_session : Flow → Given → Ended → Processor → (bytes : ContentRef → List ℕ) → State → EndedSession
+ended_session flow given ended processor bytes state = record {
   flow = flow;
   place = ended.processor;
   processor = processor;
@@ -51,20 +51,21 @@ session_of flow given ended processor bytes state = record {
 }
 
 -- a reference has the size and the digest of the bytes that it stands for, and what was read are these bytes
-pub record IsRead (bytes : ContentRef → List ℕ) (file : FlowFile) (source : Source) : Type 0 where
+pub record IsReadSource (bytes : ContentRef → List ℕ) (file : FlowFile) (source : Source) : Type 0 where
   pub size : file.content.size ≡ length (bytes file.content)
   pub digest : file.content.digest ≡ sha256 (bytes file.content)
   pub read : IfSome source.bytes (λ read. read ≡ bytes file.content)
 
 -- each taken file has its source
-abbrev pub AreRead : (bytes : ContentRef → List ℕ) → List FlowFile → List Source → Type 0
-AreRead bytes [] [] = Unit {0}
-AreRead bytes (file ∷ files) (source ∷ sources) = IsRead bytes file source × AreRead bytes files sources
-AreRead bytes _ _ = ⊥
+abbrev pub AreReadSources : (bytes : ContentRef → List ℕ) → List FlowFile → List Source → Type 0
+AreReadSources bytes [] [] = Unit {0}
+AreReadSources bytes (file ∷ files) (source ∷ sources) = IsReadSource bytes file source
+    × AreReadSources bytes files sources
+AreReadSources bytes _ _ = ⊥
 
 -- The session is one of a valid state with these counters, and the taken files are files of one of its queues, each
 -- another one.
-pub record IsHanded (flow : Flow) (counters : Counters) (ended : Ended) (processor : Processor)
+pub record SessionIsHanded (flow : Flow) (counters : Counters) (ended : Ended) (processor : Processor)
     (bytes : ContentRef → List ℕ) (state : State) : Type 0 where
   pub found : slice_get flow.processors ended.processor ≡ Some processor
   pub valid : IsValid flow state

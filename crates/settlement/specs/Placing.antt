@@ -14,24 +14,24 @@ use Rattle.settlement.specs.declared.placing.Placer.{Placer}
 
 -- ---- newcomers, each with its connection and its number
 
-abbrev pub Newcomer : Type 0
-Newcomer = ℕ × ℕ × EndedFile
+abbrev pub EndedNewcomer : Type 0
+EndedNewcomer = ℕ × ℕ × EndedFile
 
-abbrev pub first_of : EndedFile → Goes → List Newcomer
-first_of file (Queues first others) = (first, file.number, file) ∷ []
-first_of file _ = []
+abbrev pub first_newcomer : EndedFile → Goes → List EndedNewcomer
+first_newcomer file (Queues first others) = (first, file.number, file) ∷ []
+first_newcomer file _ = []
 
 -- the first connection, where there is one
-abbrev pub first_in : Goes → Option ℕ
-first_in (Queues first others) = Some first
-first_in _ = None
+abbrev pub first_connection : Goes → Option ℕ
+first_connection (Queues first others) = Some first
+first_connection _ = None
 
 abbrev pub is_returning : Goes → Bool
 is_returning Returns = true
 is_returning _ = false
 
-abbrev pub firsts : List EndedFile → List Newcomer
-firsts files = flat_map (λ file. first_of file file.goes) files
+abbrev pub firsts : List EndedFile → List EndedNewcomer
+firsts files = flat_map (λ file. first_newcomer file file.goes) files
 
 abbrev pub further : Goes → List ℕ
 further (Queues first others) = others
@@ -57,7 +57,7 @@ placing_of placer = record {
 }
 
 -- a newcomer whose content comes from there
-abbrev pub placed_as : Fresh → (arrival : ℕ) → Newcomer → Placed
+abbrev pub placed_as : Fresh → (arrival : ℕ) → EndedNewcomer → Placed
 placed_as fresh arrival (connection, number, file) = record {
   connection = connection;
   file = record {
@@ -71,23 +71,23 @@ placed_as fresh arrival (connection, number, file) = record {
   fresh = fresh;
 }
 
-abbrev pub placed_at : (arrival : ℕ) → Newcomer → Placed
+abbrev pub placed_at : (arrival : ℕ) → EndedNewcomer → Placed
 placed_at arrival (connection, number, file) =
     placed_as (fresh_in file.worked.body) arrival (connection, number, file)
 
 -- arrivals are given in turn
-abbrev pub placed_from : (arrival : ℕ) → List Newcomer → List Placed
+abbrev pub placed_from : (arrival : ℕ) → List EndedNewcomer → List Placed
 placed_from arrival [] = []
 placed_from arrival (newcomer ∷ rest) = placed_at arrival newcomer ∷ placed_from (arrival + 1) rest
 
 -- a taken file keeps its arrival
-abbrev pub arrival_of : List FlowFile → Origin → ℕ
-arrival_of taken (Taken place) = slice_index (map (λ file. file.arrival) taken) place
-arrival_of taken _ = 0
+abbrev pub taken_arrival : List FlowFile → Origin → ℕ
+taken_arrival taken (Taken place) = slice_index (map (λ file. file.arrival) taken) place
+taken_arrival taken _ = 0
 
 abbrev pub returning : PlacingFrom → EndedFile → Goes → List Placed
 returning placing file Returns =
-    placed_at (arrival_of placing.taken file.worked.origin) (placing.connection, file.number, file) ∷ []
+    placed_at (taken_arrival placing.taken file.worked.origin) (placing.connection, file.number, file) ∷ []
 returning placing file _ = []
 
 abbrev pub returned : PlacingFrom → List EndedFile → List Placed
@@ -106,7 +106,7 @@ cloned_from place number arrival [] = []
 cloned_from place number arrival (file ∷ files) =
     let count = length (further file.goes) in
     clones_of place number arrival file (further file.goes)
-    ++ cloned_from (place + length (first_of file file.goes)) (number + count) (arrival + count) files
+    ++ cloned_from (place + length (first_newcomer file file.goes)) (number + count) (arrival + count) files
 
 -- the files that go on, then the clones; those that return stand before them
 abbrev pub arrived : PlacingFrom → (first_clone : ℕ) → List EndedFile → List Placed

@@ -14,7 +14,7 @@ use Rattle.machine_model.specs.declared.limits.TheConstants.{FAN_OUT_MAX}
 use Rattle.machine_model.specs.Placing.{connections_of}
 use Rattle.settlement.specs.declared.counters.Counters.{Counters}
 use Rattle.settlement.specs.declared.handed.Ended.{Ended}
-use Rattle.settlement.specs.Whole.{count_of}
+use Rattle.settlement.specs.Whole.{generator_count}
 
 -- The processor is this one, none of whose relationships leads to more connections than one may; taken files came from
 -- a connection of the flow, at moments of 64 bits.
@@ -42,7 +42,7 @@ pub record Records (flow : Flow) (given : Given) (counters : Counters) (ended : 
       ≤ FAN_OUT_MAX * (SESSION_ATTRIBUTES_MAX + FILES_MAX * FILENAME_SIZE)
   pub next_number : counters.next_number ≤ settled.next_number
   pub next_arrival : counters.next_arrival ≤ settled.next_arrival
-  pub count : settled.count ≡ count_of processor.kind ended.processor given.index
+  pub count : settled.count ≡ generator_count processor.kind ended.processor given.index
 
 -- that holds of each processor that it may be
 abbrev pub RecordsAll : Flow → Given → Counters → Ended → Settled → Type 0

@@ -9,7 +9,7 @@ use Rattle.machine_model.specs.declared.given.Given.{Given}
 use Rattle.machine_model.specs.Changing.{state_after}
 use Rattle.machine_model.specs.Settling.{settle}
 use Rattle.machine_model.specs.State.{State}
-use Rattle.settlement.specs.Handed.{AreRead, IsHanded, session_of}
+use Rattle.settlement.specs.Handed.{AreReadSources, SessionIsHanded, ended_session}
 use Rattle.settlement.specs.declared.counters.Counters.{Counters}
 use Rattle.settlement.specs.declared.handed.Ended.{Ended}
 
@@ -17,9 +17,9 @@ use Rattle.settlement.specs.declared.handed.Ended.{Ended}
 -- if what was read are the bytes of the taken files, and all else whatever references stand for.
 pub record LeavesAs (ended : Ended) (bytes : ContentRef → List ℕ) (after wanted : State) : Type 0 where
   pub queues : HaveRanges bytes → after.queues ≡ wanted.queues
-  pub events : AreRead bytes ended.taken ended.sources → after.events ≡ wanted.events
-  pub kin : AreRead bytes ended.taken ended.sources → after.kin ≡ wanted.kin
-  pub last_event : AreRead bytes ended.taken ended.sources → after.last_event ≡ wanted.last_event
+  pub events : AreReadSources bytes ended.taken ended.sources → after.events ≡ wanted.events
+  pub kin : AreReadSources bytes ended.taken ended.sources → after.kin ≡ wanted.kin
+  pub last_event : AreReadSources bytes ended.taken ended.sources → after.last_event ≡ wanted.last_event
   pub rest : record after {
     queues = wanted.queues;
     events = wanted.events;
@@ -31,6 +31,6 @@ pub record LeavesAs (ended : Ended) (bytes : ContentRef → List ℕ) (after wan
 abbrev pub Settles : Flow → Given → Counters → Ended → Settled → Type 0
 Settles flow given counters ended settled =
     (processor : Processor) (bytes : ContentRef → List ℕ) (state : State) →
-    IsHanded flow counters ended processor bytes state →
+    SessionIsHanded flow counters ended processor bytes state →
     LeavesAs ended bytes (state_after bytes state settled)
-    (settle (session_of flow given ended processor bytes state) ended.outcome)
+    (settle (ended_session flow given ended processor bytes state) ended.outcome)

@@ -25,14 +25,14 @@ use Rattle.settlement.specs.declared.events.Teller.{Teller}
 
 -- what the events of a session have in common: its moment, its processor, the name of the file that it received, the
 -- files that it took, and those with which it ended
-pub record Told : Type 0 where
+pub record ToldSession : Type 0 where
   pub moment : ℕ
   pub processor : Processor
   pub received : Option (List ℕ)
   pub taken : List FlowFile
   pub files : List EndedFile
 
-abbrev pub told_by : Teller → Told
+abbrev pub told_by : Teller → ToldSession
 told_by teller = record {
   moment = teller.given.now.moment;
   processor = teller.processor.now;
@@ -45,8 +45,8 @@ told_by teller = record {
 abbrev pub Unnumbered : Type 0
 Unnumbered = ℕ → Event
 
-abbrev pub event_of : Told → EventKind → EndedFile → (parents children detail : List ℕ) → Unnumbered
-event_of told kind file parents children detail = λ number. record {
+abbrev pub draft_of : ToldSession → EventKind → EndedFile → (parents children detail : List ℕ) → Unnumbered
+draft_of told kind file parents children detail = λ number. record {
   number = number;
   kind = kind;
   moment = told.moment;
@@ -60,8 +60,8 @@ event_of told kind file parents children detail = λ number. record {
 }
 
 -- an event that names no other file
-abbrev pub alone : Told → EventKind → EndedFile → (detail : List ℕ) → Unnumbered
-alone told kind file detail = event_of told kind file [] [] detail
+abbrev pub draft_alone : ToldSession → EventKind → EndedFile → (detail : List ℕ) → Unnumbered
+draft_alone told kind file detail = draft_of told kind file [] [] detail
 
 -- numbered from here on, as far as 64 bits go
 abbrev pub numbered_wrapping : ℕ → List Unnumbered → List Event
@@ -69,8 +69,8 @@ numbered_wrapping number [] = []
 numbered_wrapping number (draft ∷ drafts) = draft (number % 2 ^ 64) ∷ numbered_wrapping (number + 1) drafts
 
 -- more events, numbered on from those that there are, of which the first has this number
-abbrev pub Adds : (first : ℕ) (old : List Event) → List Unnumbered → (new : List Event) → Type 0
-Adds first old drafts new = new ≡ old ++ numbered_wrapping (first + length old) drafts
+abbrev pub AddsDrafts : (first : ℕ) (old : List Event) → List Unnumbered → (new : List Event) → Type 0
+AddsDrafts first old drafts new = new ≡ old ++ numbered_wrapping (first + length old) drafts
 
 -- ---- children
 
@@ -91,9 +91,9 @@ parent_of Cloned (origin.Cloned parent) = Some parent
 parent_of _ _ = None
 
 -- lists by place, with one number more in that of the parent
-abbrev pub with_child : Option ℕ → (number : ℕ) → List (List ℕ) → List (List ℕ)
-with_child None number lists = lists
-with_child (Some parent) number lists =
+abbrev pub with_child_number : Option ℕ → (number : ℕ) → List (List ℕ) → List (List ℕ)
+with_child_number None number lists = lists
+with_child_number (Some parent) number lists =
     slice_set lists parent (slice_index_or lists parent [] ++ number ∷ [])
 
 -- of each file its children
@@ -102,110 +102,111 @@ all_children kinship files = map (children_of kinship files) (range_with_len 0 (
 
 -- ---- rows
 
-abbrev pub number_at : List EndedFile → ℕ → ℕ
-number_at files place = slice_index (map (λ file. file.number) files) place
+abbrev pub ended_number : List EndedFile → ℕ → ℕ
+ended_number files place = slice_index (map (λ file. file.number) files) place
 
-abbrev pub created : Told → EndedFile → Origin → List Unnumbered
-created told file origin.Created = alone told kind.Create file [] ∷ []
-created told file _ = []
+abbrev pub create_drafts : ToldSession → EndedFile → Origin → List Unnumbered
+create_drafts told file origin.Created = draft_alone told kind.Create file [] ∷ []
+create_drafts told file _ = []
 
-abbrev pub received : Told → EndedFile → Origin → List Unnumbered
-received told file origin.Received = alone told kind.Receive file (unwrap_or told.received []) ∷ []
-received told file _ = []
+abbrev pub receive_drafts : ToldSession → EndedFile → Origin → List Unnumbered
+receive_drafts told file origin.Received = draft_alone told kind.Receive file (unwrap_or told.received []) ∷ []
+receive_drafts told file _ = []
 
-abbrev pub fork_of : Told → EndedFile → List ℕ → List Unnumbered
-fork_of told parent [] = []
-fork_of told parent (child ∷ children) =
-    event_of told kind.Fork parent (parent.number ∷ []) (child ∷ children) [] ∷ []
+abbrev pub fork_drafts : ToldSession → EndedFile → List ℕ → List Unnumbered
+fork_drafts told parent [] = []
+fork_drafts told parent (child ∷ children) =
+    draft_of told kind.Fork parent (parent.number ∷ []) (child ∷ children) [] ∷ []
 
-abbrev pub joined : Told → EndedFile → Origin → List Unnumbered
-joined told file (origin.Joined parents) =
-    event_of told kind.Join file (ascending (map (number_at told.files) parents)) (file.number ∷ []) [] ∷ []
-joined told file _ = []
+abbrev pub join_drafts : ToldSession → EndedFile → Origin → List Unnumbered
+join_drafts told file (origin.Joined parents) =
+    draft_of told kind.Join file (ascending (map (ended_number told.files) parents)) (file.number ∷ []) [] ∷ []
+join_drafts told file _ = []
 
-abbrev pub clone_event : Told → EndedFile → (clone : ℕ) → Unnumbered
-clone_event told original clone = event_of told kind.Clone original (original.number ∷ []) (clone ∷ []) []
+abbrev pub clone_draft : ToldSession → EndedFile → (clone : ℕ) → Unnumbered
+clone_draft told original clone = draft_of told kind.Clone original (original.number ∷ []) (clone ∷ []) []
 
-abbrev pub modified : Told → EndedFile → Origin → List Unnumbered
-modified told file (origin.Taken place) =
+abbrev pub modify_drafts : ToldSession → EndedFile → Origin → List Unnumbered
+modify_drafts told file (origin.Taken place) =
     if is_removed file.worked.«end» then []
-    else if file.worked.written then alone told kind.ContentModified file [] ∷ []
+    else if file.worked.written then draft_alone told kind.ContentModified file [] ∷ []
     else []
-modified told file _ = []
+modify_drafts told file _ = []
 
 -- where a file has other attributes than the one that was taken
-abbrev pub if_other : Told → EndedFile → Option FlowFile → List Unnumbered
+abbrev pub if_other : ToldSession → EndedFile → Option FlowFile → List Unnumbered
 if_other told file None = []
 if_other told file (Some taken) =
     if same_attributes taken.attributes file.worked.attributes then []
-    else alone told kind.AttributesModified file [] ∷ []
+    else draft_alone told kind.AttributesModified file [] ∷ []
 
-abbrev pub attributes_modified : Told → EndedFile → Origin → List Unnumbered
-attributes_modified told file (origin.Taken place) =
+abbrev pub attributes_drafts : ToldSession → EndedFile → Origin → List Unnumbered
+attributes_drafts told file (origin.Taken place) =
     if is_removed file.worked.«end» || file.worked.written then []
     else if_other told file (slice_get told.taken place)
-attributes_modified told file _ = []
+attributes_drafts told file _ = []
 
-abbrev pub routed : Told → EndedFile → Option ℕ → List Unnumbered
-routed told file (Some relationship) =
-    alone told kind.Route file (relationship_at told.processor relationship) ∷ []
-routed told file None = []
+abbrev pub route_drafts : ToldSession → EndedFile → Option ℕ → List Unnumbered
+route_drafts told file (Some relationship) =
+    draft_alone told kind.Route file (relationship_at told.processor relationship) ∷ []
+route_drafts told file None = []
 
-abbrev pub dropped : Told → EndedFile → Goes → List Unnumbered
-dropped told file (Drops relationship) = alone told kind.Drop file relationship ∷ []
-dropped told file Leaves = alone told kind.Drop file [] ∷ []
-dropped told file _ = []
+abbrev pub drop_drafts : ToldSession → EndedFile → Goes → List Unnumbered
+drop_drafts told file (Drops relationship) = draft_alone told kind.Drop file relationship ∷ []
+drop_drafts told file Leaves = draft_alone told kind.Drop file [] ∷ []
+drop_drafts told file _ = []
 
 -- what a row tells of the file at a place
-abbrev pub row_at : Told → Row → ℕ × EndedFile → List Unnumbered
-row_at told row.Created (place, file) = created told file file.worked.origin
-row_at told row.Received (place, file) = received told file file.worked.origin
-row_at told row.Forked (place, file) = fork_of told file (children_of Forked told.files place)
-row_at told row.Joined (place, file) = joined told file file.worked.origin
-row_at told row.Cloned (place, file) = map (clone_event told file) (children_of Cloned told.files place)
-row_at told row.ContentModified (place, file) = modified told file file.worked.origin
-row_at told row.AttributesModified (place, file) = attributes_modified told file file.worked.origin
-row_at told row.Routed (place, file) = routed told file file.worked.routed
-row_at told row.Dropped (place, file) = dropped told file file.goes
+abbrev pub row_at : ToldSession → Row → ℕ × EndedFile → List Unnumbered
+row_at told row.Created (place, file) = create_drafts told file file.worked.origin
+row_at told row.Received (place, file) = receive_drafts told file file.worked.origin
+row_at told row.Forked (place, file) = fork_drafts told file (children_of Forked told.files place)
+row_at told row.Joined (place, file) = join_drafts told file file.worked.origin
+row_at told row.Cloned (place, file) = map (clone_draft told file) (children_of Cloned told.files place)
+row_at told row.ContentModified (place, file) = modify_drafts told file file.worked.origin
+row_at told row.AttributesModified (place, file) = attributes_drafts told file file.worked.origin
+row_at told row.Routed (place, file) = route_drafts told file file.worked.routed
+row_at told row.Dropped (place, file) = drop_drafts told file file.goes
 
-abbrev pub row_of : Told → Row → List Unnumbered
-row_of told row = flat_map (row_at told row) (enumerate_from 0 told.files)
+abbrev pub row_drafts : ToldSession → Row → List Unnumbered
+row_drafts told row = flat_map (row_at told row) (enumerate_from 0 told.files)
 
-abbrev pub sent : Told → Option Sent → List Unnumbered
-sent told (Some put) = option_map_or (λ file. alone told kind.Send file put.name ∷ [])
+abbrev pub send_drafts : ToldSession → Option Sent → List Unnumbered
+send_drafts told (Some put) = option_map_or (λ file. draft_alone told kind.Send file put.name ∷ [])
     (slice_get told.files put.place) []
-sent told None = []
+send_drafts told None = []
 
 -- ---- clones
 
-abbrev pub clone_events : Told → (number : ℕ) → List (EndedFile × ℕ) → List Unnumbered
+abbrev pub clone_events : ToldSession → (number : ℕ) → List (EndedFile × ℕ) → List Unnumbered
 clone_events told number [] = []
-clone_events told number (clone ∷ clones) = clone_event told clone.0 number ∷ clone_events told (number + 1) clones
+clone_events told number (clone ∷ clones) = clone_draft told clone.0 number ∷ clone_events told (number + 1) clones
 
 -- ---- all of them
 
 -- which files were made, and from which
-abbrev pub made_rows : Told → List Unnumbered
+abbrev pub made_rows : ToldSession → List Unnumbered
 made_rows told =
-    row_of told row.Created
-    ++ row_of told row.Received
-    ++ row_of told row.Forked
-    ++ row_of told row.Joined
-    ++ row_of told row.Cloned
+    row_drafts told row.Created
+    ++ row_drafts told row.Received
+    ++ row_drafts told row.Forked
+    ++ row_drafts told row.Joined
+    ++ row_drafts told row.Cloned
 
 -- what changed of the taken files, and which files were routed
-abbrev pub changed_rows : Told → List Unnumbered
-changed_rows told = row_of told row.ContentModified ++ row_of told row.AttributesModified ++ row_of told row.Routed
+abbrev pub changed_rows : ToldSession → List Unnumbered
+changed_rows told =
+    row_drafts told row.ContentModified ++ row_drafts told row.AttributesModified ++ row_drafts told row.Routed
 
-abbrev pub all_drafts : Told → Option Sent → (first_clone : ℕ) → List Unnumbered
+abbrev pub all_drafts : ToldSession → Option Sent → (first_clone : ℕ) → List Unnumbered
 all_drafts told put first_clone =
     made_rows told
     ++ changed_rows told
-    ++ sent told put
+    ++ send_drafts told put
     ++ clone_events told first_clone (wanted told.files)
-    ++ row_of told row.Dropped
+    ++ row_drafts told row.Dropped
 
 -- a teller has the children of each of its files
-pub record IsReady (teller : Teller) : Type 0 where
+pub record TellerIsReady (teller : Teller) : Type 0 where
   pub forked : teller.forked.now ≡ all_children Forked teller.files.now
   pub cloned : teller.cloned.now ≡ all_children Cloned teller.files.now

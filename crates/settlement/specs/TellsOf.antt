@@ -14,7 +14,7 @@ use Rattle.flowfile_record.specs.declared.worked.Outcome.{Outcome}
 use Rattle.machine_model.specs.Changing.{HaveDigests}
 use Rattle.machine_model.specs.declared.given.Given.{Given}
 use Rattle.machine_model.specs.Placing.{count_made}
-use Rattle.settlement.specs.Handed.{AreRead}
+use Rattle.settlement.specs.Handed.{AreReadSources}
 use Rattle.settlement.specs.declared.counters.Counters.{Counters}
 use Rattle.settlement.specs.declared.handed.Ended.{Ended}
 
@@ -32,8 +32,8 @@ IsContentBy taken content (Bytes bytes) = (content.size ≡ length bytes) × (co
 IsContentBy taken content Staged = ⊥
 IsContentBy taken content (As place) = Unit {0}
 
-abbrev pub HasContent : List FlowFile → Placed → Type 0
-HasContent taken placed = IsContentBy taken placed.file.content placed.fresh
+abbrev pub HasPlacedContent : List FlowFile → Placed → Type 0
+HasPlacedContent taken placed = IsContentBy taken placed.file.content placed.fresh
 
 -- the number of a clone that the settlement made: no taken file has it, and it stands behind those of the made files
 pub record IsNumberOfClone (counters : Counters) (ended : Ended) (number : ℕ) : Type 0 where
@@ -50,12 +50,12 @@ abbrev pub BringsWhatWasWritten : Outcome → Placed → Type 0
 BringsWhatWasWritten outcome placed = IfSome (own_bytes placed.fresh) (Contains (written_by outcome))
 
 -- all files that were taken are gone, also those that are placed again
-pub record TellsOf (given : Given) (counters : Counters) (ended : Ended) (settled : Settled) : Type 0 where
+pub record TellsOfEnded (given : Given) (counters : Counters) (ended : Ended) (settled : Settled) : Type 0 where
   pub processor : settled.processor ≡ ended.processor
   pub moment : settled.moment ≡ given.moment
   pub gone : settled.gone ≡ map (λ file. file.number) ended.taken
-  pub contents : All (HasContent ended.taken) settled.placed
-  pub digests : (bytes : ContentRef → List ℕ) → HaveRanges bytes → AreRead bytes ended.taken ended.sources
+  pub contents : All (HasPlacedContent ended.taken) settled.placed
+  pub digests : (bytes : ContentRef → List ℕ) → HaveRanges bytes → AreReadSources bytes ended.taken ended.sources
       → HaveDigests bytes settled.placed
   pub written : All (BringsWhatWasWritten ended.outcome) settled.placed
   pub shared : AreShared settled.placed

@@ -13,13 +13,13 @@ use Rattle.machine_model.specs.declared.kind.Kind.TheVariants.{GenerateFlowFile}
 use Rattle.machine_model.specs.Placing.{count_made}
 use Rattle.settlement.specs.Ending.{EndingPlace, IsWorkedWithin, ended_files}
 use Rattle.settlement.specs.Placing.{PlacingFrom, arrived, firsts, returned, wanted}
-use Rattle.settlement.specs.Telling.{Told, all_drafts, numbered_wrapping}
+use Rattle.settlement.specs.Telling.{ToldSession, all_drafts, numbered_wrapping}
 use Rattle.settlement.specs.declared.counters.Counters.{Counters}
 use Rattle.settlement.specs.declared.file.EndedFile.{EndedFile}
 use Rattle.settlement.specs.declared.handed.Ended.{Ended}
 
-abbrev pub place_in : Flow → Given → Counters → Ended → Processor → EndingPlace
-place_in flow given counters ended processor = record {
+abbrev pub ending_place : Flow → Given → Counters → Ended → Processor → EndingPlace
+ending_place flow given counters ended processor = record {
   flow = flow;
   place = ended.processor;
   processor = processor;
@@ -33,7 +33,7 @@ abbrev pub placing_at : EndingPlace → (connection next_arrival : ℕ) → Plac
 placing_at at connection next_arrival =
     record { connection = connection; taken = at.taken; next_arrival = next_arrival }
 
-abbrev pub told_of : Processor → List FlowFile → Given → List EndedFile → Told
+abbrev pub told_of : Processor → List FlowFile → Given → List EndedFile → ToldSession
 told_of processor taken given files = record {
   moment = given.moment;
   processor = processor;
@@ -42,9 +42,9 @@ told_of processor taken given files = record {
   files = files;
 }
 
-abbrev pub count_of : Kind → (place index : ℕ) → Option Counted
-count_of (GenerateFlowFile count text) place index = Some (record { processor = place; count = index })
-count_of _ place index = None
+abbrev pub generator_count : Kind → (place index : ℕ) → Option Counted
+generator_count (GenerateFlowFile count text) place index = Some (record { processor = place; count = index })
+generator_count _ place index = None
 
 abbrev pub settled_of : EndingPlace → Given → Counters → (connection : ℕ) → Outcome → Settled
 settled_of at given counters connection outcome =
@@ -60,15 +60,15 @@ settled_of at given counters connection outcome =
           (all_drafts (told_of at.processor at.taken given files) outcome.sent first_clone);
       next_number = first_clone + length (wanted files);
       next_arrival = counters.next_arrival + (length (firsts files) + length (wanted files));
-      count = count_of at.processor.kind at.place given.index;
+      count = generator_count at.processor.kind at.place given.index;
     }
 
 abbrev pub settled_in : Flow → Given → Counters → Ended → Processor → Settled
 settled_in flow given counters ended processor =
-    settled_of (place_in flow given counters ended processor) given counters ended.connection ended.outcome
+    settled_of (ending_place flow given counters ended processor) given counters ended.connection ended.outcome
 
 -- what the calls inside ask for
-pub record MayEnd (at : EndingPlace) (counters : Counters) (outcome : Outcome) : Type 0 where
+pub record MayEndAt (at : EndingPlace) (counters : Counters) (outcome : Outcome) : Type 0 where
   pub connections : length at.flow.connections ≤ 2 ^ 16
   pub within : All (IsWorkedWithin at.taken at.sources) outcome.files
   pub few : length outcome.files ≤ FILES_MAX

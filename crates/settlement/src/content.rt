@@ -1,7 +1,7 @@
 //! The contents of a session's files.
 ghost use Rattle.std.specs.Prelude.{◌≡◌, ◌+◌, ◌<◌, ◌≤◌, ◌^◌, length, slice_range, unwrap_or, []};
 ghost use Rattle.flowfile_record.specs.Ranges.{range_of};
-ghost use Rattle.settlement.specs.Contents.{content_in, fresh_in, fresh_ref, kept_content, shared_in, source_bytes, BeginsWithin, IsBodyWithin};
+ghost use Rattle.settlement.specs.Contents.{body_content, fresh_in, fresh_ref, kept_content, shared_in, source_bytes, BeginsWithin, IsBodyWithin};
 
 use flowfile_record::{Body, ContentRef, DIGEST_SIZE, FlowFile, Fresh};
 use process_session::Source;
@@ -12,7 +12,7 @@ use sha2::{Digest, Sha256};
 pub fn content_in(taken: &[FlowFile], sources: &[Source], body: &Body) -> ContentRef
     requires within { IsBodyWithin sources.now body.now }
     requires begins { BeginsWithin taken.now body.now }
-    ensures { result ≡ content_in taken.now sources.now body.now }
+    ensures { result ≡ body_content taken.now sources.now body.now }
 {
     match body {
         Body::Whole { of } => kept_content(taken, *of),

@@ -2,7 +2,7 @@
 ghost use Rattle.std.specs.Prelude.{◌≡◌, ◌+◌, ◌<◌, ◌≤◌, ◌^◌, ◌∷◌, ◌++◌, [], ℕ, map, length, slice_index, slice_get, vec_len, IfOk, OnOk, Some, unwrap_or};
 ghost use Rattle.std.specs.List.{flat_map, enumerate_from};
 ghost use Rattle.machine_model.specs.Events.{ascending, is_removed};
-ghost use Rattle.settlement.specs.Telling.{Adds, IsReady, told_by, event_of, alone, created, received, fork_of, joined, clone_event, modified, attributes_modified, if_other, routed, dropped, row_at, row_of, sent, number_at, clone_events, made_rows, changed_rows, all_drafts};
+ghost use Rattle.settlement.specs.Telling.{AddsDrafts, TellerIsReady, told_by, draft_of, draft_alone, create_drafts, receive_drafts, fork_drafts, join_drafts, clone_draft, modify_drafts, attributes_drafts, if_other, route_drafts, drop_drafts, row_at, row_drafts, send_drafts, ended_number, clone_events, made_rows, changed_rows, all_drafts};
 ghost use Rattle.settlement.specs.Placing.{wanted, further};
 
 use crate::file::{EndedFile, Goes};
@@ -29,9 +29,10 @@ pub struct Teller<'s> {
 impl Teller<'_> {
     /// All events, of which the clones by connections have numbers from this one on.
     pub fn tell_all(&self, sent: &Option<Sent>, first_clone: u64) -> Result<Vec<Event>, AllocError>
-        requires ready { IsReady self.now }
+        requires ready { TellerIsReady self.now }
         requires clones { first_clone + length (wanted self.now.files.now) < 2 ^ 64 }
-        ensures { IfOk result (λ events. Adds self.now.first [] (all_drafts (told_by self.now) sent.now first_clone)
+        ensures { IfOk result
+            (λ events. AddsDrafts self.now.first [] (all_drafts (told_by self.now) sent.now first_clone)
             events.items) }
     {
         let mut events = Vec::new(self.alloc);
@@ -45,8 +46,9 @@ impl Teller<'_> {
 
     /// Which files were made, and from which.
     fn tell_made(&self, events: &mut Vec<Event>) -> Result<(), AllocError>
-        requires { IsReady self.now }
-        ensures { OnOk result (Adds self.now.first events.old.items (made_rows (told_by self.now)) events.new.items) }
+        requires { TellerIsReady self.now }
+        ensures { OnOk result
+            (AddsDrafts self.now.first events.old.items (made_rows (told_by self.now)) events.new.items) }
     {
         self.tell_row(events, Row::Created)?;
         self.tell_row(events, Row::Received)?;
@@ -58,8 +60,8 @@ impl Teller<'_> {
 
     /// What changed of the taken files, and which files were routed.
     fn tell_changed(&self, events: &mut Vec<Event>) -> Result<(), AllocError>
-        requires { IsReady self.now }
-        ensures { OnOk result (Adds self.now.first events.old.items
+        requires { TellerIsReady self.now }
+        ensures { OnOk result (AddsDrafts self.now.first events.old.items
             (changed_rows (told_by self.now)) events.new.items) }
     {
         self.tell_row(events, Row::ContentModified)?;
@@ -69,8 +71,9 @@ impl Teller<'_> {
     }
 
     fn tell_row(&self, events: &mut Vec<Event>, row: Row) -> Result<(), AllocError>
-        requires { IsReady self.now }
-        ensures { OnOk result (Adds self.now.first events.old.items (row_of (told_by self.now) row) events.new.items) }
+        requires { TellerIsReady self.now }
+        ensures { OnOk result
+            (AddsDrafts self.now.first events.old.items (row_drafts (told_by self.now) row) events.new.items) }
     {
         for (place, file) in self.files.iter().enumerate() {
             self.tell_at(events, row, place, file)?;
@@ -86,9 +89,10 @@ impl Teller<'_> {
         place: usize,
         file: &EndedFile,
     ) -> Result<(), AllocError>
-        requires ready { IsReady self.now }
+        requires ready { TellerIsReady self.now }
         requires there { place < length self.now.files.now }
-        ensures { OnOk result (Adds self.now.first events.old.items (row_at (told_by self.now) row (place, file.now))
+        ensures { OnOk result
+            (AddsDrafts self.now.first events.old.items (row_at (told_by self.now) row (place, file.now))
             events.new.items) }
     {
         match row {
@@ -105,9 +109,9 @@ impl Teller<'_> {
     }
 
     fn tell_created(&self, events: &mut Vec<Event>, file: &EndedFile) -> Result<(), AllocError>
-        requires { IsReady self.now }
-        ensures { OnOk result (Adds self.now.first events.old.items
-            (created (told_by self.now) file.now file.now.worked.origin) events.new.items) }
+        requires { TellerIsReady self.now }
+        ensures { OnOk result (AddsDrafts self.now.first events.old.items
+            (create_drafts (told_by self.now) file.now file.now.worked.origin) events.new.items) }
     {
         match file.worked.origin {
             Origin::Created => self.tell_alone(events, EventKind::Create, file, ""),
@@ -116,9 +120,9 @@ impl Teller<'_> {
     }
 
     fn tell_received(&self, events: &mut Vec<Event>, file: &EndedFile) -> Result<(), AllocError>
-        requires { IsReady self.now }
-        ensures { OnOk result (Adds self.now.first events.old.items
-            (received (told_by self.now) file.now file.now.worked.origin) events.new.items) }
+        requires { TellerIsReady self.now }
+        ensures { OnOk result (AddsDrafts self.now.first events.old.items
+            (receive_drafts (told_by self.now) file.now file.now.worked.origin) events.new.items) }
     {
         match file.worked.origin {
             Origin::Received => {
@@ -134,8 +138,9 @@ impl Teller<'_> {
         parent: &EndedFile,
         children: &[u64],
     ) -> Result<(), AllocError>
-        requires { IsReady self.now }
-        ensures { OnOk result (Adds self.now.first events.old.items (fork_of (told_by self.now) parent.now children.now)
+        requires { TellerIsReady self.now }
+        ensures { OnOk result
+            (AddsDrafts self.now.first events.old.items (fork_drafts (told_by self.now) parent.now children.now)
             events.new.items) }
     {
         if children.is_empty() {
@@ -147,9 +152,9 @@ impl Teller<'_> {
     }
 
     fn tell_joined(&self, events: &mut Vec<Event>, file: &EndedFile) -> Result<(), AllocError>
-        requires { IsReady self.now }
-        ensures { OnOk result (Adds self.now.first events.old.items
-            (joined (told_by self.now) file.now file.now.worked.origin) events.new.items) }
+        requires { TellerIsReady self.now }
+        ensures { OnOk result (AddsDrafts self.now.first events.old.items
+            (join_drafts (told_by self.now) file.now file.now.worked.origin) events.new.items) }
     {
         let Origin::Joined(parents) = &file.worked.origin else {
             return Ok(());
@@ -162,7 +167,7 @@ impl Teller<'_> {
 
     /// The numbers of the files at some places.
     fn numbers_at(&self, places: &[u64]) -> Result<Vec<u64>, AllocError>
-        ensures { IfOk result (λ numbers. numbers.items ≡ map (number_at self.now.files.now) places.now) }
+        ensures { IfOk result (λ numbers. numbers.items ≡ map (ended_number self.now.files.now) places.now) }
     {
         let files = self.files;
         places
@@ -177,9 +182,9 @@ impl Teller<'_> {
         original: &EndedFile,
         copies: &[u64],
     ) -> Result<(), AllocError>
-        requires { IsReady self.now }
-        ensures { OnOk result (Adds self.now.first events.old.items
-            (map (clone_event (told_by self.now) original.now) copies.now) events.new.items) }
+        requires { TellerIsReady self.now }
+        ensures { OnOk result (AddsDrafts self.now.first events.old.items
+            (map (clone_draft (told_by self.now) original.now) copies.now) events.new.items) }
     {
         for copy in copies {
             self.tell_clone(events, original, *copy)?;
@@ -193,9 +198,9 @@ impl Teller<'_> {
         original: &EndedFile,
         clone: u64,
     ) -> Result<(), AllocError>
-        requires { IsReady self.now }
-        ensures { OnOk result (Adds self.now.first events.old.items
-            (clone_event (told_by self.now) original.now clone ∷ []) events.new.items) }
+        requires { TellerIsReady self.now }
+        ensures { OnOk result (AddsDrafts self.now.first events.old.items
+            (clone_draft (told_by self.now) original.now clone ∷ []) events.new.items) }
     {
         let parents = only(self.alloc, original.number)?;
         let children = only(self.alloc, clone)?;
@@ -203,9 +208,9 @@ impl Teller<'_> {
     }
 
     fn tell_modified(&self, events: &mut Vec<Event>, file: &EndedFile) -> Result<(), AllocError>
-        requires { IsReady self.now }
-        ensures { OnOk result (Adds self.now.first events.old.items
-            (modified (told_by self.now) file.now file.now.worked.origin) events.new.items) }
+        requires { TellerIsReady self.now }
+        ensures { OnOk result (AddsDrafts self.now.first events.old.items
+            (modify_drafts (told_by self.now) file.now file.now.worked.origin) events.new.items) }
     {
         match file.worked.origin {
             Origin::Taken(_) if !is_removed(file.worked.end) && file.worked.written => {
@@ -216,9 +221,9 @@ impl Teller<'_> {
     }
 
     fn tell_attributes(&self, events: &mut Vec<Event>, file: &EndedFile) -> Result<(), AllocError>
-        requires { IsReady self.now }
-        ensures { OnOk result (Adds self.now.first events.old.items
-            (attributes_modified (told_by self.now) file.now file.now.worked.origin) events.new.items) }
+        requires { TellerIsReady self.now }
+        ensures { OnOk result (AddsDrafts self.now.first events.old.items
+            (attributes_drafts (told_by self.now) file.now file.now.worked.origin) events.new.items) }
     {
         match file.worked.origin {
             Origin::Taken(of) if !is_removed(file.worked.end) && !file.worked.written => {
@@ -235,8 +240,8 @@ impl Teller<'_> {
         file: &EndedFile,
         of: u32,
     ) -> Result<(), AllocError>
-        requires { IsReady self.now }
-        ensures { OnOk result (Adds self.now.first events.old.items
+        requires { TellerIsReady self.now }
+        ensures { OnOk result (AddsDrafts self.now.first events.old.items
             (if_other (told_by self.now) file.now (slice_get self.now.taken.now of)) events.new.items) }
     {
         match self.taken.get(of as usize) {
@@ -248,9 +253,9 @@ impl Teller<'_> {
     }
 
     fn tell_routed(&self, events: &mut Vec<Event>, file: &EndedFile) -> Result<(), AllocError>
-        requires { IsReady self.now }
-        ensures { OnOk result (Adds self.now.first events.old.items
-            (routed (told_by self.now) file.now file.now.worked.routed) events.new.items) }
+        requires { TellerIsReady self.now }
+        ensures { OnOk result (AddsDrafts self.now.first events.old.items
+            (route_drafts (told_by self.now) file.now file.now.worked.routed) events.new.items) }
     {
         match file.worked.routed {
             Some(place) => {
@@ -262,9 +267,9 @@ impl Teller<'_> {
     }
 
     fn tell_sent(&self, events: &mut Vec<Event>, put: &Option<Sent>) -> Result<(), AllocError>
-        requires { IsReady self.now }
-        ensures { OnOk result (Adds self.now.first events.old.items
-            (sent (told_by self.now) put.now) events.new.items) }
+        requires { TellerIsReady self.now }
+        ensures { OnOk result (AddsDrafts self.now.first events.old.items
+            (send_drafts (told_by self.now) put.now) events.new.items) }
     {
         match put {
             Some(put) => self.tell_put(events, put),
@@ -273,8 +278,9 @@ impl Teller<'_> {
     }
 
     fn tell_put(&self, events: &mut Vec<Event>, put: &Sent) -> Result<(), AllocError>
-        requires { IsReady self.now }
-        ensures { OnOk result (Adds self.now.first events.old.items (sent (told_by self.now) (Some put.now))
+        requires { TellerIsReady self.now }
+        ensures { OnOk result
+            (AddsDrafts self.now.first events.old.items (send_drafts (told_by self.now) (Some put.now))
             events.new.items) }
     {
         match self.files.get(put.place as usize) {
@@ -284,8 +290,9 @@ impl Teller<'_> {
     }
 
     fn tell_dropped(&self, events: &mut Vec<Event>, file: &EndedFile) -> Result<(), AllocError>
-        requires { IsReady self.now }
-        ensures { OnOk result (Adds self.now.first events.old.items (dropped (told_by self.now) file.now file.now.goes)
+        requires { TellerIsReady self.now }
+        ensures { OnOk result
+            (AddsDrafts self.now.first events.old.items (drop_drafts (told_by self.now) file.now file.now.goes)
             events.new.items) }
     {
         match &file.goes {
@@ -299,9 +306,9 @@ impl Teller<'_> {
 
     /// The clones that files get for their further connections, with numbers from this one on.
     fn tell_clones(&self, events: &mut Vec<Event>, first: u64) -> Result<(), AllocError>
-        requires ready { IsReady self.now }
+        requires ready { TellerIsReady self.now }
         requires clones { first + length (wanted self.now.files.now) < 2 ^ 64 }
-        ensures { OnOk result (Adds self.now.first events.old.items
+        ensures { OnOk result (AddsDrafts self.now.first events.old.items
             (clone_events (told_by self.now) first (wanted self.now.files.now)) events.new.items) }
     {
         let mut next = first;
@@ -318,10 +325,10 @@ impl Teller<'_> {
         file: &EndedFile,
         first: u64,
     ) -> Result<u64, AllocError>
-        requires ready { IsReady self.now }
+        requires ready { TellerIsReady self.now }
         requires clones { first + length (further file.now.goes) < 2 ^ 64 }
         ensures next { IfOk result (λ next. next ≡ first + length (further file.now.goes)) }
-        ensures adds { OnOk result (Adds self.now.first events.old.items
+        ensures adds { OnOk result (AddsDrafts self.now.first events.old.items
             (clone_events (told_by self.now) first (wanted (file.now ∷ []))) events.new.items) }
     {
         let mut next = first;
@@ -339,9 +346,9 @@ impl Teller<'_> {
         file: &EndedFile,
         detail: &str,
     ) -> Result<(), AllocError>
-        requires { IsReady self.now }
-        ensures { OnOk result (Adds self.now.first events.old.items
-            (alone (told_by self.now) kind file.now detail.now ∷ [])
+        requires { TellerIsReady self.now }
+        ensures { OnOk result (AddsDrafts self.now.first events.old.items
+            (draft_alone (told_by self.now) kind file.now detail.now ∷ [])
             events.new.items) }
     {
         let none = Numbers::new(self.alloc);
@@ -358,9 +365,9 @@ impl Teller<'_> {
         children: Numbers,
         detail: &str,
     ) -> Result<(), AllocError>
-        requires { IsReady self.now }
-        ensures { OnOk result (Adds self.now.first events.old.items
-            (event_of (told_by self.now) kind file.now parents children detail.now ∷ []) events.new.items) }
+        requires { TellerIsReady self.now }
+        ensures { OnOk result (AddsDrafts self.now.first events.old.items
+            (draft_of (told_by self.now) kind file.now parents children detail.now ∷ []) events.new.items) }
     {
         let component = self.processor.id.clone()?;
         let detail = Text::from_str(self.alloc, detail)?;
@@ -398,7 +405,7 @@ fn is_removed(end: End) -> bool
 }
 
 fn number_at(files: &[EndedFile], place: u64) -> u64
-    ensures { result ≡ number_at files.now place }
+    ensures { result ≡ ended_number files.now place }
 {
     match files.get(place as usize) {
         Some(file) => file.number,

@@ -1,6 +1,6 @@
 //! The children of a session's files.
 ghost use Rattle.std.specs.Prelude.{◌≡◌, ◌++◌, ◌∷◌, [], replicate, slice_index_or, slice_set, IfOk, OnOk};
-ghost use Rattle.settlement.specs.Telling.{all_children, parent_of, with_child};
+ghost use Rattle.settlement.specs.Telling.{all_children, parent_of, with_child_number};
 
 use crate::file::EndedFile;
 use flowfile_record::{Numbers, Origin};
@@ -43,7 +43,7 @@ fn childless(alloc: Global, count: u64) -> Result<Vec<Numbers>, AllocError>
 /// Adds the file's number to the children of the file that it comes from.
 fn add_child(all: &mut Vec<Numbers>, kinship: Kinship, file: &EndedFile) -> Result<(), AllocError>
     ensures { OnOk result (all.new.items
-        ≡ with_child (parent_of kinship file.now.worked.origin) file.now.number all.old.items) }
+        ≡ with_child_number (parent_of kinship file.now.worked.origin) file.now.number all.old.items) }
 {
     match parent_of(kinship, &file.worked.origin) {
         Some(parent) => add_number(all, parent, file.number),

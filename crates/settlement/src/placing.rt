@@ -1,7 +1,7 @@
 //! What a session puts into queues.
 ghost use Rattle.std.specs.Prelude.{◌≡◌, ◌+◌, ◌*◌, ◌<◌, ◌≤◌, ◌^◌, ◌∷◌, ◌++◌, [], ℕ, length, map, slice_index, vec_len, IfOk, OnOk};
 ghost use Rattle.settlement.specs.Contents.{shared_in};
-ghost use Rattle.settlement.specs.Placing.{PlacingFrom, arrival_of, arrived, cloned_from, clones_of, first_of, firsts, first_in, further, is_returning, placed_as, placed_at, placed_from, placing_of, returned, returning, wanted};
+ghost use Rattle.settlement.specs.Placing.{PlacingFrom, taken_arrival, arrived, cloned_from, clones_of, first_newcomer, firsts, first_connection, further, is_returning, placed_as, placed_at, placed_from, placing_of, returned, returning, wanted};
 
 use crate::content::{fresh_of, shared_in};
 use crate::file::{EndedFile, Goes};
@@ -64,7 +64,7 @@ impl Placer<'_> {
             ≡ returned.old.items ++ returning (placing_of self.now) file file.goes) }
         ensures arrived { OnOk result (arrived.new.items ≡ arrived.old.items
             ++ placed_from (self.now.next_arrival + vec_len arrived.old)
-            (first_of file file.goes)) }
+            (first_newcomer file file.goes)) }
     {
         if is_returning(&file.goes) {
             let arrival = self.arrival_of(&file.worked.origin);
@@ -80,7 +80,7 @@ impl Placer<'_> {
 
     /// The arrival of a taken file.
     fn arrival_of(&self, origin: &Origin) -> u64
-        ensures { result ≡ arrival_of self.now.taken.now origin.now }
+        ensures { result ≡ taken_arrival self.now.taken.now origin.now }
     {
         match origin {
             Origin::Taken(of) => arrival_at(self.taken, *of),
@@ -230,7 +230,7 @@ pub fn count_firsts(files: &[EndedFile]) -> u64
 }
 
 fn count_first(file: &EndedFile) -> u32
-    ensures count { result ≡ length (first_of file.now file.now.goes) }
+    ensures count { result ≡ length (first_newcomer file.now file.now.goes) }
     ensures bound { result ≤ 1 }
 {
     match file.goes {
@@ -258,7 +258,7 @@ fn is_returning(goes: &Goes) -> bool
 }
 
 fn first_in(goes: &Goes) -> Option<u16>
-    ensures { result ≡ first_in goes.now }
+    ensures { result ≡ first_connection goes.now }
 {
     match goes {
         Goes::Queues { first, .. } => Some(*first),

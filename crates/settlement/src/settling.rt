@@ -6,9 +6,9 @@ ghost use Rattle.settlement.specs.Handed.{MaySettle};
 ghost use Rattle.settlement.specs.Placing.{wanted};
 ghost use Rattle.settlement.specs.Recording.{RecordsAll};
 ghost use Rattle.settlement.specs.StateAfter.{Settles};
-ghost use Rattle.settlement.specs.TellsOf.{TellsOf};
+ghost use Rattle.settlement.specs.TellsOf.{TellsOfEnded};
 ghost use Rattle.settlement.specs.Telling.{all_drafts, numbered_wrapping};
-ghost use Rattle.settlement.specs.Whole.{MayEnd, count_of, settled_in, settled_of, told_of};
+ghost use Rattle.settlement.specs.Whole.{MayEndAt, generator_count, settled_in, settled_of, told_of};
 
 use crate::events::Teller;
 use crate::file::EndedFile;
@@ -33,7 +33,7 @@ pub fn settle(
 ) -> Result<Settled, AllocError>
     requires { MaySettle flow.now counters ended }
     ensures settles { IfOk result (Settles flow.now given.now counters ended) }
-    ensures tells { IfOk result (TellsOf given.now counters ended) }
+    ensures tells { IfOk result (TellsOfEnded given.now counters ended) }
     ensures records { IfOk result (RecordsAll flow.now given.now counters ended) }
 {
     let processor = &flow.processors.as_slice()[usize::from(ended.processor)];
@@ -89,7 +89,7 @@ fn settle_files(
     connection: u16,
     outcome: Outcome,
 ) -> Result<Settled, AllocError>
-    requires { MayEnd (place_of setting.now) counters outcome }
+    requires { MayEndAt (place_of setting.now) counters outcome }
     ensures { IfOk result (λ settled. settled
         ≡ settled_of (place_of setting.now) given.now counters connection outcome) }
 {
@@ -170,7 +170,7 @@ fn numbers_of(alloc: Global, files: &[FlowFile]) -> Result<Numbers, AllocError>
 
 /// How many files a generator has made behind its session.
 fn count_of(kind: &Kind, processor: u16, index: u64) -> Option<Counted>
-    ensures { result ≡ count_of kind.now processor index }
+    ensures { result ≡ generator_count kind.now processor index }
 {
     match kind {
         Kind::GenerateFlowFile { .. } => Some(Counted {

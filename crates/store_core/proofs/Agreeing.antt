@@ -19,7 +19,7 @@ use Rattle.store_core.specs.Kept.{snapshot_for, batches_in, behind_log, behind_s
 use Rattle.machine_model.specs.Changing.{with_arrival}
 use Rattle.prov_store.specs.Events.{events_in}
 use Rattle.prov_store.specs.State.{SameEvents}
-use Rattle.store_core.specs.State.{digest_damage, content_damage, first_damage, contents_damage, live_contents, queued, queue_of, state_with, state_by, state_of, behind_kept, stands_for}
+use Rattle.store_core.specs.State.{digest_damage, content_damage, first_damage, contents_damage, live_contents, queued_active, queue_of, state_with, state_by, state_of, behind_kept, stands_for}
 use Rattle.store_core.proofs.EventsStay.{says_still}
 use Rattle.store_core.specs.Agreement.{Needs, Agrees, SameContent, IsNeeded}
 use Rattle.kept_state.specs.Applied.{batches_that_matter}
@@ -134,7 +134,7 @@ module _ (some other : ContentRef → List ℕ) where
   abbrev pub SameBytes : ContentRef → Type 0
   SameBytes at = some at ≡ other at
 
-  same_queued : (a : ActiveFile) → SameBytes a.file.content → queued some a ≡ queued other a
+  same_queued : (a : ActiveFile) → SameBytes a.file.content → queued_active some a ≡ queued_active other a
   same_queued a same = ap (λ (bytes : List ℕ). record {
     number = a.file.number;
     attributes = a.file.attributes;
@@ -145,12 +145,12 @@ module _ (some other : ContentRef → List ℕ) where
     batch = None;
   }) same
 
-  same_kept : (b : Bool) (a : ActiveFile) (xs : List ActiveFile) → queued some a ≡ queued other a → map (queued some) xs ≡ map (queued other) xs
-      → map (queued some) (cond b (a ∷ xs) xs) ≡ map (queued other) (cond b (a ∷ xs) xs)
+  same_kept : (b : Bool) (a : ActiveFile) (xs : List ActiveFile) → queued_active some a ≡ queued_active other a → map (queued_active some) xs ≡ map (queued_active other) xs
+      → map (queued_active some) (cond b (a ∷ xs) xs) ≡ map (queued_active other) (cond b (a ∷ xs) xs)
   same_kept true a xs one rest = cc
   same_kept false a xs one rest = rest
 
-  same_filtered : (test : ActiveFile → Bool) (files : List ActiveFile) → All SameBytes (map (λ a. a.file.content) files) → map (queued some) (filter test files) ≡ map (queued other) (filter test files)
+  same_filtered : (test : ActiveFile → Bool) (files : List ActiveFile) → All SameBytes (map (λ a. a.file.content) files) → map (queued_active some) (filter test files) ≡ map (queued_active other) (filter test files)
   same_filtered test [] same = refl
   same_filtered test (a ∷ files) same =
       same_kept (test a) a (filter test files) (same_queued a (All-head SameBytes a.file.content (map (λ b. b.file.content) files) same))

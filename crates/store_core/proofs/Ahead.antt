@@ -11,8 +11,8 @@ use Rattle.content_repo.specs.Claims.{claim, HasSizes}
 use Rattle.content_repo.specs.declared.slot.Slot.{Slot}
 use Rattle.kept_state.specs.Changes.{placed_in}
 use Rattle.prov_store.specs.Events.{events_in}
-use Rattle.prov_store.specs.State.{EventsState, IsReady, IsAppended, GrowsBehind as EventsGrow}
-use Rattle.store_core.specs.Placing.{GrowsBehind, GrowsAhead, IsPlacedAs, ArePlaced, PlacesAll, AddsEvents}
+use Rattle.prov_store.specs.State.{EventsState, EventsAreReady, EventsAreAppended, GrowsBehind as EventsGrow}
+use Rattle.store_core.specs.Placing.{ClaimsGrowBehind, GrowsAhead, IsPlacedAs, ArePlaced, PlacesAll, AppendsEvents}
 use Rattle.store_core.proofs.ClaimsAlone.{events_stay}
 use Rattle.store_core.proofs.EventsStay.{has_same, same_events, trimmed_same}
 use Rattle.store_core.proofs.Growing.{no_events_grow}
@@ -60,23 +60,23 @@ sizes_beside events slots old new grows sizes k = ap length (claims_beside event
 
 -- ---- events, beside claims
 
-pub ready_beside : (events : EventsState) (slots : List Slot) (old new : Files) → GrowsBehind slots old new → IsReady events old → IsReady events new
+pub ready_beside : (events : EventsState) (slots : List Slot) (old new : Files) → ClaimsGrowBehind slots old new → EventsAreReady events old → EventsAreReady events new
 ready_beside events slots old new grows ready = record {
   has = has_same events old new (events_stay old new grows.others) ready.has;
   trimmed = trimmed_same events.end old new (events_stay old new grows.others) ready.trimmed;
 }
 
-pub adds_events : (tells : Bool) (added : List Event) (slots : List Slot) (events more : EventsState) (old mid new : Files) → (IsTrue tells → GrowsBehind slots old mid) → IsAppended added events more
-    → (IsTrue tells → (before : List Event) → events_in mid events.end ≡ Ok before → events_in new more.end ≡ Ok (before ++ added)) → (IsTrue tells → IsReady more new)
-    → AddsEvents tells added events more old new
+pub adds_events : (tells : Bool) (added : List Event) (slots : List Slot) (events more : EventsState) (old mid new : Files) → (IsTrue tells → ClaimsGrowBehind slots old mid) → EventsAreAppended added events more
+    → (IsTrue tells → (before : List Event) → events_in mid events.end ≡ Ok before → events_in new more.end ≡ Ok (before ++ added)) → (IsTrue tells → EventsAreReady more new)
+    → AppendsEvents tells added events more old new
 adds_events tells added slots events more old mid new grows appended stand ready = record {
   appended = appended;
   added = λ told before are. stand told before (same_events events.end old mid (events_stay old mid (grows told).others) ∙ are);
   ready = ready;
 }
 
-pub grows_both : (slots : List Slot) (events : EventsState) (old mid new : Files) → GrowsBehind slots old mid → EventsGrow events mid new → GrowsAhead slots events old new
+pub grows_both : (slots : List Slot) (events : EventsState) (old mid new : Files) → ClaimsGrowBehind slots old mid → EventsGrow events mid new → GrowsAhead slots events old new
 grows_both slots events old mid new claims grows = record { mid = mid; claims = claims; events = grows }
 
-pub grows_claims : (slots : List Slot) (events : EventsState) (old new : Files) → GrowsBehind slots old new → GrowsAhead slots events old new
+pub grows_claims : (slots : List Slot) (events : EventsState) (old new : Files) → ClaimsGrowBehind slots old new → GrowsAhead slots events old new
 grows_claims slots events old new claims = record { mid = new; claims = claims; events = no_events_grow events new }

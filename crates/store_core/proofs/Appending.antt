@@ -11,7 +11,7 @@ use Rattle.content_repo.specs.Claims.{claim}
 use Rattle.content_repo.specs.Slots.{size_of}
 use Rattle.content_repo.specs.declared.slot.Slot.{Slot}
 use Rattle.flowfile_wal.specs.Calls.{WithOrWithout}
-use Rattle.flowfile_wal.specs.Steps.{Adds}
+use Rattle.flowfile_wal.specs.Steps.{AddsEntry}
 use Rattle.prov_store.specs.State.{EventsState}
 use Rattle.store_core.specs.Placing.{GrowsAhead}
 use Rattle.store_core.specs.Touched.{ClaimsGrow}
@@ -55,19 +55,19 @@ module _ {D : Type 0} (moment : D → ℕ) (images : D → ℕ → Files → Typ
     pub claims_logged : (number : ℕ) (e : LogEntry) (end : D) → Since moment images mid end (WithOrWithout number e (images mid (moment mid)) (held mid))
         → (tells : Bool) → ((k : ℕ) (c : Files) → images end k c → IsTrue tells) → (IsTrue tells → images mid (moment mid) (held mid)) → Since moment images old end (GrowingClaims slots old)
     claims_logged number e end second tells told left =
-        wider_where_left moment images old end (λ c. GrowingClaims slots old c ⊎ Adds number e (held mid) c) (GrowingClaims slots old)
-        (one_after_another moment images old mid end (GrowingClaims slots old) (WithOrWithout number e (images mid (moment mid)) (held mid)) (λ c. GrowingClaims slots old c ⊎ Adds number e (held mid) c) claims_ahead second
+        wider_where_left moment images old end (λ c. GrowingClaims slots old c ⊎ AddsEntry number e (held mid) c) (GrowingClaims slots old)
+        (one_after_another moment images old mid end (GrowingClaims slots old) (WithOrWithout number e (images mid (moment mid)) (held mid)) (λ c. GrowingClaims slots old c ⊎ AddsEntry number e (held mid) c) claims_ahead second
         (λ c after. inl after) by_log)
         by_end
       where
-        by_log : (c : Files) → WithOrWithout number e (images mid (moment mid)) (held mid) c → GrowingClaims slots old c ⊎ Adds number e (held mid) c
+        by_log : (c : Files) → WithOrWithout number e (images mid (moment mid)) (held mid) c → GrowingClaims slots old c ⊎ AddsEntry number e (held mid) c
         by_log c (inl after) = inl (from_mid number after.0 c after.1 after.2.others)
         by_log c (inr added) = inr added
 
-        by_end : (k : ℕ) (c : Files) → images end k c → GrowingClaims slots old c ⊎ Adds number e (held mid) c → GrowingClaims slots old c
+        by_end : (k : ℕ) (c : Files) → images end k c → GrowingClaims slots old c ⊎ AddsEntry number e (held mid) c → GrowingClaims slots old c
         by_end k c image (inl growing) = growing
         by_end k c image (inr added) = from_mid number (held mid) c (left (told k c image)) added.others
 
 -- what was held grew ahead of the log, and has the entry
-pub claims_acknowledged : (slots : List Slot) (events : EventsState) (number : ℕ) (e : LogEntry) (old mid new : Files) → GrowsAhead slots events old mid → Adds number e mid new → ClaimsGrow slots old new
+pub claims_acknowledged : (slots : List Slot) (events : EventsState) (number : ℕ) (e : LogEntry) (old mid new : Files) → GrowsAhead slots events old mid → AddsEntry number e mid new → ClaimsGrow slots old new
 claims_acknowledged slots events number e old mid new grows added = grown_and_same slots old mid new (grown_ahead slots events old mid grows) (beside_log number mid new added.others)

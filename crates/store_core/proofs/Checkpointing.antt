@@ -22,7 +22,7 @@ use Rattle.store_core.specs.Checkpoint.{IsOfNumber, ArePassedOver, HasTakenOver,
 use Rattle.store_core.specs.Flow.{flow_in}
 use Rattle.store_core.specs.Kept.{kept_in}
 use Rattle.store_core.specs.State.{stands_for, live_contents}
-use Rattle.store_core.specs.Store.{StoreState, IsSound, IsKeptOn, EachStandsFor, kept_by, live_in, Holds, HasLog}
+use Rattle.store_core.specs.Store.{StoreState, IsSoundStore, IsKeptOn, EachStandsFor, kept_by, live_in, FilesHold, HasLog}
 use Rattle.store_core.specs.Touched.{TouchesOnly}
 use Rattle.store_core.proofs.Agreeing.{contents_sound, sound_of, state_of_sound, stands_by_kept, same_state, of_state}
 use Rattle.store_core.proofs.Cutting.{shortened_as, shortened_same, shortened_in_turn}
@@ -78,14 +78,14 @@ pub record Renews (s : StoreState) (number : ℕ) (old new : Files) : Type 0 whe
   pub alone : Checkpoints number old new
   pub kept : kept_in (flow_in (kept_by s)) s.lot new ≡ Ok (kept_by s)
 
-pub holds_renewed : (s : StoreState) (number : ℕ) (old new : Files) → Renews s number old new → Holds s old → Holds s new
+pub holds_renewed : (s : StoreState) (number : ℕ) (old new : Files) → Renews s number old new → FilesHold s old → FilesHold s new
 holds_renewed s number old new step was = record {
   kept = step.kept;
   contents = contents_sound old new (live_in s) (same_claims old new (live_in s) (claims_stay number old new step.alone)) was.contents;
   events = has_same s.events old new (events_stay number old new step.alone) was.events;
 }
 
-pub state_renewed : (s : StoreState) (number : ℕ) (state : State) (old new : Files) → Renews s number old new → Holds s old
+pub state_renewed : (s : StoreState) (number : ℕ) (state : State) (old new : Files) → Renews s number old new → FilesHold s old
     → stands_for (flow_in (kept_by s)) s.lot old ≡ of_state state → stands_for (flow_in (kept_by s)) s.lot new ≡ of_state state
 state_renewed s number state old new step was stands =
     let flow = flow_in (kept_by s) in
@@ -106,7 +106,7 @@ pub record MayCheckpoint (s : StoreState) (number : ℕ) : Type 0 where
   pub no_batches : (kept_by s).batches ≡ []
 
 module _ (s : StoreState) (number : ℕ) (may : MayCheckpoint s number) where
-  renews_taken : (old new : Files) → HasLog s old → Holds s old → TakesOver (number + 1) (kept_by s) old new → Renews s number old new
+  renews_taken : (old new : Files) → HasLog s old → FilesHold s old → TakesOver (number + 1) (kept_by s) old new → Renews s number old new
   renews_taken old new has was step = record { alone = takes_alone number old new step.others; kept = by_log step.log }
     where
       by_log : (ArePassedOver (number + 1) new ⊎ HasTakenOver (number + 1) (kept_by s) new) → kept_in (flow_in (kept_by s)) s.lot new ≡ Ok (kept_by s)
@@ -119,7 +119,7 @@ module _ (s : StoreState) (number : ℕ) (may : MayCheckpoint s number) where
     kept = taken_kept s.lot (number + 1) (kept_by s) new may.next (taken_dropped number (number + 1) (kept_by s) mid new (omega arith) taken step) may.consistent may.no_batches;
   }
 
-  module _ {D : Type 0} (moment : D → ℕ) (images : D → ℕ → Files → Type 0) (old : D) (has : InEach (images old (moment old)) (HasLog s)) (holds : InEach (images old (moment old)) (Holds s)) where
+  module _ {D : Type 0} (moment : D → ℕ) (images : D → ℕ → Files → Type 0) (old : D) (has : InEach (images old (moment old)) (HasLog s)) (holds : InEach (images old (moment old)) (FilesHold s)) where
     abbrev pub Renewing : Files → Type 0
     Renewing = After (Renews s number) (images old (moment old))
 
@@ -138,9 +138,9 @@ module _ (s : StoreState) (number : ℕ) (may : MayCheckpoint s number) where
 
     -- ---- what a stop leaves
 
-    pub renewed_holds : (new : D) → Since moment images old new Renewing → Since moment images old new (Holds s)
+    pub renewed_holds : (new : D) → Since moment images old new Renewing → Since moment images old new (FilesHold s)
     renewed_holds new since =
-        wider moment images old new Renewing (Holds s) since (λ c after. holds_renewed s number after.0 c after.2 (holds after.0 after.1))
+        wider moment images old new Renewing (FilesHold s) since (λ c after. holds_renewed s number after.0 c after.2 (holds after.0 after.1))
 
     pub renewed_states : (new : D) → Since moment images old new Renewing → (state : State) → EachStandsFor (flow_in (kept_by s)) s.lot state (images old (moment old))
         → Since moment images old new (λ c. stands_for (flow_in (kept_by s)) s.lot c ≡ of_state state)
@@ -180,7 +180,7 @@ has_next_log s number files may taken =
           omega (arith, none);
     }
 
-pub sound_renewed : (s : StoreState) (number : ℕ) → IsSound s → s.failed ≡ false → IsSound (renewed s number)
+pub sound_renewed : (s : StoreState) (number : ℕ) → IsSoundStore s → s.failed ≡ false → IsSoundStore (renewed s number)
 sound_renewed s number sound unfailed =
     let works = sound.works unfailed in
     record {
@@ -244,8 +244,8 @@ module _ {D : Type 0} (tells : Bool) (held : D → Files) (moment : D → ℕ) (
   one_number n is = let both : Some number ≡ Some n = sym may.current ∙ ap (λ (t : StoreState). t.log.number) view ∙ is in cc
 
   module _ (new : D) (since : Since moment images old new (After (Renews s number) (images old (moment old)))) where
-    images_of : Since moment images old new (Holds now)
-    images_of = subst (λ (t : StoreState). Since moment images old new (Holds t)) view
+    images_of : Since moment images old new (FilesHold now)
+    images_of = subst (λ (t : StoreState). Since moment images old new (FilesHold t)) view
         (renewed_holds s number may moment images old (kept_as.log unfailed) (kept_as.holds unfailed) new since)
 
     states_of : (state : State) → EachStandsFor (flow_in (kept_by now)) now.lot state (images old (moment old))
@@ -260,7 +260,7 @@ module _ {D : Type 0} (tells : Bool) (held : D → Files) (moment : D → ℕ) (
         (renewed_alone s number may moment images old (kept_as.log unfailed) (kept_as.holds unfailed) new since)
 
   -- up to where the next log has taken over
-  pub images_taken : Since moment images old mid (Holds now)
+  pub images_taken : Since moment images old mid (FilesHold now)
   images_taken = images_of mid renewing
 
   pub states_taken : (state : State) → EachStandsFor (flow_in (kept_by now)) now.lot state (images old (moment old))
@@ -278,7 +278,7 @@ module _ {D : Type 0} (tells : Bool) (held : D → Files) (moment : D → ℕ) (
     renewing_on : Since moment images old new (After (Renews s number) (images old (moment old)))
     renewing_on = since_dropped s number may moment images old (kept_as.log unfailed) (kept_as.holds unfailed) mid new renewing taken_as second
 
-    pub images_dropped : Since moment images old new (Holds now)
+    pub images_dropped : Since moment images old new (FilesHold now)
     images_dropped = images_of new renewing_on
 
     pub states_dropped : (state : State) → EachStandsFor (flow_in (kept_by now)) now.lot state (images old (moment old))

@@ -11,7 +11,7 @@ use Rattle.flowfile_wal.proofs.Files.{same_number}
 use Rattle.prov_store.specs.Events.{events_file}
 use Rattle.store_core.specs.Agreement.{SameContent, SameEventFiles}
 use Rattle.store_core.specs.Flow.{flow_in}
-use Rattle.store_core.specs.Store.{StoreState, kept_by, live_in, Holds, HasLog}
+use Rattle.store_core.specs.Store.{StoreState, kept_by, live_in, FilesHold, HasLog}
 use Rattle.store_core.proofs.Agreeing.{kept_alike, contents_sound}
 use Rattle.store_core.proofs.EventsStay.{has_same}
 
@@ -65,7 +65,7 @@ has_log_same s old new same has =
 pub has_log_still : (s : StoreState) (old new : Files) → OthersStay old new → HasLog s old → HasLog s new
 has_log_still s old new stay = has_log_same s old new (log_stays old new stay)
 
-pub holds_still : (s : StoreState) (old new : Files) → OthersStay old new → HasLog s old → All (SameContent old new) (live_in s) → Holds s old → Holds s new
+pub holds_still : (s : StoreState) (old new : Files) → OthersStay old new → HasLog s old → All (SameContent old new) (live_in s) → FilesHold s old → FilesHold s new
 holds_still s old new stay has same was =
     let log = has.ready.log in
     let current = has.ready.ready.current in

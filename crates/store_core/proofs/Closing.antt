@@ -5,7 +5,7 @@ use Rattle.content_repo.specs.declared.slot.Slot.{Slot}
 use Rattle.disk_trait.specs.Files.{Files}
 use Rattle.std.specs.Prelude.{Bool, false, IsTrue}
 use Rattle.content_repo.specs.Claims.{HasSizes}
-use Rattle.store_core.specs.Store.{StoreState, IsWorking, IsSound, IsKeptOn, Holds, live_in}
+use Rattle.store_core.specs.Store.{StoreState, IsWorking, IsSoundStore, IsKeptOn, FilesHold, live_in}
 use Rattle.disk_trait.specs.Images.{After, Since}
 use Rattle.disk_trait.proofs.Moments.{wider, at_the_end}
 use Rattle.content_repo.specs.Claims.{IdleShortened}
@@ -69,9 +69,9 @@ module _ {D : Type 0} (tells : Bool) (held : D → Files) (moment : D → ℕ) (
   kept_on : IsKeptOn tells held moment images (let_go s slots) old
   kept_on = kept_let_go tells held moment images s slots old has.sizes kept
 
-  pub since_closed : Since moment images old mid (Holds s)
+  pub since_closed : Since moment images old mid (FilesHold s)
   since_closed =
-      wider moment images old mid (Holds (let_go s slots)) (Holds s)
+      wider moment images old mid (FilesHold (let_go s slots)) (FilesHold s)
       (since_reclaimed moment images (let_go s slots) old mid (works_on s slots has) (kept_on.holds has.unfailed) (kept_on.log has.unfailed) since)
       (λ c h. record { kept = h.kept; contents = h.contents; events = h.events })
 
@@ -118,7 +118,7 @@ kept_synced tells held moment images s mid end kept since same = record {
   trimmed = λ f told. subst (IsTrimmed s.events.end) (sym same) (kept.trimmed f told);
 }
 
-pub sound_closed : (s : StoreState) (slots emptied : List Slot) (answer : Reclaimed) → IsSound s → HasLetGo s slots → IsReclaimed slots emptied answer → IsSound (closed s emptied)
+pub sound_closed : (s : StoreState) (slots emptied : List Slot) (answer : Reclaimed) → IsSoundStore s → HasLetGo s slots → IsReclaimed slots emptied answer → IsSoundStore (closed s emptied)
 sound_closed s slots emptied answer sound has is =
     sound_reclaimed (let_go s slots) emptied answer
     (record { current = sound.current; mended = sound.mended; opened = omega arith; works = λ f. works_on s slots has })

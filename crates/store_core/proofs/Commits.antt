@@ -28,14 +28,14 @@ use Rattle.checkpoint_store.specs.Consistent.{IsConsistent}
 use Rattle.content_repo.specs.Claims.{claim, content_in, HasSizes}
 use Rattle.content_repo.specs.Slots.{count_of, size_of, held_in, references_to, end_of, IsNamed}
 use Rattle.content_repo.specs.declared.slot.Slot.{Slot}
-use Rattle.flowfile_wal.specs.Steps.{Adds, IsFrame, frame}
+use Rattle.flowfile_wal.specs.Steps.{AddsEntry, IsFrame, frame}
 use Rattle.record_codec.specs.EntryEncoding.{entry as encoding, kind_of, IsEntry}
 use Rattle.record_codec.specs.declared.block.TheConstants.{PAYLOAD_MAX}
 use Rattle.record_codec.proofs.Sizes.{placeless_entry_size}
-use Rattle.kept_state.specs.Applied.{left_after, session_applied, applied, swapped_out}
+use Rattle.kept_state.specs.Applied.{left_after, session_applied, applied, batch_swapped_out}
 use Rattle.flowfile_record.specs.Counts.{with_count}
-use Rattle.kept_state.specs.Changes.{session_of, expiry_entry, record_of, no_files, placed_in, MaySettle, MayExpireAs}
-use Rattle.kept_state.specs.Fits.{fits, session_suits}
+use Rattle.kept_state.specs.Changes.{entry_of_session, expiry_entry, record_of, no_files, placed_in, MaySettleAs, MayExpireAs}
+use Rattle.kept_state.specs.Fits.{entry_suits, session_suits}
 use Rattle.kept_state.specs.Limits.{live_limit}
 use Rattle.kept_state.proofs.Expiring.{expiry_payload, same_effect}
 use Rattle.kept_state.proofs.Going.{active_from_one}
@@ -46,12 +46,12 @@ use Rattle.prov_store.specs.Events.{events_file}
 use Rattle.prov_store.specs.State.{HasEvents}
 use Rattle.store_core.specs.Agreement.{SameEventFiles}
 use Rattle.store_core.specs.Change.{IsFresh, IsOldLive, HasLiveContents}
-use Rattle.store_core.specs.Committed.{PreparedChange, IsPrepared, IsEntryFor}
+use Rattle.store_core.specs.Committed.{PreparedChange, IsPreparedChange, IsEntryFor}
 use Rattle.store_core.specs.Flow.{Flow, flow_in}
 use Rattle.store_core.specs.Kept.{kept_in}
 use Rattle.store_core.specs.Placing.{contents_of, IsHeldIn, MayPlace, IsPlacedAs, ArePlaced, HoldsMore, ReferAlike}
 use Rattle.store_core.specs.State.{contents_damage, live_contents}
-use Rattle.store_core.specs.Store.{StoreState, IsWorking, kept_by, live_in, Holds, HasLog}
+use Rattle.store_core.specs.Store.{StoreState, IsWorking, kept_by, live_in, FilesHold, HasLog}
 use Rattle.store_core.proofs.Committing.{kept_with_entry}
 use Rattle.store_core.proofs.Counting.{references_left, references_applied, length_applied}
 use Rattle.store_core.proofs.EventsStay.{has_same}
@@ -67,9 +67,9 @@ pub record ActsAs (k : Kept) (e : LogEntry) (t : SessionEntry) : Type 0 where
   pub session : SessionEntry
   pub act : applied no_files k e ≡ session_applied k session
   pub puts : placed_in e ≡ session.placed
-  pub alone : swapped_out e ≡ []
+  pub alone : batch_swapped_out e ≡ []
   pub later : kind_of e ≡ 1 → ⊥
-  pub fit : fits no_files k e ≡ true
+  pub fit : entry_suits no_files k e ≡ true
   pub suits : session_suits no_files k session ≡ true
   pub small : length (encoding e) ≤ PAYLOAD_MAX
   pub gone : session.gone ≡ t.gone
@@ -83,15 +83,15 @@ abbrev part_of : SessionEntry → LogEntry → SessionEntry
 part_of t (Session s) = s
 part_of t _ = t
 
-pub fits_placed : (k : Kept) (s : Settled) (e : LogEntry) → MaySettle k s → live_limit (session_applied k (session_of k s)) ≡ None
-    → placeless_entry e ≡ placeless_entry (Session (session_of k s)) → fits no_files k e ≡ true
+pub fits_placed : (k : Kept) (s : Settled) (e : LogEntry) → MaySettleAs k s → live_limit (session_applied k (entry_of_session k s)) ≡ None
+    → placeless_entry e ≡ placeless_entry (Session (entry_of_session k s)) → entry_suits no_files k e ≡ true
 fits_placed k s e may none same =
-    let fit : fits no_files k (Session (session_of k s)) ≡ true =
-    and_from (session_suits no_files k (session_of k s)) (is_none (live_limit (session_applied k (session_of k s)))) may.suits (ap is_none none) in
-    sym (placeless_fits no_files k e) ∙ ap (fits no_files k) same ∙ placeless_fits no_files k (Session (session_of k s)) ∙ fit
+    let fit : entry_suits no_files k (Session (entry_of_session k s)) ≡ true =
+    and_from (session_suits no_files k (entry_of_session k s)) (is_none (live_limit (session_applied k (entry_of_session k s)))) may.suits (ap is_none none) in
+    sym (placeless_fits no_files k e) ∙ ap (entry_suits no_files k) same ∙ placeless_fits no_files k (Session (entry_of_session k s)) ∙ fit
 
-session_acts : (k : Kept) (s : Settled) (e : LogEntry) → MaySettle k s → live_limit (session_applied k (session_of k s)) ≡ None → placeless_entry e ≡ placeless_entry (Session (session_of k s))
-    → ActsAs k e (session_of k s)
+session_acts : (k : Kept) (s : Settled) (e : LogEntry) → MaySettleAs k s → live_limit (session_applied k (entry_of_session k s)) ≡ None → placeless_entry e ≡ placeless_entry (Session (entry_of_session k s))
+    → ActsAs k e (entry_of_session k s)
 session_acts k s (Session t) may none same =
     let fit = fits_placed k s (Session t) may none same in
     record {
@@ -107,7 +107,7 @@ session_acts k s (Session t) may none same =
             arith,
             may.payload,
             placeless_entry_size (Session t),
-            placeless_entry_size (Session (session_of k s)),
+            placeless_entry_size (Session (entry_of_session k s)),
             ap {B = ℕ} (λ (l : LogEntry). length (encoding l)) same,
           );
       gone = ap (λ (l : LogEntry). (part_of t l).gone) same;
@@ -129,14 +129,14 @@ expiry_same (Session e) x same = absurd cc
 expiry_same (SwapOut e) x same = absurd cc
 expiry_same (SwapIn connection batch) x same = absurd cc
 
-expiry_acts : (k : Kept) (connection : ℕ) (s : Settled) (e : LogEntry) → IsConsistent k → MaySettle k s → MayExpireAs k connection s → e ≡ expiry_entry k connection s → ActsAs k e (session_of k s)
+expiry_acts : (k : Kept) (connection : ℕ) (s : Settled) (e : LogEntry) → IsConsistent k → MaySettleAs k s → MayExpireAs k connection s → e ≡ expiry_entry k connection s → ActsAs k e (entry_of_session k s)
 expiry_acts k connection s e was settles may is = record {
-  session = session_of k s;
+  session = entry_of_session k s;
   act = ap (applied no_files k) is ∙ same_effect k connection s may;
   puts = ap placed_in is ∙ sym (ap (λ (t : Settled). map record_of t.placed) may.as_session);
-  alone = ap swapped_out is;
+  alone = ap batch_swapped_out is;
   later = λ (one : kind_of e ≡ 1). let other : kind_of (expiry_entry k connection s) ≡ 1 = ap kind_of (sym is) ∙ one in omega (arith, other);
-  fit = ap (fits no_files k) is ∙ may.fits;
+  fit = ap (entry_suits no_files k) is ∙ may.fits;
   suits = settles.suits;
   small = omega (arith, expiry_payload k connection s was may, ap {B = ℕ} (λ (l : LogEntry). length (encoding l)) is);
   gone = refl;
@@ -158,11 +158,11 @@ held_live s works at has =
       within = works.within i at has.1;
     })
 
-pub may_place : (s : StoreState) (p : PreparedChange) → IsPrepared s p → HasLiveContents s p.settled → IsWorking s → IsConsistent (kept_by s) → length s.opened ≤ LIVE_FILES_MAX
+pub may_place : (s : StoreState) (p : PreparedChange) → IsPreparedChange s p → HasLiveContents s p.settled → IsWorking s → IsConsistent (kept_by s) → length s.opened ≤ LIVE_FILES_MAX
     → MayPlace s.slots p.settled.placed
 may_place s p prepared live works consistent opened =
     let k = kept_by s in
-    let t = session_of k p.settled in
+    let t = entry_of_session k p.settled in
     let limits = within_limits (session_applied k t) prepared.within.live in
     record {
       fresh = prepared.may.fresh;
@@ -292,7 +292,7 @@ counts_long (Some g) counts = length-set counts g.processor g.count
 pub same_flow : (k : Kept) (se : SessionEntry) → flow_in (session_applied k se) ≡ flow_in k
 same_flow k se = ap (λ (n : ℕ). record { digest = k.flow; connections = k.connections; processors = n }) (counts_long se.generator k.counts)
 
-same_sound : (number : ℕ) (e : LogEntry) (old new : Files) (at : ContentRef) → Adds number e old new → IsSoundIn old at → IsSoundIn new at
+same_sound : (number : ℕ) (e : LogEntry) (old new : Files) (at : ContentRef) → AddsEntry number e old new → IsSoundIn old at → IsSoundIn new at
 same_sound number e old new at added is =
     let same : new (claim at.slot) ≡ old (claim at.slot) = added.others (claim at.slot) (λ (x : claim at.slot ≡ named Log number). let kinds : Claim ≡ Log = ap (λ (f : FileName). f.kind) x in absurd cc) in
     record {
@@ -300,13 +300,13 @@ same_sound number e old new at added is =
       digest = ap (λ (bytes : List ℕ). sha256 (take at.size (drop at.offset bytes))) same ∙ is.digest;
     }
 
-pub events_beside_log : (number : ℕ) (e : LogEntry) (old new : Files) → Adds number e old new → SameEventFiles old new
+pub events_beside_log : (number : ℕ) (e : LogEntry) (old new : Files) → AddsEntry number e old new → SameEventFiles old new
 events_beside_log number e old new added k =
     added.others (events_file k) (λ (x : events_file k ≡ named Log number). let kinds : Events ≡ Log = ap (λ (f : FileName). f.kind) x in absurd cc)
 
 -- files that held what is kept, and got an entry that does what a session's does, hold what is kept after it
-pub holds_added : (s new : StoreState) (number : ℕ) (e : LogEntry) (se : SessionEntry) (old files : Files) → HasLog s old → Holds s old → s.log.number ≡ Some number → applied no_files (kept_by s) e ≡ session_applied (kept_by s) se → swapped_out e ≡ []
-    → fits no_files (kept_by s) e ≡ true → Adds number e old files → All (IsSoundIn old) (map content_of se.placed) → kept_by new ≡ applied no_files (kept_by s) e → new.lot ≡ s.lot → HasEvents new.events old → Holds new files
+pub holds_added : (s new : StoreState) (number : ℕ) (e : LogEntry) (se : SessionEntry) (old files : Files) → HasLog s old → FilesHold s old → s.log.number ≡ Some number → applied no_files (kept_by s) e ≡ session_applied (kept_by s) se → batch_swapped_out e ≡ []
+    → entry_suits no_files (kept_by s) e ≡ true → AddsEntry number e old files → All (IsSoundIn old) (map content_of se.placed) → kept_by new ≡ applied no_files (kept_by s) e → new.lot ≡ s.lot → HasEvents new.events old → FilesHold new files
 holds_added s new number e se old files has holds numbered act alone fit added placed kept lot events =
     let k = kept_by s in
     let log = has.ready.log in
@@ -315,7 +315,7 @@ holds_added s new number e se old files has holds numbered act alone fit added p
     let kept_as : kept_by new ≡ session_applied k se = kept ∙ act in
     let flow : flow_in (kept_by new) ≡ flow_in k = ap flow_in kept_as ∙ same_flow k se in
     let live : live_in new ≡ live_contents (session_applied k se) = ap live_contents kept_as in
-    let now = kept_with_entry (flow_in k) s.lot old files log k e has.ready.ready (subst (λ (n : ℕ). Adds n e old files) same added) alone fit holds.kept in
+    let now = kept_with_entry (flow_in k) s.lot old files log k e has.ready.ready (subst (λ (n : ℕ). AddsEntry n e old files) same added) alone fit holds.kept in
     record {
       kept = ap (λ (f : Flow). kept_in f new.lot files) flow ∙ ap (λ (l : ℕ). kept_in (flow_in k) l files) lot ∙ now ∙ ap (λ (l : Kept). Ok l) (sym kept);
       contents =
@@ -328,11 +328,11 @@ holds_added s new number e se old files has holds numbered act alone fit added p
 
 -- ---- the entry of a prepared change, once its contents are placed
 
-module _ (s : StoreState) (p : PreparedChange) (e : LogEntry) (was : IsConsistent (kept_by s)) (prepared : IsPrepared s p) (same : placeless_entry e ≡ placeless_entry p.entry) where
-  pub entry_acts : ActsAs (kept_by s) e (session_of (kept_by s) p.settled)
+module _ (s : StoreState) (p : PreparedChange) (e : LogEntry) (was : IsConsistent (kept_by s)) (prepared : IsPreparedChange s p) (same : placeless_entry e ≡ placeless_entry p.entry) where
+  pub entry_acts : ActsAs (kept_by s) e (entry_of_session (kept_by s) p.settled)
   entry_acts = by prepared.entry
     where
-      by : IsEntryFor (kept_by s) p.settled p.entry → ActsAs (kept_by s) e (session_of (kept_by s) p.settled)
+      by : IsEntryFor (kept_by s) p.settled p.entry → ActsAs (kept_by s) e (entry_of_session (kept_by s) p.settled)
       by (inl is) = session_acts (kept_by s) p.settled e prepared.may.settles prepared.within.live (same ∙ ap placeless_entry is)
       by (inr expiry) =
           let is = expiry_same e _ (same ∙ ap placeless_entry expiry.is) in
@@ -346,12 +346,12 @@ module _ (s : StoreState) (p : PreparedChange) (e : LogEntry) (was : IsConsisten
         ap {B = ℕ} length entry_acts.puts,
         length-map entry_acts.session.placed placeless_active,
         ap {B = ℕ} length entry_acts.placed,
-        length-map (session_of (kept_by s) p.settled).placed placeless_active,
+        length-map (entry_of_session (kept_by s) p.settled).placed placeless_active,
         length-map p.settled.placed record_of,
       )
 
 -- the placed files of the entry that was prepared
-pub recorded_first : (s : StoreState) (p : PreparedChange) → IsPrepared s p → placed_in p.entry ≡ map record_of p.settled.placed
+pub recorded_first : (s : StoreState) (p : PreparedChange) → IsPreparedChange s p → placed_in p.entry ≡ map record_of p.settled.placed
 recorded_first s p prepared = by prepared.entry
   where
     by : IsEntryFor (kept_by s) p.settled p.entry → placed_in p.entry ≡ map record_of p.settled.placed
@@ -359,7 +359,7 @@ recorded_first s p prepared = by prepared.entry
     by (inr expiry) = ap placed_in expiry.is ∙ sym (ap (λ (t : Settled). map record_of t.placed) expiry.may.as_session)
 
 -- the block of the entry of a prepared change may be appended
-pub entry_frame : (s : StoreState) (p : PreparedChange) (e : LogEntry) (bytes : List ℕ) → IsConsistent (kept_by s) → IsPrepared s p → placeless_entry e ≡ placeless_entry p.entry → IsEntry e → bytes ≡ frame e
+pub entry_frame : (s : StoreState) (p : PreparedChange) (e : LogEntry) (bytes : List ℕ) → IsConsistent (kept_by s) → IsPreparedChange s p → placeless_entry e ≡ placeless_entry p.entry → IsEntry e → bytes ≡ frame e
     → IsFrame e bytes
 entry_frame s p e bytes was prepared same encodes is =
     let acts = entry_acts s p e was prepared same in

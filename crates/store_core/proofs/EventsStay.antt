@@ -4,7 +4,7 @@ use Rattle.std.specs.Prelude.{Result, Ok}
 use Rattle.disk_trait.specs.Files.{Files}
 use Rattle.disk_trait.specs.declared.damage.Damage.{Damage}
 use Rattle.flowfile_record.specs.declared.event.Event.{Event}
-use Rattle.prov_store.specs.Events.{events_file, count_in, first_in, events_from, events_of_file, events_of_files, ◌>>=◌, events_in, blocks_size, covered, covered_size}
+use Rattle.prov_store.specs.Events.{events_file, count_in, first_event, events_from, events_of_file, events_of_files, ◌>>=◌, events_in, blocks_size, covered_bytes, covered_size}
 use Rattle.prov_store.specs.State.{EventsState, HasEvents, HasStale, IsTrimmed, CutsStale, SameEvents}
 use Rattle.prov_store.specs.declared.events.Stale.{Stale}
 use Rattle.flowfile_record.specs.declared.limits.TheConstants.{EVENTS_PER_FILE}
@@ -35,7 +35,7 @@ both one other = do
 of_files : (count last k : ℕ) (old new : Files) → SameEventFiles old new → events_of_files count last k new ≡ events_of_files count last k old
 of_files zero last k old new same = refl
 of_files (suc count) last k old new same =
-    ap (λ (bytes : List ℕ). both (events_from (count_in last k) (events_file k) 0 (first_in k) bytes) (events_of_files count last (k + 1) new)) (same k)
+    ap (λ (bytes : List ℕ). both (events_from (count_in last k) (events_file k) 0 (first_event k) bytes) (events_of_files count last (k + 1) new)) (same k)
     ∙ ap (both (events_of_file last k old)) (of_files count last (k + 1) old new same)
 
 pub same_events : (last : ℕ) (old new : Files) → SameEventFiles old new → events_in new last ≡ events_in old last
@@ -70,7 +70,7 @@ has_trimmed state stale files has = record { events = has.events; says = has.say
 none_in : (last k : ℕ) → last ≡ 0 → count_in last k ≡ 0
 none_in last k none = omega (arith, none)
 
-pub none_covered : (k : ℕ) (files : Files) → covered 0 k files ≡ []
+pub none_covered : (k : ℕ) (files : Files) → covered_bytes 0 k files ≡ []
 unfolding covered_size
 none_covered k files =
     ap (λ (n : ℕ). take (blocks_size n (files (events_file k))) (files (events_file k))) (none_in 0 k refl)

@@ -9,7 +9,7 @@ use Rattle.disk_trait.specs.declared.file_name.FileKind.{FileKind}
 use Rattle.disk_trait.specs.declared.file_name.FileKind.TheVariants.{Log, Snapshot, Swap, Claim, Events}
 use Rattle.disk_trait.specs.declared.file_name.FileName.{FileName}
 use Rattle.disk_trait.proofs.Search.{least_is, least_none}
-use Rattle.store_core.specs.New.{holds_from, first_from, or_else, first_stray}
+use Rattle.store_core.specs.New.{holds_from, first_from, file_or, first_stray}
 
 both : (p q : Bool) → p ≡ true → q ≡ true → (p && q) ≡ true
 both p q is also = ap (λ (x : Bool). x && q) is ∙ also
@@ -59,9 +59,9 @@ module _ (kind : FileKind) (from : ℕ) (files : Files) (numbers : List ℕ)
 
 -- which file is the first of all kinds
 pub stray_is : (files : Files) (a b c d e : Option FileName) → first_from Log 2 files ≡ a → first_from Snapshot 2 files ≡ b → first_from Swap 0 files ≡ c
-    → first_from Claim 0 files ≡ d → first_from Events 0 files ≡ e → first_stray files ≡ or_else a (or_else b (or_else c (or_else d e)))
+    → first_from Claim 0 files ≡ d → first_from Events 0 files ≡ e → first_stray files ≡ file_or a (file_or b (file_or c (file_or d e)))
 unfolding first_stray
-stray_is files a b c d e p q r s t = λ i. or_else (p i) (or_else (q i) (or_else (r i) (or_else (s i) (t i))))
+stray_is files a b c d e p q r s t = λ i. file_or (p i) (file_or (q i) (file_or (r i) (file_or (s i) (t i))))
 
 pub if_ok : {A E : Type 0} (r : Result A E) (P Q : A → Type 0) → ((x : A) → P x → Q x) → IfOk r P → IfOk r Q
 if_ok (Ok x) P Q to p = to x p

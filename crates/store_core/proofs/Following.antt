@@ -7,16 +7,16 @@ use Rattle.disk_trait.specs.declared.file_name.FileName.{FileName}
 use Rattle.checkpoint_store.specs.Snapshot.{snapshot_file}
 use Rattle.content_repo.specs.Claims.{claim, content_in}
 use Rattle.flowfile_wal.specs.Current.{current_log}
-use Rattle.flowfile_wal.specs.Steps.{Keeps}
+use Rattle.flowfile_wal.specs.Steps.{KeepsLog}
 use Rattle.flowfile_wal.proofs.Files.{alike}
 use Rattle.machine_model.specs.State.{State}
-use Rattle.prov_store.specs.Events.{events_file, events_in, covered}
+use Rattle.prov_store.specs.Events.{events_file, events_in, covered_bytes}
 use Rattle.prov_store.specs.State.{HasEvents, GrowsBehind as EventsGrow}
 use Rattle.store_core.specs.Agreement.{SameContent}
 use Rattle.store_core.specs.Flow.{flow_in}
-use Rattle.store_core.specs.Placing.{GrowsBehind, GrowsAhead}
+use Rattle.store_core.specs.Placing.{ClaimsGrowBehind, GrowsAhead}
 use Rattle.store_core.specs.State.{stands_for}
-use Rattle.store_core.specs.Store.{StoreState, IsWorking, kept_by, live_in, Holds, HasLog}
+use Rattle.store_core.specs.Store.{StoreState, IsWorking, kept_by, live_in, FilesHold, HasLog}
 use Rattle.store_core.proofs.Agreeing.{kept_alike, contents_sound, sound_of, state_of_sound, stands_by_kept, same_state, of_state}
 use Rattle.store_core.proofs.ClaimsAlone.{SameLogs, current_same, current_stays, log_stays, snapshot_stays, events_stay as events_beside}
 use Rattle.store_core.proofs.EventsStay.{same_covered, says_still, has_same, has_still}
@@ -28,7 +28,7 @@ pub record Follows (s : StoreState) (old new : Files) : Type 0 where
   pub current : current_log new ≡ current_log old
   pub snapshot : (n : ℕ) → new (snapshot_file n) ≡ old (snapshot_file n)
   pub contents : All (SameContent old new) (live_in s)
-  pub events : (k : ℕ) → covered s.events.end k new ≡ covered s.events.end k old
+  pub events : (k : ℕ) → covered_bytes s.events.end k new ≡ covered_bytes s.events.end k old
 
 pub follows_itself : (s : StoreState) (files : Files) → Follows s files files
 follows_itself s files = record { current = refl; snapshot = λ n. refl; contents = λ k d lt. record { bytes = refl; covered = λ h. h }; events = λ k. refl }
@@ -44,7 +44,7 @@ follows_in_turn s a b c first second = record {
   events = λ k. second.events k ∙ first.events k;
 }
 
-pub follows_grown : (s : StoreState) (old new : Files) → IsWorking s → GrowsBehind s.slots old new → Follows s old new
+pub follows_grown : (s : StoreState) (old new : Files) → IsWorking s → ClaimsGrowBehind s.slots old new → Follows s old new
 follows_grown s old new works grows = record {
   current = current_stays old new grows.others;
   snapshot = snapshot_stays old new grows.others;
@@ -74,7 +74,7 @@ follows_ahead s old new works has grows =
 pub logs_ahead : (s : StoreState) (old new : Files) → GrowsAhead s.slots s.events old new → SameLogs old new
 logs_ahead s old new grows n = log_grown s grows.mid new grows.events n ∙ log_stays old grows.mid grows.claims.others n
 
-pub follows_kept_log : (s : StoreState) (number : ℕ) (old new : Files) → Keeps number old new → Follows s old new
+pub follows_kept_log : (s : StoreState) (number : ℕ) (old new : Files) → KeepsLog number old new → Follows s old new
 follows_kept_log s number old new keeps = record {
   current = alike number old new keeps;
   snapshot = λ n. keeps.others (snapshot_file n) (λ (e : snapshot_file n ≡ named Log number). let kinds : Snapshot ≡ Log = ap (λ (f : FileName). f.kind) e in absurd cc);
@@ -84,7 +84,7 @@ follows_kept_log s number old new keeps = record {
   events = same_covered s.events.end old new (λ k. keeps.others (events_file k) (λ (e : events_file k ≡ named Log number). let kinds : Events ≡ Log = ap (λ (f : FileName). f.kind) e in absurd cc));
 }
 
-pub holds_following : (s : StoreState) (old new : Files) → HasLog s old → Follows s old new → Holds s old → Holds s new
+pub holds_following : (s : StoreState) (old new : Files) → HasLog s old → Follows s old new → FilesHold s old → FilesHold s new
 holds_following s old new has follows was =
     let log = has.ready.log in
     let current = has.ready.ready.current in
@@ -95,7 +95,7 @@ holds_following s old new has follows was =
     }
 
 -- the state that they stand for is the same
-pub state_following : (s : StoreState) (state : State) (old new : Files) → IsWorking s → HasLog s old → Follows s old new → Holds s old
+pub state_following : (s : StoreState) (state : State) (old new : Files) → IsWorking s → HasLog s old → Follows s old new → FilesHold s old
     → stands_for (flow_in (kept_by s)) s.lot old ≡ of_state state → stands_for (flow_in (kept_by s)) s.lot new ≡ of_state state
 state_following s state old new works has follows was stands =
     let flow = flow_in (kept_by s) in

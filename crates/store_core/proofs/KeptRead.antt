@@ -15,8 +15,8 @@ use Rattle.flowfile_record.specs.Stored.{Kept}
 use Rattle.flowfile_record.specs.declared.stored.SwapBatch.{SwapBatch}
 use Rattle.checkpoint_store.specs.Reading.{snapshot_of}
 use Rattle.flowfile_wal.specs.Current.{CurrentLog, current_log}
-use Rattle.flowfile_wal.specs.Steps.{LogState, numbered, log_with}
-use Rattle.kept_state.specs.Applied.{swapped_out, batches_that_matter}
+use Rattle.flowfile_wal.specs.Steps.{LogState, numbered_log, log_with}
+use Rattle.kept_state.specs.Applied.{batch_swapped_out, batches_that_matter}
 use Rattle.store_core.specs.Flow.{Flow, agrees_with}
 use Rattle.kept_state.specs.Changes.{no_files}
 use Rattle.kept_state.specs.Fits.{replayed}
@@ -36,40 +36,40 @@ nil_parts : (xs ys : List ℕ) → xs ++ ys ≡ [] → (xs ≡ []) × (ys ≡ []
 nil_parts [] ys is = (refl, is)
 nil_parts (x ∷ xs) ys is = absurd cc
 
-none_swapped : (entries : List Logged) → flat_map (λ e. swapped_out e.1) entries ≡ [] → All (λ e. swapped_out e.1 ≡ []) entries
-none_swapped [] is = All-nil (λ (e : Logged). swapped_out e.1 ≡ [])
+none_swapped : (entries : List Logged) → flat_map (λ e. batch_swapped_out e.1) entries ≡ [] → All (λ e. batch_swapped_out e.1 ≡ []) entries
+none_swapped [] is = All-nil (λ (e : Logged). batch_swapped_out e.1 ≡ [])
 none_swapped (e ∷ entries) is =
-    let parts = nil_parts (swapped_out e.1) (flat_map (λ (x : Logged). swapped_out x.1) entries) is in
-    All-cons (λ (x : Logged). swapped_out x.1 ≡ []) e entries parts.0 (none_swapped entries parts.1)
+    let parts = nil_parts (batch_swapped_out e.1) (flat_map (λ (x : Logged). batch_swapped_out x.1) entries) is in
+    All-cons (λ (x : Logged). batch_swapped_out x.1 ≡ []) e entries parts.0 (none_swapped entries parts.1)
 
 no_batch : (batches : List SwapBatch) → map (λ b. b.batch) batches ≡ [] → batches ≡ []
 no_batch [] is = refl
 no_batch (b ∷ batches) is = absurd cc
 
 -- the least of the batches that matter
-pub least_matters : (k : Kept) (entries : List Logged) → least_of (batches_that_matter k entries) ≡ fold with_least (least_of (map (λ b. b.batch) k.batches)) (flat_map (λ e. swapped_out e.1) entries)
-least_matters k entries = fold-append with_least None (map (λ b. b.batch) k.batches) (flat_map (λ e. swapped_out e.1) entries)
+pub least_matters : (k : Kept) (entries : List Logged) → least_of (batches_that_matter k entries) ≡ fold with_least (least_of (map (λ b. b.batch) k.batches)) (flat_map (λ e. batch_swapped_out e.1) entries)
+least_matters k entries = fold-append with_least None (map (λ b. b.batch) k.batches) (flat_map (λ e. batch_swapped_out e.1) entries)
 
 pub record HasNoBatch (k : Kept) (entries : List Logged) : Type 0 where
   pub batches : k.batches ≡ []
-  pub swapped : All (λ e. swapped_out e.1 ≡ []) entries
+  pub swapped : All (λ e. batch_swapped_out e.1 ≡ []) entries
 
 -- where there is none, no batch is swapped out
 pub none_matters : (k : Kept) (entries : List Logged) → least_of (batches_that_matter k entries) ≡ None → HasNoBatch k entries
 none_matters k entries is =
-    let parts = least_alone (least_of (map (λ b. b.batch) k.batches)) (flat_map (λ e. swapped_out e.1) entries) (sym (least_matters k entries) ∙ is) in
+    let parts = least_alone (least_of (map (λ b. b.batch) k.batches)) (flat_map (λ e. batch_swapped_out e.1) entries) (sym (least_matters k entries) ∙ is) in
     record {
       batches = no_batch k.batches (no_least (map (λ b. b.batch) k.batches) parts.0);
-      swapped = none_swapped entries (no_least (flat_map (λ e. swapped_out e.1) entries) parts.1);
+      swapped = none_swapped entries (no_least (flat_map (λ e. batch_swapped_out e.1) entries) parts.1);
     }
 
 -- the least that was found of the snapshot's batches, and then of the entries
 pub found_least : (k : Kept) (entries read : List Logged) (first least : Option ℕ) → first ≡ least_of (map (λ b. b.batch) k.batches) → read ≡ entries
-    → least ≡ fold with_least first (flat_map (λ e. swapped_out e.1) read) → least_of (batches_that_matter k entries) ≡ least
+    → least ≡ fold with_least first (flat_map (λ e. batch_swapped_out e.1) read) → least_of (batches_that_matter k entries) ≡ least
 found_least k entries read first least is_first is_read is =
     least_matters k entries
-    ∙ ap (λ (f : Option ℕ). fold with_least f (flat_map (λ e. swapped_out e.1) entries)) (sym is_first)
-    ∙ ap (λ (es : List Logged). fold with_least first (flat_map (λ e. swapped_out e.1) es)) (sym is_read)
+    ∙ ap (λ (f : Option ℕ). fold with_least f (flat_map (λ e. batch_swapped_out e.1) entries)) (sym is_first)
+    ∙ ap (λ (es : List Logged). fold with_least first (flat_map (λ e. batch_swapped_out e.1) es)) (sym is_read)
     ∙ sym is
 
 abbrev pub log_at : (number : ℕ) → List Logged → (end : ℕ) → CurrentLog
@@ -140,9 +140,9 @@ own_flow flow lot =
 
 -- what is kept, by the current log in memory
 pub found_by : (flow : Flow) (lot : ℕ) (held mid : Files) (state : LogState) (entries : List Logged) (number : Option ℕ) (kept : Result Kept Damage) → mid ≡ held → number ≡ state.number
-    → current_log held ≡ Ok (log_with state entries) → behind_log flow lot mid (Ok (numbered number entries state.end)) ≡ kept → kept_in flow lot held ≡ kept
+    → current_log held ≡ Ok (log_with state entries) → behind_log flow lot mid (Ok (numbered_log number entries state.end)) ≡ kept → kept_in flow lot held ≡ kept
 found_by flow lot held mid state entries number kept same is current read =
     by_current flow lot held (log_with state entries) current
-    ∙ ap (λ (n : Option ℕ). behind_log flow lot held (Ok (numbered n entries state.end))) (sym is)
-    ∙ ap (λ (files : Files). behind_log flow lot files (Ok (numbered number entries state.end))) (sym same)
+    ∙ ap (λ (n : Option ℕ). behind_log flow lot held (Ok (numbered_log n entries state.end))) (sym is)
+    ∙ ap (λ (files : Files). behind_log flow lot files (Ok (numbered_log number entries state.end))) (sym same)
     ∙ read

@@ -23,7 +23,7 @@ use Rattle.store_core.specs.Agreement.{IsUnmade}
 use Rattle.store_core.specs.Flow.{Flow, agrees_with}
 use Rattle.store_core.specs.Kept.{kept_in, snapshot_for, of_flow, least_of, unless_swapped, with_entries, behind_snapshot}
 use Rattle.store_core.specs.New.{kept_anew}
-use Rattle.store_core.specs.Opened.{IsMade, SameMeaning}
+use Rattle.store_core.specs.Opened.{IsNewStore, SameMeaning}
 use Rattle.store_core.proofs.Agreeing.{kept_by_log, same_state}
 use Rattle.store_core.specs.Discard.{Discards}
 use Rattle.store_core.proofs.EventsStay.{no_event}
@@ -35,13 +35,13 @@ use Rattle.store_core.proofs.Opening.{stands_whole}
 abbrev pub first_log : CurrentLog
 first_log = record { number = 1; entries = []; end = 47 }
 
-pub made_current : (k : Kept) (files : Files) → IsMade k files → IsClosedIn first_log files
+pub made_current : (k : Kept) (files : Files) → IsNewStore k files → IsClosedIn first_log files
 made_current k files made = begun_ready 1 files (begun_in 1 files (omega arith) made.log.begun made.log.greater)
 
 of_agreed : (flow : Flow) (k : Kept) (agrees : Bool) → agrees_with flow k ≡ agrees → agrees ≡ true → of_flow flow (snapshot_file 1) (Ok k) ≡ Ok k
 of_agreed flow k agrees is true_is = ap (λ (b : Bool). cond b (Ok k) (Err (Form (snapshot_file 1) 0))) (is ∙ true_is)
 
-pub made_kept : (flow : Flow) (lot : ℕ) (k : Kept) (files : Files) → IsMade k files → IsConsistent k → k.batches ≡ [] → agrees_with flow k ≡ true → kept_in flow lot files ≡ Ok k
+pub made_kept : (flow : Flow) (lot : ℕ) (k : Kept) (files : Files) → IsNewStore k files → IsConsistent k → k.batches ≡ [] → agrees_with flow k ≡ true → kept_in flow lot files ≡ Ok k
 unfolding snapshot_for
 made_kept flow lot k files made consistent none agrees =
     kept_by_log flow lot files first_log (made_current k files made).current

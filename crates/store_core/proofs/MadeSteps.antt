@@ -13,7 +13,7 @@ use Rattle.flowfile_wal.proofs.Beginnings.{begun_in}
 use Rattle.checkpoint_store.specs.Begun.{MayBegin, IsBegun, IsBegunOrNot, log_file}
 use Rattle.checkpoint_store.specs.Snapshot.{snapshot, snapshot_file}
 use Rattle.store_core.specs.Agreement.{IsUnmade}
-use Rattle.store_core.specs.Opened.{IsMade}
+use Rattle.store_core.specs.Opened.{IsNewStore}
 use Rattle.store_core.proofs.Reviving.{unmade_log, made_log}
 
 -- files in which the snapshot stands, and the log may be begun
@@ -23,7 +23,7 @@ pub record IsStaged (k : Kept) (files : Files) : Type 0 where
   pub snapshot : files (snapshot_file 1) ≡ snapshot k ++ rest
 
 abbrev pub Makes : Kept → Files → Type 0
-Makes k c = IsUnmade c ⊎ IsMade k c
+Makes k c = IsUnmade c ⊎ IsNewStore k c
 
 not_snapshot : (n : ℕ) → named Log n ≢ snapshot_file 1
 not_snapshot n same = let kinds : Log ≡ Snapshot = ap (λ (f : FileName). f.kind) same in absurd cc
@@ -46,7 +46,7 @@ log_step k old new was staged step = by_here step.here
     by_here (inl passed) = inl (unmade_log old new was (record { here = passed; others = step.others }))
     by_here (inr begun) = inr (made_log k old new was staged.begin.greater (staged.rest, staged.snapshot) (record { here = begun; others = step.others }))
 
-whole_step : (k : Kept) (old new : Files) → IsUnmade old → IsStaged k old → At (log_file 1) (λ before now. IsBegunOrNot 1 now) old new → IsBegun 1 new → IsMade k new
+whole_step : (k : Kept) (old new : Files) → IsUnmade old → IsStaged k old → At (log_file 1) (λ before now. IsBegunOrNot 1 now) old new → IsBegun 1 new → IsNewStore k new
 whole_step k old new was staged step begun = made_log k old new was staged.begin.greater (staged.rest, staged.snapshot) (record { here = begun.begun; others = step.others })
 
 pub begun_files : (files : Files) → IsBegun 1 files → IsBegunIn 1 files
@@ -66,7 +66,7 @@ module _ {D : Type 0} (moment : D → ℕ) (images : D → ℕ → Files → Typ
       (λ c after. log_step k after.0 c (at_the_end moment images old mid IsUnmade first after.0 after.1) (stage after.0 after.1) after.2)
 
   pub made_at_the_end : (k : Kept) (old mid new : D) → Since moment images old mid IsUnmade → InEach (images mid (moment mid)) (IsStaged k) → Since moment images mid new (Begins mid)
-      → ((c : Files) → images new (moment new) c → IsBegun 1 c) → InEach (images new (moment new)) (IsMade k)
+      → ((c : Files) → images new (moment new) c → IsBegun 1 c) → InEach (images new (moment new)) (IsNewStore k)
   made_at_the_end k old mid new first stage second begun c left =
       let after = at_the_end moment images mid new (Begins mid) second c left in
       whole_step k after.0 c (at_the_end moment images old mid IsUnmade first after.0 after.1) (stage after.0 after.1) after.2 (begun c left)

@@ -11,7 +11,7 @@ use Rattle.flowfile_wal.specs.Current.{current_log, current_number, log_of_numbe
 use Rattle.machine_model.specs.State.{State}
 use Rattle.store_core.specs.Flow.{Flow}
 use Rattle.store_core.specs.Kept.{kept_in, behind_log}
-use Rattle.store_core.specs.New.{holds_from, first_from, or_else, first_stray, kept_anew, unless_stray}
+use Rattle.store_core.specs.New.{holds_from, first_from, file_or, first_stray, kept_anew, unless_stray}
 use Rattle.store_core.specs.State.{stands_for}
 use Rattle.store_core.specs.Agreement.{IsUnmade}
 use Rattle.store_core.proofs.Agreeing.{stands_by_kept, state_of_sound}
@@ -33,8 +33,8 @@ empty_fails kind from files n empty =
 none_from : (kind : FileKind) (from : ℕ) (files : Files) → ((n : ℕ) → from ≤ n → n < 2 ^ 64 → files (named kind n) ≡ []) → first_from kind from files ≡ None
 none_from kind from files empty = ap (option_map (named kind)) (least_none (holds_from kind from files) (2 ^ 64) (λ n lt. empty_fails kind from files n (λ le. empty n le lt)))
 
-or_none : (one other : Option FileName) → one ≡ None → other ≡ None → or_else one other ≡ None
-or_none one other a b = ap (λ (o : Option FileName). or_else o other) a ∙ b
+or_none : (one other : Option FileName) → one ≡ None → other ≡ None → file_or one other ≡ None
+or_none one other a b = ap (λ (o : Option FileName). file_or o other) a ∙ b
 
 pub no_stray : (files : Files) → IsUnmade files → first_stray files ≡ None
 unfolding first_stray

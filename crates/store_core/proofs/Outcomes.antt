@@ -18,20 +18,20 @@ use Rattle.content_repo.specs.Claims.{content_in, HasSizes}
 use Rattle.content_repo.specs.Slots.{count_of, size_of, held_in, references_to}
 use Rattle.content_repo.specs.declared.slot.Slot.{Slot}
 use Rattle.flowfile_wal.specs.Calls.{InEach, WithOrWithout}
-use Rattle.flowfile_wal.specs.Steps.{Adds, IsReadyIn}
+use Rattle.flowfile_wal.specs.Steps.{AddsEntry, IsReadyIn}
 use Rattle.kept_state.specs.Applied.{applied, session_applied}
 use Rattle.kept_state.specs.Changes.{no_files, placed_in}
 use Rattle.machine_model.specs.State.{State}
 use Rattle.machine_model.specs.Changing.{HaveDigests, state_after}
 use Rattle.prov_store.specs.Events.{events_in}
-use Rattle.prov_store.specs.State.{EventsState, IsAppended}
+use Rattle.prov_store.specs.State.{EventsState, EventsAreAppended}
 use Rattle.store_core.specs.Change.{HasLiveContents}
-use Rattle.store_core.specs.Committed.{PreparedChange, IsPrepared, HasChange, HoldsEither, KeepsShared}
+use Rattle.store_core.specs.Committed.{PreparedChange, IsPreparedChange, HasChange, HoldsEither, KeepsShared}
 use Rattle.store_core.specs.Touched.{ClaimsGrow, MayTouch, TouchesOnly}
 use Rattle.store_core.specs.Flow.{flow_in}
-use Rattle.store_core.specs.Placing.{contents_of, GrowsAhead, GrowsByFresh, AddsEvents, ArePlaced, HoldsMore, IsPlacedAs, PlacesAll, ReferAlike, StaysStored}
+use Rattle.store_core.specs.Placing.{contents_of, GrowsAhead, GrowsByFresh, AppendsEvents, ArePlaced, HoldsMore, IsPlacedAs, PlacesAll, ReferAlike, StaysStored}
 use Rattle.store_core.specs.State.{stands_for}
-use Rattle.store_core.specs.Store.{StoreState, IsWorking, IsKeptOn, EachStandsFor, Holds, kept_by}
+use Rattle.store_core.specs.Store.{StoreState, IsWorking, IsKeptOn, EachStandsFor, FilesHold, kept_by}
 use Rattle.store_core.proofs.Agreeing.{of_state}
 use Rattle.store_core.proofs.Appending.{GrowingClaims, claims_ahead, claims_logged, claims_acknowledged}
 use Rattle.store_core.proofs.Commits.{entry_acts, referred_gone, events_beside_log, working_after}
@@ -51,7 +51,7 @@ pub record HasPlaced {D : Type 0} (tells : Bool) (held : D → Files) (moment : 
   pub works : IsWorking s
   pub kept : IsKeptOn tells held moment images s old
   pub unfailed : s.failed ≡ false
-  pub prepared : IsPrepared s p
+  pub prepared : IsPreparedChange s p
   pub live : HasLiveContents s p.settled
   pub digests : IsTrue tells → HaveDigests (content_in (held old)) p.settled.placed
   pub consistent : IsConsistent (kept_by s)
@@ -63,7 +63,7 @@ pub record HasPlaced {D : Type 0} (tells : Bool) (held : D → Files) (moment : 
 -- the same store and the same change by what is inside of them
 pub has_placed : {D : Type 0} (tells : Bool) (held : D → Files) (moment : D → ℕ) (images : D → ℕ → Files → Type 0) (inside s : StoreState) (change p : PreparedChange) (e : LogEntry) (old mid : D)
     → inside ≡ s → change ≡ p → IsWorking inside → inside.failed ≡ false → IsConsistent (kept_by inside) → (kept_by inside).batches ≡ []
-    → IsKeptOn tells held moment images s old → IsPrepared s p → HasLiveContents s p.settled → (IsTrue tells → HaveDigests (content_in (held old)) p.settled.placed) → placeless_entry e ≡ placeless_entry change.entry
+    → IsKeptOn tells held moment images s old → IsPreparedChange s p → HasLiveContents s p.settled → (IsTrue tells → HaveDigests (content_in (held old)) p.settled.placed) → placeless_entry e ≡ placeless_entry change.entry
     → Since moment images old mid (After (GrowsAhead inside.slots inside.events) (images old (moment old))) → (IsTrue tells → GrowsAhead inside.slots inside.events (held old) (held mid))
     → HasPlaced tells held moment images s p e old mid
 has_placed tells held moment images inside s change p e old mid view p_view works unfailed consistent batches kept prepared live digests same grows held_grows = record {
@@ -97,7 +97,7 @@ has_change inside s new change p e e2 view p_view same stays is kept opened lot 
 module _ {D : Type 0} (tells : Bool) (held : D → Files) (moment : D → ℕ) (images : D → ℕ → Files → Type 0) (s : StoreState) (p : PreparedChange) (e : LogEntry) (old mid : D) where
   pub placed_images : (new : StoreState) → HasPlaced tells held moment images s p e old mid → Since moment images old mid (HoldsEither s new)
   placed_images new has =
-      wider moment images old mid (Holds s) (HoldsEither s new)
+      wider moment images old mid (FilesHold s) (HoldsEither s new)
       (since_ahead_holds moment images s old mid has.works (has.kept.log has.unfailed) (has.kept.holds has.unfailed) has.grows) (λ c h. inl h)
 
   pub placed_states : (Q : Files → Type 0) (state : State) → HasPlaced tells held moment images s p e old mid → EachStandsFor (flow_in (kept_by s)) s.lot state (images old (moment old))
@@ -123,7 +123,7 @@ pub record HasLogged {D : Type 0} (tells : Bool) (held : D → Files) (moment : 
   pub numbered : s.log.number ≡ Some number
   pub placed : PlacesAll tells (held mid) p.settled.placed s.slots slots e
   pub sizes : IsTrue tells → HasSizes slots (held mid)
-  pub events : AddsEvents tells p.events.events s.events new.events (held old) (held mid)
+  pub events : AppendsEvents tells p.events.events s.events new.events (held old) (held mid)
   pub kept : kept_by new ≡ applied no_files (kept_by s) e
   pub lot : new.lot ≡ s.lot
   pub logged : Since moment images mid end (WithOrWithout number e (images mid (moment mid)) (held mid))
@@ -136,7 +136,7 @@ numbered_of None some = absurd cc
 
 pub has_logged : {D : Type 0} (tells : Bool) (held : D → Files) (moment : D → ℕ) (images : D → ℕ → Files → Type 0) (inside s new : StoreState) (change p : PreparedChange) (e e2 : LogEntry)
     (old mid end : D) (number : ℕ) (slots : List Slot)
-    → inside ≡ s → change ≡ p → inside.log.number ≡ Some number → PlacesAll tells (held mid) change.settled.placed inside.slots slots e → (IsTrue tells → HasSizes slots (held mid)) → AddsEvents tells change.events.events inside.events new.events (held old) (held mid)
+    → inside ≡ s → change ≡ p → inside.log.number ≡ Some number → PlacesAll tells (held mid) change.settled.placed inside.slots slots e → (IsTrue tells → HasSizes slots (held mid)) → AppendsEvents tells change.events.events inside.events new.events (held old) (held mid)
     → e2 ≡ e → kept_by new ≡ applied no_files (kept_by inside) e2 → new.lot ≡ inside.lot → Since moment images mid end (WithOrWithout number e (images mid (moment mid)) (held mid))
     → ((disk : D) (k : ℕ) (c : Files) → images disk k c → IsTrue tells) → ((disk : D) → IsTrue tells → images disk (moment disk) (held disk))
     → HasLogged tells held moment images s new p e old mid end number slots
@@ -147,8 +147,8 @@ has_logged tells held moment images inside s new change p e e2 old mid end numbe
       (subst (λ (t : StoreState). PlacesAll tells (held mid) change.settled.placed t.slots slots e) view placed);
   sizes = sizes;
   events =
-      subst (λ (c : PreparedChange). AddsEvents tells c.events.events s.events new.events (held old) (held mid)) p_view
-      (subst (λ (t : StoreState). AddsEvents tells change.events.events t.events new.events (held old) (held mid)) view events);
+      subst (λ (c : PreparedChange). AppendsEvents tells c.events.events s.events new.events (held old) (held mid)) p_view
+      (subst (λ (t : StoreState). AppendsEvents tells change.events.events t.events new.events (held old) (held mid)) view events);
   kept = kept ∙ ap (applied no_files (kept_by inside)) is ∙ ap (λ (t : StoreState). applied no_files (kept_by t) e) view;
   lot = lot ∙ ap (λ (t : StoreState). t.lot) view;
   logged = logged;
@@ -169,7 +169,7 @@ as_session_places tells files all old new e t puts places = record {
   grown = places.grown;
 }
 
-same_session : (s : StoreState) (p : PreparedChange) (e : LogEntry) (was : IsConsistent (kept_by s)) (prepared : IsPrepared s p) (same : placeless_entry e ≡ placeless_entry p.entry)
+same_session : (s : StoreState) (p : PreparedChange) (e : LogEntry) (was : IsConsistent (kept_by s)) (prepared : IsPreparedChange s p) (same : placeless_entry e ≡ placeless_entry p.entry)
     → IsSame p.settled (entry_acts s p e was prepared same).session
 same_session s p e was prepared same =
     let is = entry_acts s p e was prepared same in
@@ -197,7 +197,7 @@ module _ {D : Type 0} (tells : Bool) (held : D → Files) (moment : D → ℕ) (
       is_added moment images held s new p e old mid slots has.works (has.kept.log has.unfailed) (has.kept.holds has.unfailed) has.grows has.consistent has.prepared has.same has.live
       (digests_stay s (held old) (held mid) p.settled.placed has.live follows (has.digests told)) (logged.left mid told) (logged.sizes told) logged.placed.shared (really_placed told) logged.kept logged.lot (logged.events.ready told).has
 
-  added_holds : (c : Files) → IsTrue tells → Adds number e (held mid) c → Holds new c
+  added_holds : (c : Files) → IsTrue tells → AddsEntry number e (held mid) c → FilesHold new c
   added_holds c told added =
       holds_new moment images held s new number e old mid end has.works (has.kept.log has.unfailed) (has.kept.holds has.unfailed) has.grows logged.numbered (logged.left mid told) (added_entry told) c added
 
@@ -212,13 +212,13 @@ module _ {D : Type 0} (tells : Bool) (held : D → Files) (moment : D → ℕ) (
   pub logged_claims : Since moment images old end (GrowingClaims moment images s.slots old)
   logged_claims = claims_logged moment images held s.slots s.events old mid has.grows number e end logged.logged tells (logged.told end) (logged.left mid)
 
-  pub acknowledged_claims : InEach (images end (moment end)) (Adds number e (held mid)) → IsTrue tells → ClaimsGrow s.slots (held old) (held end)
+  pub acknowledged_claims : InEach (images end (moment end)) (AddsEntry number e (held mid)) → IsTrue tells → ClaimsGrow s.slots (held old) (held end)
   acknowledged_claims added told = claims_acknowledged s.slots s.events number e (held old) (held mid) (held end) (has.held_grows told) (added (held end) (logged.left end told))
 
   abbrev behind : State → State
   behind state = state_after (content_in (held old)) state p.settled
 
-  events_behind : (c : Files) → IsTrue tells → Adds number e (held mid) c → (events : List Event) → events_in (held old) (kept_by s).last_event ≡ Ok events
+  events_behind : (c : Files) → IsTrue tells → AddsEntry number e (held mid) c → (events : List Event) → events_in (held old) (kept_by s).last_event ≡ Ok events
       → events_in c (entry_acts s p e has.consistent has.prepared has.same).session.last_event ≡ Ok (events ++ p.settled.events)
   events_behind c told added events are =
       ap (events_in c) last_known
@@ -226,7 +226,7 @@ module _ {D : Type 0} (tells : Bool) (held : D → Files) (moment : D → ℕ) (
       ∙ logged.events.added told events (ap (events_in (held old)) (sym has.works.last_event) ∙ are)
       ∙ ap (λ (l : List Event). events_are (events ++ l)) has.prepared.events
 
-  pub state_logged : (state : State) (c : Files) → EachStandsFor (flow_in (kept_by s)) s.lot state (images old (moment old)) → IsTrue tells → Adds number e (held mid) c
+  pub state_logged : (state : State) (c : Files) → EachStandsFor (flow_in (kept_by s)) s.lot state (images old (moment old)) → IsTrue tells → AddsEntry number e (held mid) c
       → stands_for (flow_in (kept_by s)) s.lot c ≡ of_state (behind state)
   state_logged state c stands told added =
       let is = entry_acts s p e has.consistent has.prepared has.same in
@@ -242,11 +242,11 @@ module _ {D : Type 0} (tells : Bool) (held : D → Files) (moment : D → ℕ) (
   pub logged_states : (state : State) → EachStandsFor (flow_in (kept_by s)) s.lot state (images old (moment old))
       → Since moment images old end (λ c. (stands_for (flow_in (kept_by s)) s.lot c ≡ of_state state) ⊎ (stands_for (flow_in (kept_by s)) s.lot c ≡ of_state (behind state)))
   logged_states state stands =
-      wider_where_left moment images old end (λ c. After (Follows s) (images old (moment old)) c ⊎ Adds number e (held mid) c)
+      wider_where_left moment images old end (λ c. After (Follows s) (images old (moment old)) c ⊎ AddsEntry number e (held mid) c)
       (λ c. (stands_for (flow_in (kept_by s)) s.lot c ≡ of_state state) ⊎ (stands_for (flow_in (kept_by s)) s.lot c ≡ of_state (behind state)))
       (since_either moment images held s new number e old mid end has.works (has.kept.holds has.unfailed) has.grows logged.logged) by_end
     where
-      by_end : (k : ℕ) (c : Files) → images end k c → After (Follows s) (images old (moment old)) c ⊎ Adds number e (held mid) c
+      by_end : (k : ℕ) (c : Files) → images end k c → After (Follows s) (images old (moment old)) c ⊎ AddsEntry number e (held mid) c
           → (stands_for (flow_in (kept_by s)) s.lot c ≡ of_state state) ⊎ (stands_for (flow_in (kept_by s)) s.lot c ≡ of_state (behind state))
       by_end k c image (inl after) =
           inl (state_following s state after.0 c has.works (has.kept.log has.unfailed after.0 after.1) after.2 (has.kept.holds has.unfailed after.0 after.1) (stands after.0 after.1))
@@ -269,11 +269,11 @@ module _ {D : Type 0} (tells : Bool) (held : D → Files) (moment : D → ℕ) (
   claims_grown given sizes = omega (arith, logged.placed.grown, bytes_same given slots sizes)
 
   -- once the log has answered
-  pub acknowledged_state : (state : State) → EachStandsFor (flow_in (kept_by s)) s.lot state (images old (moment old)) → InEach (images end (moment end)) (Adds number e (held mid))
+  pub acknowledged_state : (state : State) → EachStandsFor (flow_in (kept_by s)) s.lot state (images old (moment old)) → InEach (images end (moment end)) (AddsEntry number e (held mid))
       → EachStandsFor (flow_in (kept_by s)) s.lot (behind state) (images end (moment end))
   acknowledged_state state stands added c image = state_logged state c stands (logged.told end (moment end) c image) (added c image)
 
-  pub acknowledged_kept : InEach (images end (moment end)) (Adds number e (held mid)) → InEach (images end (moment end)) (IsReadyIn new.log)
+  pub acknowledged_kept : InEach (images end (moment end)) (AddsEntry number e (held mid)) → InEach (images end (moment end)) (IsReadyIn new.log)
       → new.entries ≡ min (s.entries + 1) (2 ^ 64 - 1) → ((k : ℕ) → size_of new.slots k ≡ size_of slots k) → IsKeptOn tells held moment images new end
   acknowledged_kept added ready more sizes =
       kept_added tells moment images held s new number e old mid end slots has.works (has.kept.log has.unfailed) (has.kept.holds has.unfailed) has.grows logged.numbered
@@ -295,11 +295,11 @@ module _ {D : Type 0} (tells : Bool) (held : D → Files) (moment : D → ℕ) (
       sizes kept log slots_are opened
 
 -- the events of the change are counted
-pub events_counted : (inside s : StoreState) (change p : PreparedChange) (known : EventsState) → inside ≡ s → change ≡ p → IsPrepared s p → IsAppended change.events.events inside.events known → IsAppended p.settled.events s.events known
+pub events_counted : (inside s : StoreState) (change p : PreparedChange) (known : EventsState) → inside ≡ s → change ≡ p → IsPreparedChange s p → EventsAreAppended change.events.events inside.events known → EventsAreAppended p.settled.events s.events known
 events_counted inside s change p known view p_view prepared appended =
-    subst (λ (l : List Event). IsAppended l s.events known) prepared.events
-    (subst (λ (c : PreparedChange). IsAppended c.events.events s.events known) p_view
-    (subst (λ (t : StoreState). IsAppended change.events.events t.events known) view appended))
+    subst (λ (l : List Event). EventsAreAppended l s.events known) prepared.events
+    (subst (λ (c : PreparedChange). EventsAreAppended c.events.events s.events known) p_view
+    (subst (λ (t : StoreState). EventsAreAppended change.events.events t.events known) view appended))
 
 -- the contents of the files that go may be given up
 pub may_give_up : {D : Type 0} (tells : Bool) (held : D → Files) (moment : D → ℕ) (images : D → ℕ → Files → Type 0) (s : StoreState) (p : PreparedChange) (e : LogEntry) (old mid : D) (slots : List Slot)

@@ -13,11 +13,11 @@ use Rattle.flowfile_record.specs.declared.stored.Fresh.TheVariants.{As}
 use Rattle.flowfile_record.specs.declared.stored.Placed.{Placed}
 use Rattle.record_codec.specs.Placeless.{placeless}
 use Rattle.record_codec.specs.declared.entry.LogEntry.{LogEntry}
-use Rattle.content_repo.specs.Slots.{size_of, references_to, taken, HasRoom}
+use Rattle.content_repo.specs.Slots.{size_of, references_to, taken, SlotsHaveRoom}
 use Rattle.content_repo.specs.declared.slot.Slot.{Slot}
 use Rattle.kept_state.specs.Changes.{placed_in, record_of}
 use Rattle.store_core.specs.Change.{IsFresh, fresh_sizes_of}
-use Rattle.store_core.specs.Placing.{bytes_in, IsPlacedAs, ArePlaced, HoldsMore, IsHeldIn, IsRecordedAt, MayPlace, MayPlaceOne, MayShare, PlacesOne, PlacesAll, GrowsBehind, ReferAlike, StaysStored, references_of}
+use Rattle.store_core.specs.Placing.{bytes_in, IsPlacedAs, ArePlaced, HoldsMore, IsHeldIn, IsRecordedAt, MayPlace, MayPlaceOne, MayShare, PlacesOne, PlacesAll, ClaimsGrowBehind, ReferAlike, StaysStored, references_of}
 use Rattle.store_core.proofs.Growing.{same_grown}
 use Rattle.store_core.proofs.Sharing.{may_share, refer_next, refer_none, zip_wider}
 use Rattle.store_core.proofs.Sound.{content_of}
@@ -30,7 +30,7 @@ zip_push R (a ∷ xs) (b ∷ ys) x y all r = (all.0, zip_push R xs ys x y all.1 
 
 -- where claims grow, what was placed is placed still
 pub placed_still : (tells : Bool) (slots more : List Slot) (old new : Files) (placed : List Placed) (files : List ActiveFile)
-    → ((k : ℕ) → size_of slots k ≤ size_of more k) → (IsTrue tells → GrowsBehind slots old new)
+    → ((k : ℕ) → size_of slots k ≤ size_of more k) → (IsTrue tells → ClaimsGrowBehind slots old new)
     → ArePlaced tells slots old placed files → ArePlaced tells more new placed files
 placed_still tells slots more old new placed files sizes grows =
     zip_wider (IsPlacedAs tells slots old) (IsPlacedAs tells more new) placed files
@@ -53,14 +53,14 @@ pub record IsPlacedTo (tells : Bool) (all : List Placed) (start slots : List Slo
   pub shared : ReferAlike (take i all) done
   pub holds : HoldsMore done start slots
   pub grown : bytes_in slots + sum (fresh_sizes_of (drop i all)) ≡ bytes_in start + sum (fresh_sizes_of all)
-  pub room : HasRoom slots (fresh_sizes_of (drop i all))
+  pub room : SlotsHaveRoom slots (fresh_sizes_of (drop i all))
 
 references-more : (k : ℕ) (done : List ActiveFile) (a : ActiveFile) → references_to k (map content_of (done ++ a ∷ [])) ≡ references_to k (map content_of done) + references_to k (map content_of (a ∷ []))
 references-more k done a =
     ap (references_to k) (map-append content_of done (a ∷ []))
     ∙ sum_by-append (λ (r : ContentRef). cond (eqb r.slot k) 1 0) (map content_of done) (content_of a ∷ [])
 
-pub placed_none : (tells : Bool) (placed : List Placed) (slots : List Slot) (files : Files) (entry : LogEntry) → placed_in entry ≡ map record_of placed → HasRoom slots (fresh_sizes_of placed)
+pub placed_none : (tells : Bool) (placed : List Placed) (slots : List Slot) (files : Files) (entry : LogEntry) → placed_in entry ≡ map record_of placed → SlotsHaveRoom slots (fresh_sizes_of placed)
     → IsPlacedTo tells placed slots slots files entry 0
 placed_none tells placed slots files entry recorded room = record {
   done = [];
@@ -85,7 +85,7 @@ split_at placed i p lt here =
     drop-cons placed i p lt ∙ ap (λ (q : Placed). q ∷ drop (suc i) placed) (sym here) ∙ ap (λ (n : ℕ). p ∷ drop n placed) (sym (add-one i))
 
 pub placed_next : (tells : Bool) (placed : List Placed) (start slots more : List Slot) (old new : Files) (before after : LogEntry) (i : ℕ) (p : Placed) → AreShared placed → i < length placed → p ≡ get_or placed i p
-    → IsPlacedTo tells placed start slots old before i → PlacesOne tells new i p slots more before after → (IsTrue tells → GrowsBehind slots old new)
+    → IsPlacedTo tells placed start slots old before i → PlacesOne tells new i p slots more before after → (IsTrue tells → ClaimsGrowBehind slots old new)
     → IsPlacedTo tells placed start more new after (i + 1)
 placed_next tells placed start slots more old new before after i p shared lt here so_far one grows =
     let rest = drop (i + 1) placed in
@@ -115,10 +115,10 @@ placed_next tells placed start slots more old new before after i p shared lt her
             ap {B = ℕ} sum (ap fresh_sizes_of split ∙ sizes-cons p rest),
             sum_by-append (λ (n : ℕ). n) (fresh_sizes_of (p ∷ [])) (fresh_sizes_of rest),
           );
-      room = one.room (fresh_sizes_of rest) (subst (HasRoom slots) (ap fresh_sizes_of split ∙ sizes-cons p rest) so_far.room);
+      room = one.room (fresh_sizes_of rest) (subst (SlotsHaveRoom slots) (ap fresh_sizes_of split ∙ sizes-cons p rest) so_far.room);
     }
 
-room_front : (sizes more : List ℕ) (slots : List Slot) → HasRoom slots (sizes ++ more) → HasRoom slots sizes
+room_front : (sizes more : List ℕ) (slots : List Slot) → SlotsHaveRoom slots (sizes ++ more) → SlotsHaveRoom slots sizes
 room_front [] more slots room = tt
 room_front (n ∷ sizes) more slots room = (room.0, room.1, room_front sizes more (taken slots room.0 (size_of slots room.0 + n)) room.2)
 
@@ -147,7 +147,7 @@ may_next tells placed start slots files entry i p lt here may so_far =
       fresh = subst IsFresh (sym here) (may.fresh i p lt);
       room =
           room_front (fresh_sizes_of (p ∷ [])) (fresh_sizes_of (drop (i + 1) placed)) slots
-          (subst (HasRoom slots) (ap fresh_sizes_of split ∙ sizes-cons p (drop (i + 1) placed)) so_far.room);
+          (subst (SlotsHaveRoom slots) (ap fresh_sizes_of split ∙ sizes-cons p (drop (i + 1) placed)) so_far.room);
       old = λ none.
           still_held_in start slots so_far.done p.file.content so_far.holds
           ((subst (λ (q : Placed). is_stored q.fresh ≡ true → IsHeldIn start q.file.content) (sym here) (may.old i p lt)) none);

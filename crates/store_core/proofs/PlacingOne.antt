@@ -17,9 +17,9 @@ use Rattle.record_codec.specs.declared.entry.LogEntry.{LogEntry}
 use Rattle.record_codec.specs.declared.entry.LogEntry.TheVariants.{Begin, Session, Expire, SwapOut, SwapIn}
 use Rattle.content_repo.specs.Append.{IsAppended, MayAppend}
 use Rattle.content_repo.specs.Claims.{content_in}
-use Rattle.content_repo.specs.Slots.{count_of, size_of, held_in, end_of, with_count, taken, next_slot, HasRoom}
+use Rattle.content_repo.specs.Slots.{count_of, size_of, held_in, end_of, slot_with_count, taken, next_slot, SlotsHaveRoom}
 use Rattle.content_repo.specs.declared.slot.Slot.{Slot}
-use Rattle.kept_state.specs.Changes.{placed_in, record_of, at_content, with_content, with_content_at, HasContentLike}
+use Rattle.kept_state.specs.Changes.{placed_in, record_of, at_content, entry_with_content, with_content_at, HasContentLike}
 use Rattle.store_core.specs.Change.{IsFresh, fresh_sizes_of}
 use Rattle.store_core.specs.Placing.{IsHeldIn, MayPlaceOne, MayShare, IsRecordedAt, PlacesOne, references_of}
 use Rattle.store_core.proofs.Referring.{appended, bytes_same, held_more, refers_once, one_of}
@@ -65,7 +65,7 @@ with_at : (front back : List ActiveFile) (a : ActiveFile) (at : ContentRef) → 
 with_at [] back a at = refl
 with_at (b ∷ front) back a at = ap (λ (l : List ActiveFile). b ∷ l) (with_at front back a at)
 
-placed_with : (e : LogEntry) (place : ℕ) (at : ContentRef) → placed_in (with_content e place at) ≡ with_content_at place at (placed_in e)
+placed_with : (e : LogEntry) (place : ℕ) (at : ContentRef) → placed_in (entry_with_content e place at) ≡ with_content_at place at (placed_in e)
 placed_with (Session s) place at = refl
 placed_with (Begin log) place at = refl
 placed_with (Expire e) place at = refl
@@ -80,7 +80,7 @@ at_record p at = by (is_stored p.fresh)
     by false = refl
 
 recorded_with : (place : ℕ) (at : ContentRef) (p : Placed) (front back : List ActiveFile) (before after : LogEntry) → length front ≡ place → placed_in before ≡ front ++ record_of p ∷ back
-    → after ≡ with_content before place at → placed_in after ≡ front ++ at_content at (active p.connection p.file) ∷ back
+    → after ≡ entry_with_content before place at → placed_in after ≡ front ++ at_content at (active p.connection p.file) ∷ back
 recorded_with place at p front back before after long is_at changed =
     ap placed_in changed ∙ placed_with before place at
     ∙ ap (λ (n : ℕ). with_content_at n at (placed_in before)) (sym long)
@@ -94,7 +94,7 @@ recorded_with place at p front back before after long is_at changed =
 module _ (tells : Bool) (files : Files) (place : ℕ) (p : Placed) (old new : List Slot) (at : ContentRef) (before after : LogEntry) where
   held_placed : own_bytes p.fresh ≡ None → (is_stored p.fresh ≡ true → at ≡ p.file.content) → at.size ≡ p.file.content.size → at.digest ≡ p.file.content.digest → IsHeldIn old at
       → ((of : ℕ) → p.fresh ≡ As of → slice_get (references_of (placed_in before)) of ≡ Some at)
-      → new ≡ with_count old at.slot (count_of old at.slot + 1) → held_in new ≡ held_in old + 1
+      → new ≡ slot_with_count old at.slot (count_of old at.slot + 1) → held_in new ≡ held_in old + 1
       → ((front back : List ActiveFile) → length front ≡ place → placed_in before ≡ front ++ record_of p ∷ back → placed_in after ≡ front ++ at_content at (active p.connection p.file) ∷ back)
       → PlacesOne tells files place p old new before after
   held_placed none stored size digest is shared value held entry =
@@ -118,13 +118,13 @@ module _ (tells : Bool) (files : Files) (place : ℕ) (p : Placed) (old new : Li
           sizes = λ k. omega (arith, (more k).1);
         };
         grown = omega (arith, bytes_same new old (λ k. (more k).1), ap {B = ℕ} sum (sizes_own p None none));
-        room = λ sizes room. room_alike sizes old new alike (subst (λ (l : List ℕ). HasRoom old (l ++ sizes)) (sizes_own p None none) room);
+        room = λ sizes room. room_alike sizes old new alike (subst (λ (l : List ℕ). SlotsHaveRoom old (l ++ sizes)) (sizes_own p None none) room);
         entry = entry;
       }
 
 -- one that is in the store
 pub old_placed : (tells : Bool) (files : Files) (place : ℕ) (p : Placed) (old new : List Slot) (e : LogEntry) → is_stored p.fresh ≡ true → IsHeldIn old p.file.content
-    → new ≡ with_count old p.file.content.slot (count_of old p.file.content.slot + 1) → held_in new ≡ held_in old + 1 → PlacesOne tells files place p old new e e
+    → new ≡ slot_with_count old p.file.content.slot (count_of old p.file.content.slot + 1) → held_in new ≡ held_in old + 1 → PlacesOne tells files place p old new e e
 old_placed tells files place p old new e stored is value held =
     held_placed tells files place p old new p.file.content e e (stored_own p.fresh stored) (λ _. refl) refl refl is
     (λ of h. absurd (let both : false ≡ true = sym (ap is_stored h) ∙ stored in cc)) value held
@@ -132,7 +132,7 @@ old_placed tells files place p old new e stored is value held =
 
 -- one that an earlier file of the change has
 pub shared_placed : (tells : Bool) (files : Files) (place of : ℕ) (p : Placed) (old new : List Slot) (at : ContentRef) (before after : LogEntry) → p.fresh ≡ As of → MayShare old (placed_in before) p of
-    → slice_get (references_of (placed_in before)) of ≡ Some at → new ≡ with_count old at.slot (count_of old at.slot + 1) → held_in new ≡ held_in old + 1 → after ≡ with_content before place at
+    → slice_get (references_of (placed_in before)) of ≡ Some at → new ≡ slot_with_count old at.slot (count_of old at.slot + 1) → held_in new ≡ held_in old + 1 → after ≡ entry_with_content before place at
     → PlacesOne tells files place p old new before after
 shared_placed tells files place of p old new at before after from may there value held changed =
     let both : Some at ≡ Some may.at = sym there ∙ may.there in
@@ -161,7 +161,7 @@ share_held of p slots files at may there =
 pub may_append : (slots : List Slot) (p : Placed) (bytes : List ℕ) → p.fresh ≡ Bytes bytes → MayPlaceOne slots p → MayAppend slots bytes p.file.content.digest
 may_append slots p bytes some may =
     let f = may.fresh bytes some in
-    record { size = f.0; hashed = f.2; room = subst (HasRoom slots) (sizes_some p bytes some) may.room; few = may.few }
+    record { size = f.0; hashed = f.2; room = subst (SlotsHaveRoom slots) (sizes_some p bytes some) may.room; few = may.few }
 
 pub new_encoded : (p : Placed) (bytes : List ℕ) (old new : List Slot) (at : ContentRef) → p.fresh ≡ Bytes bytes → IsFresh p → IsAppended bytes p.file.content.digest old new at → IsContentRef at
 new_encoded p bytes old new at some fresh is =
@@ -178,15 +178,15 @@ pub like_recorded : (place : ℕ) (p : Placed) (files : List ActiveFile) (bytes 
 like_recorded place p files bytes old new at recorded some fresh is =
     let f = fresh bytes some in like_record place p files at recorded (is.size ∙ sym f.1) is.hashed
 
-room_behind : (n : ℕ) (sizes : List ℕ) (bytes digest : List ℕ) (old new : List Slot) (at : ContentRef) → n ≡ length bytes → IsAppended bytes digest old new at → HasRoom old (n ∷ sizes) → HasRoom new sizes
+room_behind : (n : ℕ) (sizes : List ℕ) (bytes digest : List ℕ) (old new : List Slot) (at : ContentRef) → n ≡ length bytes → IsAppended bytes digest old new at → SlotsHaveRoom old (n ∷ sizes) → SlotsHaveRoom new sizes
 room_behind n sizes bytes digest old new at same is room =
     let both : Some room.0 ≡ Some at.slot = sym room.1 ∙ is.slot in
     let slot : room.0 ≡ at.slot = cc in
     let ends : size_of old at.slot + n ≡ end_of at = omega (arith, is.offset, is.size, same) in
-    subst (λ (l : List Slot). HasRoom l sizes) (ap (λ (k : ℕ). taken old k (size_of old k + n)) slot ∙ ap (taken old at.slot) ends ∙ sym is.slots) room.2
+    subst (λ (l : List Slot). SlotsHaveRoom l sizes) (ap (λ (k : ℕ). taken old k (size_of old k + n)) slot ∙ ap (taken old at.slot) ends ∙ sym is.slots) room.2
 
 pub new_placed : (tells : Bool) (files : Files) (place : ℕ) (p : Placed) (bytes : List ℕ) (old new : List Slot) (at : ContentRef) (before after : LogEntry) → p.fresh ≡ Bytes bytes → IsFresh p
-    → IsAppended bytes p.file.content.digest old new at → (IsTrue tells → content_in files at ≡ bytes) → after ≡ with_content before place at → PlacesOne tells files place p old new before after
+    → IsAppended bytes p.file.content.digest old new at → (IsTrue tells → content_in files at ≡ bytes) → after ≡ entry_with_content before place at → PlacesOne tells files place p old new before after
 new_placed tells files place p bytes old new at before after some fresh is stands changed =
     let f = fresh bytes some in
     let a = at_content at (active p.connection p.file) in
@@ -209,11 +209,11 @@ new_placed tells files place p bytes old new at before after some fresh is stand
         sizes = more.sizes;
       };
       grown = omega (arith, more.bytes, is.size, ap {B = ℕ} sum (sizes_some p bytes some));
-      room = λ sizes room. room_behind (length bytes) sizes bytes p.file.content.digest old new at refl is (subst (λ (l : List ℕ). HasRoom old (l ++ sizes)) (sizes_some p bytes some) room);
+      room = λ sizes room. room_behind (length bytes) sizes bytes p.file.content.digest old new at refl is (subst (λ (l : List ℕ). SlotsHaveRoom old (l ++ sizes)) (sizes_some p bytes some) room);
       entry = λ front back long is_at. recorded_with place at p front back before after long is_at changed;
     }
 
 -- ---- the slot that a new content goes to
 
-pub next_of : (slots : List Slot) (p : Placed) (bytes : List ℕ) → p.fresh ≡ Bytes bytes → HasRoom slots (fresh_sizes_of (p ∷ [])) → (k : ℕ) × (next_slot slots ≡ Some k)
-next_of slots p bytes some room = let r = subst (HasRoom slots) (sizes_some p bytes some) room in (r.0, r.1)
+pub next_of : (slots : List Slot) (p : Placed) (bytes : List ℕ) → p.fresh ≡ Bytes bytes → SlotsHaveRoom slots (fresh_sizes_of (p ∷ [])) → (k : ℕ) × (next_slot slots ≡ Some k)
+next_of slots p bytes some room = let r = subst (SlotsHaveRoom slots) (sizes_some p bytes some) room in (r.0, r.1)

@@ -7,7 +7,7 @@ use Rattle.std.proofs.Math.ListN.{get_or-map}
 use Rattle.disk_trait.specs.Files.{Files}
 use Rattle.flowfile_record.specs.declared.content.ContentRef.{ContentRef}
 use Rattle.content_repo.specs.Claims.{claim, IdleShortened}
-use Rattle.content_repo.specs.Slots.{count_of, size_of, slot_at, is_idle, end_of, references_to, reclaimed, unused, held_in}
+use Rattle.content_repo.specs.Slots.{count_of, size_of, slot_numbered, is_idle, end_of, references_to, reclaimed, unused, held_in}
 use Rattle.content_repo.specs.declared.slot.Slot.{Slot}
 use Rattle.store_core.specs.Agreement.{SameContent}
 use Rattle.disk_trait.specs.Images.{After, Since}
@@ -16,7 +16,7 @@ use Rattle.content_repo.specs.Claims.{HasSizes}
 use Rattle.content_repo.specs.Slots.{IsReclaimed}
 use Rattle.content_repo.specs.declared.reclaim.Reclaimed.{Reclaimed}
 use Rattle.flowfile_wal.specs.Calls.{InEach}
-use Rattle.store_core.specs.Store.{StoreState, IsWorking, IsSound, live_in, Holds, HasLog, IsKeptOn}
+use Rattle.store_core.specs.Store.{StoreState, IsWorking, IsSoundStore, live_in, FilesHold, HasLog, IsKeptOn}
 use Rattle.store_core.proofs.ClaimsAlone.{events_stay, has_log_still, holds_still}
 use Rattle.store_core.proofs.EventsStay.{trimmed_same}
 
@@ -63,16 +63,16 @@ count_kept slot = by (is_idle slot) refl
     by true is = sym (idle_count slot is)
     by false is = refl
 
-pub slot_reclaimed : (slots : List Slot) (k : ℕ) → slot_at (map reclaimed slots) k ≡ reclaimed (slot_at slots k)
+pub slot_reclaimed : (slots : List Slot) (k : ℕ) → slot_numbered (map reclaimed slots) k ≡ reclaimed (slot_numbered slots k)
 slot_reclaimed slots k = get_or-map reclaimed slots k unused
 
 pub count_reclaimed : (slots : List Slot) (k : ℕ) → count_of (map reclaimed slots) k ≡ count_of slots k
-count_reclaimed slots k = ap (λ (slot : Slot). slot.count) (slot_reclaimed slots k) ∙ count_kept (slot_at slots k)
+count_reclaimed slots k = ap (λ (slot : Slot). slot.count) (slot_reclaimed slots k) ∙ count_kept (slot_numbered slots k)
 
 pub size_reclaimed : (slots : List Slot) (k : ℕ) → 0 < count_of slots k → size_of (map reclaimed slots) k ≡ size_of slots k
 size_reclaimed slots k some =
     ap (λ (slot : Slot). slot.size) (slot_reclaimed slots k)
-    ∙ ap (λ (b : Bool). (cond b unused (slot_at slots k)).size) (not_idle (slot_at slots k) some)
+    ∙ ap (λ (b : Bool). (cond b unused (slot_numbered slots k)).size) (not_idle (slot_numbered slots k) some)
 
 -- ---- what a store knows
 
@@ -111,18 +111,18 @@ pub live_stay : (s : StoreState) (old new : Files) → IsWorking s → IdleShort
 live_stay s old new works step = λ i d lt.
     let at = get_or (live_in s) i d in
     same_claim old new at
-    (unmatched (is_idle (slot_at s.slots at.slot)) _ _ (not_idle (slot_at s.slots at.slot) (counted s works i d lt)) (step.claims at.slot))
+    (unmatched (is_idle (slot_numbered s.slots at.slot)) _ _ (not_idle (slot_numbered s.slots at.slot) (counted s works i d lt)) (step.claims at.slot))
 
 -- ---- a call that empties idle claims
 
-pub holds_reclaimed : (s : StoreState) (old new : Files) → IsWorking s → IdleShortened s.slots old new → HasLog s old → Holds s old → Holds s new
+pub holds_reclaimed : (s : StoreState) (old new : Files) → IsWorking s → IdleShortened s.slots old new → HasLog s old → FilesHold s old → FilesHold s new
 holds_reclaimed s old new works step log holds = holds_still s old new step.others log (live_stay s old new works step) holds
 
 module _ {D : Type 0} (moment : D → ℕ) (images : D → ℕ → Files → Type 0) (s : StoreState) (old new : D) where
-  pub since_reclaimed : IsWorking s → InEach (images old (moment old)) (Holds s) → InEach (images old (moment old)) (HasLog s)
-      → Since moment images old new (After (IdleShortened s.slots) (images old (moment old))) → Since moment images old new (Holds s)
+  pub since_reclaimed : IsWorking s → InEach (images old (moment old)) (FilesHold s) → InEach (images old (moment old)) (HasLog s)
+      → Since moment images old new (After (IdleShortened s.slots) (images old (moment old))) → Since moment images old new (FilesHold s)
   since_reclaimed works holds log since =
-      wider moment images old new (After (IdleShortened s.slots) (images old (moment old))) (Holds s) since
+      wider moment images old new (After (IdleShortened s.slots) (images old (moment old))) (FilesHold s) since
       (λ c after. holds_reclaimed s after.0 c works after.2 (log after.0 after.1) (holds after.0 after.1))
 
   pub log_reclaimed : InEach (images old (moment old)) (HasLog s)
@@ -135,13 +135,13 @@ module _ {D : Type 0} (moment : D → ℕ) (images : D → ℕ → Files → Typ
       → Since moment images old new (After (IdleShortened s.slots) (images old (moment old)))
       → (IsTrue tells → IdleShortened s.slots (held old) (held new)) → (IsTrue tells → HasSizes slots (held new)) → IsKeptOn tells held moment images (record s { slots = slots }) new
   kept_reclaimed tells held slots works works_on kept since shortened sizes = record {
-    holds = λ f c left. let h = at_the_end moment images old new (Holds s) (since_reclaimed works (kept.holds works_on) (kept.log works_on) since) c left in record { kept = h.kept; contents = h.contents; events = h.events };
+    holds = λ f c left. let h = at_the_end moment images old new (FilesHold s) (since_reclaimed works (kept.holds works_on) (kept.log works_on) since) c left in record { kept = h.kept; contents = h.contents; events = h.events };
     log = λ f c left. let h = log_reclaimed (kept.log works_on) since c left in record { ready = h.ready; entries = h.entries };
     sizes = λ f told. sizes told;
     trimmed = λ f told. trimmed_same s.events.end (held old) (held new) (events_stay (held old) (held new) (shortened told).others) (kept.trimmed works_on told);
   }
 
-pub sound_reclaimed : (s : StoreState) (slots : List Slot) (answer : Reclaimed) → IsSound s → s.failed ≡ false → IsReclaimed s.slots slots answer → IsSound (record s { slots = slots })
+pub sound_reclaimed : (s : StoreState) (slots : List Slot) (answer : Reclaimed) → IsSoundStore s → s.failed ≡ false → IsReclaimed s.slots slots answer → IsSoundStore (record s { slots = slots })
 sound_reclaimed s slots answer sound works is = record {
   current = sound.current;
   mended = sound.mended;

@@ -5,7 +5,7 @@ use Rattle.std.proofs.lemmas.List.{get_or_past, set_past, take-append-drop}
 use Rattle.std.proofs.lemmas.List.Sums.{sum_by_more, sum_by-append, sum_by-cons, sum_by-set}
 use Rattle.flowfile_record.specs.declared.content.ContentRef.{ContentRef}
 use Rattle.content_repo.specs.Append.{IsAppended}
-use Rattle.content_repo.specs.Slots.{count_of, size_of, held_in, references_to, end_of, with_count, unused, is_live}
+use Rattle.content_repo.specs.Slots.{count_of, size_of, held_in, references_to, end_of, slot_with_count, unused, is_live}
 use Rattle.content_repo.specs.declared.slot.Slot.{Slot}
 use Rattle.store_core.specs.Placing.{bytes_in}
 use Rattle.store_core.proofs.Reclaiming.{references-cons}
@@ -96,7 +96,7 @@ size_here slots j new within = ap (λ (slot : Slot). slot.size) (get_or-set_same
 
 -- ---- one reference less
 
-pub unheld : (slots new : List Slot) (at : ContentRef) (k : ℕ) → 0 < count_of slots at.slot → new ≡ with_count slots at.slot (count_of slots at.slot - 1)
+pub unheld : (slots new : List Slot) (at : ContentRef) (k : ℕ) → 0 < count_of slots at.slot → new ≡ slot_with_count slots at.slot (count_of slots at.slot - 1)
     → (count_of new k + one_of at.slot k ≡ count_of slots k) × (size_of new k ≡ size_of slots k)
 unheld slots new at k some is =
     let slot : Slot = record { live = is_live slots at.slot; count = count_of slots at.slot - 1; size = size_of slots at.slot } in
@@ -106,7 +106,7 @@ unheld slots new at k some is =
     )
 
 -- one more
-pub held_more : (slots new : List Slot) (at : ContentRef) (k : ℕ) → 0 < count_of slots at.slot → new ≡ with_count slots at.slot (count_of slots at.slot + 1)
+pub held_more : (slots new : List Slot) (at : ContentRef) (k : ℕ) → 0 < count_of slots at.slot → new ≡ slot_with_count slots at.slot (count_of slots at.slot + 1)
     → (count_of new k ≡ count_of slots k + one_of at.slot k) × (size_of new k ≡ size_of slots k)
 held_more slots new at k some is =
     let slot : Slot = record { live = is_live slots at.slot; count = count_of slots at.slot + 1; size = size_of slots at.slot } in (

@@ -5,8 +5,8 @@ use Rattle.disk_trait.specs.declared.file_name.DiskError.{DiskError}
 use Rattle.checkpoint_store.specs.declared.error.CheckError.{CheckError}
 use Rattle.content_repo.specs.declared.error.ContentError.{ContentError}
 use Rattle.flowfile_wal.specs.declared.error.LogError.{LogError}
-use Rattle.store_core.specs.Calls.{IsDiskOrMemory, IsReadRefusal}
-use Rattle.store_core.specs.Errors.{of_disk, of_log, of_check, of_content}
+use Rattle.store_core.specs.Calls.{IsDiskOrMemory, IsDiskMemoryOrDamage}
+use Rattle.store_core.specs.Errors.{disk_store_error, of_log, of_check, of_content}
 use Rattle.store_core.specs.declared.error.StoreError.{StoreError}
 
 pub log_damaged : (e : LogError) (damage : Damage) → of_log e ≡ StoreError.Damaged damage → e ≡ LogError.Damaged damage
@@ -31,16 +31,16 @@ content_memory ContentError.Memory is = refl
 content_memory ContentError.SlotsFull is = absurd cc
 content_memory (ContentError.Damaged other) is = absurd cc
 
-pub disk_refuses : (e : DiskError) → IsDiskOrMemory (of_disk e)
+pub disk_refuses : (e : DiskError) → IsDiskOrMemory (disk_store_error e)
 disk_refuses DiskError.Failed = inl refl
 disk_refuses DiskError.Memory = inr refl
 
-pub log_refuses : (e : LogError) → IsReadRefusal (of_log e)
+pub log_refuses : (e : LogError) → IsDiskMemoryOrDamage (of_log e)
 log_refuses LogError.Disk = inl refl
 log_refuses LogError.Memory = inr (inl refl)
 log_refuses (LogError.Damaged damage) = inr (inr (damage, refl))
 
-pub check_refuses : (e : CheckError) → IsReadRefusal (of_check e)
+pub check_refuses : (e : CheckError) → IsDiskMemoryOrDamage (of_check e)
 check_refuses CheckError.Disk = inl refl
 check_refuses CheckError.Memory = inr (inl refl)
 check_refuses (CheckError.Damaged damage) = inr (inr (damage, refl))

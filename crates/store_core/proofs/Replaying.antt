@@ -9,10 +9,10 @@ use Rattle.flowfile_record.specs.declared.stored.Counted.{Counted}
 use Rattle.flowfile_record.specs.declared.stored.SwapBatch.{SwapBatch}
 use Rattle.record_codec.specs.declared.entry.LogEntry.{LogEntry}
 use Rattle.record_codec.specs.declared.entry.LogEntry.TheVariants.{Begin, Session, Expire, SwapOut, SwapIn}
-use Rattle.kept_state.specs.Applied.{applied, swapped_out}
+use Rattle.kept_state.specs.Applied.{applied, batch_swapped_out}
 use Rattle.flowfile_record.specs.Counts.{with_count}
 use Rattle.kept_state.specs.Changes.{no_files}
-use Rattle.kept_state.specs.Fits.{fits, replayed}
+use Rattle.kept_state.specs.Fits.{entry_suits, replayed}
 use Rattle.store_core.specs.Flow.{flow_in}
 
 -- an entry, and the offset of its gate
@@ -34,7 +34,7 @@ tested fit k at = cond fit (Ok k) (Err at)
 
 -- one that doesn't fit is told, whatever is behind it
 pub misfits : (k l : Kept) (entries front more : List Logged) (at : ℕ) (e : LogEntry) → entries ≡ front ++ more
-    → replayed no_files k front ≡ cond (fits no_files l e) (Ok (applied no_files l e)) (Err at) → fits no_files l e ≡ false
+    → replayed no_files k front ≡ cond (entry_suits no_files l e) (Ok (applied no_files l e)) (Err at) → entry_suits no_files l e ≡ false
     → (replayed no_files k front ≡ Err at → replayed no_files k (front ++ more) ≡ Err at) → replayed no_files k entries ≡ Err at
 misfits k l entries front more at e whole one unfit rest =
     ap (replayed no_files k) whole ∙ rest (one ∙ ap (λ (fit : Bool). tested fit (applied no_files l e) at) unfit)
@@ -46,7 +46,7 @@ fitting false one new at is same = absurd cc
 
 -- ---- what an entry leaves
 
-pub still_plain : (k : Kept) (e : LogEntry) → k.batches ≡ [] → swapped_out e ≡ [] → fits no_files k e ≡ true → (applied no_files k e).batches ≡ []
+pub still_plain : (k : Kept) (e : LogEntry) → k.batches ≡ [] → batch_swapped_out e ≡ [] → entry_suits no_files k e ≡ true → (applied no_files k e).batches ≡ []
 still_plain k (Begin log) none out fit = none
 still_plain k (Session s) none out fit = none
 still_plain k (Expire e) none out fit = none

@@ -24,19 +24,19 @@ use Rattle.content_repo.specs.declared.slot.Slot.{Slot}
 use Rattle.content_repo.specs.Slots.{covered, count_of, size_of, held_in, end_of, references_to, IsNamed}
 use Rattle.flowfile_wal.specs.Calls.{InEach}
 use Rattle.flowfile_wal.specs.Current.{CurrentLog, current_log, current_number, log_of_number, of_some}
-use Rattle.flowfile_wal.specs.Steps.{IsReadyIn, numbered}
+use Rattle.flowfile_wal.specs.Steps.{IsReadyIn, numbered_log}
 use Rattle.machine_model.specs.State.{State}
 use Rattle.prov_store.specs.Events.{events_in}
 use Rattle.prov_store.specs.State.{EventsState, HasEvents, HasStale, CutsStale, SameEvents}
 use Rattle.prov_store.specs.declared.events.Stale.{Stale}
 use Rattle.store_core.specs.Agreement.{Needs, IsPlain, Agrees, SameContent, SameEventFiles, IsUnmade}
 use Rattle.store_core.specs.Flow.{Flow, flow_in, agrees_with}
-use Rattle.store_core.specs.Found.{IsFoundIn}
+use Rattle.store_core.specs.Found.{StoreIsFoundIn}
 use Rattle.store_core.specs.Kept.{kept_in}
-use Rattle.store_core.specs.New.{holds_from, first_from, or_else, first_stray, kept_anew, unless_stray}
-use Rattle.store_core.specs.Opened.{IsReadWhole, IsMade, SameMeaning}
+use Rattle.store_core.specs.New.{holds_from, first_from, file_or, first_stray, kept_anew, unless_stray}
+use Rattle.store_core.specs.Opened.{IsReadWhole, IsNewStore, SameMeaning}
 use Rattle.store_core.specs.State.{contents_damage, live_contents}
-use Rattle.store_core.specs.Store.{StoreState, kept_by, live_in, Holds, HasLog, IsWorking}
+use Rattle.store_core.specs.Store.{StoreState, kept_by, live_in, FilesHold, HasLog, IsWorking}
 use Rattle.store_core.specs.declared.reading.Found.{Found}
 use Rattle.store_core.proofs.Agreeing.{kept_alike, contents_sound, same_state, agreeing_kept}
 use Rattle.store_core.proofs.ClaimsAlone.{current_stays, snapshot_stays, has_log_still}
@@ -72,7 +72,7 @@ pub no_number : (files : Files) → current_log files ≡ of_log None → curren
 unfolding current_log
 no_number files is = by_number files (current_number files) is
 
-neither : (one other : Option FileName) → or_else one other ≡ None → (one ≡ None) × (other ≡ None)
+neither : (one other : Option FileName) → file_or one other ≡ None → (one ≡ None) × (other ≡ None)
 neither None other is = (refl, is)
 neither (Some file) other is = absurd cc
 
@@ -130,10 +130,10 @@ unmade_read : (flow : Flow) (lot : ℕ) (files : Files) (k : Kept) → current_l
 unmade_read flow lot files k log is =
     unmade_by files log (not_stray flow lot (first_stray files) k (sym (kept_by_no_log flow lot files log) ∙ is))
 
-pub unmade_found : (lot : ℕ) (files : Files) (found : Found) → found.log.number ≡ None → IsFoundIn (flow_in found.state.kept) lot files found → IsUnmade files
+pub unmade_found : (lot : ℕ) (files : Files) (found : Found) → found.log.number ≡ None → StoreIsFoundIn (flow_in found.state.kept) lot files found → IsUnmade files
 unmade_found lot files found none is =
     unmade_read (flow_in found.state.kept) lot files found.state.kept
-    (is.current ∙ ap (λ (o : Option ℕ). of_log (numbered o is.entries found.log.end)) none) is.kept
+    (is.current ∙ ap (λ (o : Option ℕ). of_log (numbered_log o is.entries found.log.end)) none) is.kept
 
 -- ---- what is kept still
 
@@ -168,7 +168,7 @@ none_covers : (flow : Flow) (lot : ℕ) (k : Kept) (held c : Files) → k ≡ ke
 none_covers flow lot k held c anew =
     subst (λ (x : Kept). SameEvents x.last_event held c) (sym anew) (λ n. none_covered n c ∙ sym (none_covered n held))
 
-made_or_not_keeps : (flow : Flow) (lot : ℕ) (k : Kept) (held c : Files) → k ≡ kept_anew flow lot → IsConsistent k → IsUnmade c ⊎ IsMade k c → StillKeep flow lot k held c
+made_or_not_keeps : (flow : Flow) (lot : ℕ) (k : Kept) (held c : Files) → k ≡ kept_anew flow lot → IsConsistent k → IsUnmade c ⊎ IsNewStore k c → StillKeep flow lot k held c
 made_or_not_keeps flow lot k held c anew consistent (inl unmade) = record {
   kept = kept_unmade flow lot c unmade ∙ ap of_kept (sym anew);
   same = none_live flow lot k held c anew;
@@ -235,7 +235,7 @@ module _ {D : Type 0} (tells : Bool) (holds : D → Files) (moment : D → ℕ) 
     (told : (disk : D) (k : ℕ) (c : Files) → images disk k c → IsTrue tells) (lot : ℕ) (found : Found) (events : EventsState) (start mid : D)
     (only : IsOnly (holds start) (images start (moment start))) (whole : IsReadWhole tells lot (holds start) found events)
     (mended : (number : ℕ) (needs : Needs) → found.log.number ≡ Some number → IsPlain needs number → Since moment images start mid (After (Agrees needs) (images start (moment start))))
-    (made : found.log.number ≡ None → Since moment images start mid (λ c. IsUnmade c ⊎ IsMade found.state.kept c))
+    (made : found.log.number ≡ None → Since moment images start mid (λ c. IsUnmade c ⊎ IsNewStore found.state.kept c))
     (stay : Since moment images start mid (After SameEventFiles (images start (moment start)))) where
   abbrev keep : Kept
   keep = found.state.kept
@@ -253,7 +253,7 @@ module _ {D : Type 0} (tells : Bool) (holds : D → Files) (moment : D → ℕ) 
   log_of number t = record { number = number; entries = (whole.told t).entries; end = found.log.end }
 
   current_of : (number : ℕ) → found.log.number ≡ Some number → (t : IsTrue tells) → current_log held ≡ of_log (Some (log_of number t))
-  current_of number is t = (whole.told t).current ∙ ap (λ (o : Option ℕ). of_log (numbered o (whole.told t).entries found.log.end)) is
+  current_of number is t = (whole.told t).current ∙ ap (λ (o : Option ℕ). of_log (numbered_log o (whole.told t).entries found.log.end)) is
 
   agreed : (number : ℕ) (c : Files) → After (Agrees (plain_needs number keep)) (images start (moment start)) c → Agrees (plain_needs number keep) held c
   agreed number c after = subst (λ (d : Files). Agrees (plain_needs number keep) d c) (only after.0 after.1) after.2
@@ -267,7 +267,7 @@ module _ {D : Type 0} (tells : Bool) (holds : D → Files) (moment : D → ℕ) 
       let t = told mid k c left in
       agreeing_keeps flow lot keep held c (log_of some.0 t) (current_of some.0 some.1 t) (whole.told t).kept (agreed some.0 c after)))
       (λ (none : found.log.number ≡ None).
-      wider_where_left moment images start mid (λ c. IsUnmade c ⊎ IsMade keep c) Still (made none)
+      wider_where_left moment images start mid (λ c. IsUnmade c ⊎ IsNewStore keep c) Still (made none)
       (λ k c left either. made_or_not_keeps flow lot keep held c (whole.anew none) whole.consistent either))
       (some_or_none found.log.number)
 
@@ -282,7 +282,7 @@ module _ {D : Type 0} (tells : Bool) (holds : D → Files) (moment : D → ℕ) 
   means_mid = since_means mid since_still
 
   module _ (s : StoreState) (entries_are : s.entries ≡ found.entries)
-      (ready : InEach (images mid (moment mid)) (IsReadyIn s.log)) (is_made : found.log.number ≡ None → InEach (images mid (moment mid)) (IsMade found.state.kept)) where
+      (ready : InEach (images mid (moment mid)) (IsReadyIn s.log)) (is_made : found.log.number ≡ None → InEach (images mid (moment mid)) (IsNewStore found.state.kept)) where
     -- once it is
     pub mid_log : InEach (images mid (moment mid)) (HasLog s)
     mid_log c left = record {
@@ -338,7 +338,7 @@ module _ {D : Type 0} (tells : Bool) (holds : D → Files) (moment : D → ℕ) 
         means_end = since_means end since_trim
 
         -- once the events are trimmed
-        pub end_holds : (rest : List Stale) → s.events ≡ record events { stale = rest } → kept_by s ≡ found.state.kept → s.lot ≡ lot → InEach (images end (moment end)) (Holds s)
+        pub end_holds : (rest : List Stale) → s.events ≡ record events { stale = rest } → kept_by s ≡ found.state.kept → s.lot ≡ lot → InEach (images end (moment end)) (FilesHold s)
         end_holds rest events_are kept lot_is c left =
             let t = told end (moment end) c left in
             let still = at_the_end moment images start end Still since_trim c left in

@@ -5,7 +5,7 @@ use Rattle.std.specs.List.{prefix_len, position}
 use Rattle.std.proofs.lemmas.List.{length-map, map-set}
 use Rattle.std.proofs.Math.ListN.{get_or-map}
 use Rattle.std.proofs.Math.Seq.{map-set_same}
-use Rattle.content_repo.specs.Slots.{HasRoom, next_slot, or_else, is_open, is_free, taken, with_count, size_of, unused}
+use Rattle.content_repo.specs.Slots.{SlotsHaveRoom, next_slot, slot_or, is_open, is_free, taken, slot_with_count, size_of, unused}
 use Rattle.content_repo.specs.declared.slot.Slot.{Slot}
 
 -- a slot, but for how often it is referred to
@@ -26,8 +26,8 @@ module _ (test : Slot → Bool) (alike : (slot : Slot) → test (shape slot) ≡
 
 same_next : (slots : List Slot) → next_slot (map shape slots) ≡ next_slot slots
 same_next slots =
-    ap (λ (o : Option ℕ). or_else o (position is_free (map shape slots))) (same_position is_open (λ slot. refl) slots)
-    ∙ ap (or_else (position is_open slots)) (same_position is_free (λ slot. refl) slots)
+    ap (λ (o : Option ℕ). slot_or o (position is_free (map shape slots))) (same_position is_open (λ slot. refl) slots)
+    ∙ ap (slot_or (position is_open slots)) (same_position is_free (λ slot. refl) slots)
 
 pub next_alike : (a b : List Slot) → map shape a ≡ map shape b → next_slot a ≡ next_slot b
 next_alike a b alike = sym (same_next a) ∙ ap next_slot alike ∙ same_next b
@@ -45,10 +45,10 @@ pub taken_alike : (a b : List Slot) (k size : ℕ) → map shape a ≡ map shape
 taken_alike a b k size alike =
     taken_shape a k size ∙ ap (λ (l : List Slot). set l k (record { live = true; count = 0; size = size })) alike ∙ sym (taken_shape b k size)
 
-pub counted_alike : (slots : List Slot) (k count : ℕ) → map shape (with_count slots k count) ≡ map shape slots
+pub counted_alike : (slots : List Slot) (k count : ℕ) → map shape (slot_with_count slots k count) ≡ map shape slots
 counted_alike slots k count = map-set_same shape slots k _ unused refl
 
-pub room_alike : (sizes : List ℕ) (a b : List Slot) → map shape a ≡ map shape b → HasRoom a sizes → HasRoom b sizes
+pub room_alike : (sizes : List ℕ) (a b : List Slot) → map shape a ≡ map shape b → SlotsHaveRoom a sizes → SlotsHaveRoom b sizes
 room_alike [] a b alike room = tt
 room_alike (n ∷ sizes) a b alike room =
     let k = room.0 in

@@ -25,7 +25,7 @@ use Rattle.store_core.specs.Flow.{agrees_with}
 use Rattle.store_core.specs.Kept.{kept_in}
 use Rattle.store_core.specs.New.{kept_anew}
 use Rattle.store_core.specs.Seen.{no_flow, or_anew, SeenState, kept_seen, IsSeenOn, IsReadOf, IsContentOf, live_file}
-use Rattle.store_core.specs.State.{contents_damage, live_contents, queued, state_by, state_of, state_with, stands_for}
+use Rattle.store_core.specs.State.{contents_damage, live_contents, queued_active, state_by, state_of, state_with, stands_for}
 use Rattle.store_core.proofs.Agreeing.{sound_of, stands_by_kept}
 use Rattle.store_core.proofs.ContentsRead.{file_named}
 use Rattle.store_core.proofs.Opening.{stands_whole}
@@ -195,8 +195,8 @@ content_queued files s state number active bytes seen is consistent found conten
     let k = kept_seen s in
     let item = item_there number k.files active found in record {
       place = active.connection;
-      file = queued (content_in files) active;
-      queued = subst (λ (x : State). Contains (queue_at x active.connection) (queued (content_in files) active)) (sym (state_is files s state seen is))
+      file = queued_active (content_in files) active;
+      queued = subst (λ (x : State). Contains (queue_at x active.connection) (queued_active (content_in files) active)) (sym (state_is files s state seen is))
           (live_is_queued (content_in files) seen.events.events k active consistent item.0);
       numbered = item.1;
       bytes_are = sym content;

@@ -13,7 +13,7 @@ use Rattle.flowfile_record.specs.declared.stored.ActiveFile.{ActiveFile}
 use Rattle.record_codec.specs.declared.entry.SessionEntry.{SessionEntry}
 use Rattle.content_repo.specs.Claims.{claim, content_in, IsCovered, IsDamage}
 use Rattle.content_repo.specs.Slots.{end_of}
-use Rattle.kept_state.specs.Applied.{left_after, with_files, is_among, session_applied}
+use Rattle.kept_state.specs.Applied.{left_after, with_files, is_file_among, session_applied}
 use Rattle.kept_state.proofs.Keeping.{All-with_files}
 use Rattle.store_core.specs.State.{digest_damage, content_damage, first_damage, contents_damage, live_contents}
 use Rattle.store_core.proofs.Agreeing.{sound}
@@ -95,7 +95,7 @@ pub all_applied : (P : ContentRef → Type 0) (k : Kept) (s : SessionEntry) → 
 all_applied P k s live placed =
     All-map P content_of (with_files s.placed (left_after s.gone k.files))
     (All-with_files (λ a. P (content_of a)) s.placed (left_after s.gone k.files) (unmap P s.placed placed)
-    (All-filter (λ a. not (is_among s.gone a)) (λ a. P (content_of a)) k.files (unmap P k.files live)))
+    (All-filter (λ a. not (is_file_among s.gone a)) (λ a. P (content_of a)) k.files (unmap P k.files live)))
 
 -- ---- damage
 

@@ -20,8 +20,8 @@ use Rattle.record_codec.specs.declared.entry.LogEntry.{LogEntry}
 use Rattle.record_codec.specs.declared.entry.SessionEntry.{SessionEntry}
 use Rattle.content_repo.specs.Claims.{claim, content_in}
 use Rattle.content_repo.specs.declared.slot.Slot.{Slot}
-use Rattle.flowfile_wal.specs.Steps.{Adds}
-use Rattle.kept_state.specs.Applied.{left_after, session_applied, is_among}
+use Rattle.flowfile_wal.specs.Steps.{AddsEntry}
+use Rattle.kept_state.specs.Applied.{left_after, session_applied, is_file_among}
 use Rattle.kept_state.specs.Changes.{no_files}
 use Rattle.kept_state.specs.Fits.{session_suits}
 use Rattle.kept_state.proofs.Keeping.{suits_from}
@@ -33,8 +33,8 @@ use Rattle.store_core.specs.Change.{IsOldLive}
 use Rattle.store_core.specs.Flow.{Flow, flow_in}
 use Rattle.store_core.specs.Kept.{kept_in}
 use Rattle.store_core.specs.Placing.{ArePlaced, ReferAlike}
-use Rattle.store_core.specs.State.{stands_for, contents_damage, live_contents, queued}
-use Rattle.store_core.specs.Store.{StoreState, kept_by, live_in, Holds}
+use Rattle.store_core.specs.State.{stands_for, contents_damage, live_contents, queued_active}
+use Rattle.store_core.specs.Store.{StoreState, kept_by, live_in, FilesHold}
 use Rattle.store_core.proofs.Agreeing.{of_state, sound_of, stands_by_kept, state_of_sound}
 use Rattle.store_core.proofs.Commits.{same_flow}
 use Rattle.store_core.proofs.Following.{Follows}
@@ -44,7 +44,7 @@ use Rattle.store_core.proofs.Queues.{IsQueuedAs, line}
 use Rattle.store_core.proofs.Sharing.{HasSource, all_at, all_sources, zip_wider}
 use Rattle.store_core.proofs.Sound.{content_of, unmap}
 
-added_content : (number : ℕ) (e : LogEntry) (old new : Files) (at : ContentRef) → Adds number e old new → content_in new at ≡ content_in old at
+added_content : (number : ℕ) (e : LogEntry) (old new : Files) (at : ContentRef) → AddsEntry number e old new → content_in new at ≡ content_in old at
 added_content number e old new at added =
     ap (λ (bytes : List ℕ). take at.size (drop at.offset bytes))
     (added.others (claim at.slot) (λ (x : claim at.slot ≡ named Log number). let kinds : Claim ≡ Log = ap (λ (f : FileName). f.kind) x in absurd cc))
@@ -57,10 +57,10 @@ line_same new old place (a ∷ files) same =
     by (a.connection == place) (All-head (λ b. new (content_of b) ≡ old (content_of b)) a files same) (line_same new old place files (All-tail (λ b. new (content_of b) ≡ old (content_of b)) a files same))
   where
     by : (t : Bool) → new (content_of a) ≡ old (content_of a) → line new place files ≡ line old place files
-        → map (queued new) (cond t (a ∷ filter (λ b. b.connection == place) files) (filter (λ b. b.connection == place) files))
-        ≡ map (queued old) (cond t (a ∷ filter (λ b. b.connection == place) files) (filter (λ b. b.connection == place) files))
+        → map (queued_active new) (cond t (a ∷ filter (λ b. b.connection == place) files) (filter (λ b. b.connection == place) files))
+        ≡ map (queued_active old) (cond t (a ∷ filter (λ b. b.connection == place) files) (filter (λ b. b.connection == place) files))
     by true one rest =
-        let first : queued new a ≡ queued old a = ap (λ (bytes : List ℕ). record {
+        let first : queued_active new a ≡ queued_active old a = ap (λ (bytes : List ℕ). record {
           number = a.file.number;
           attributes = a.file.attributes;
           bytes = bytes;
@@ -114,8 +114,8 @@ pub record IsSame (s : Settled) (se : SessionEntry) : Type 0 where
 pub state_added : (s new : StoreState) (settled : Settled) (se : SessionEntry) (number : ℕ) (e : LogEntry) (slots : List Slot) (old mid files : Files) (state : State)
     → (kept_by s).batches ≡ [] → session_suits no_files (kept_by s) se ≡ true → IsSame settled se
     → ((events : List Event) → events_in old (kept_by s).last_event ≡ Ok events → events_in files se.last_event ≡ Ok (events ++ settled.events))
-    → Holds s old → stands_for (flow_in (kept_by s)) s.lot old ≡ of_state state → Follows s old mid → Adds number e mid files → AreShared settled.placed → ReferAlike settled.placed se.placed → ArePlaced true slots mid settled.placed se.placed → All (IsOldLive s) settled.placed
-    → Holds new files → kept_by new ≡ session_applied (kept_by s) se → new.lot ≡ s.lot
+    → FilesHold s old → stands_for (flow_in (kept_by s)) s.lot old ≡ of_state state → Follows s old mid → AddsEntry number e mid files → AreShared settled.placed → ReferAlike settled.placed se.placed → ArePlaced true slots mid settled.placed se.placed → All (IsOldLive s) settled.placed
+    → FilesHold new files → kept_by new ≡ session_applied (kept_by s) se → new.lot ≡ s.lot
     → stands_for (flow_in (kept_by s)) s.lot files ≡ of_state (state_after (content_in old) state settled)
 state_added s new settled se number e slots old mid files state batches suits same behind holds stands follows added shared alike are live now kept lot =
     let k = kept_by s in
@@ -146,7 +146,7 @@ state_added s new settled se number e slots old mid files state batches suits sa
       placed = all_queued (content_in files) (content_in old) slots mid settled.placed se.placed shared alike are reads placed;
       left = λ place.
           line_same (content_in files) (content_in old) place (left_after se.gone k.files)
-          (All-filter (λ a. not (is_among se.gone a)) (λ a. content_in files (content_of a) ≡ content_in old (content_of a)) k.files
+          (All-filter (λ a. not (is_file_among se.gone a)) (λ a. content_in files (content_of a) ≡ content_in old (content_of a)) k.files
           (unmap (λ at. content_in files at ≡ content_in old at) k.files stay));
     } in
     stands_by_kept flow s.lot files k2 keeps

@@ -7,14 +7,14 @@ use Rattle.disk_trait.specs.declared.file_name.FileName.{FileName}
 use Rattle.disk_trait.proofs.Moments.{wider, one_after_another, step_after_step, at_the_end}
 use Rattle.flowfile_record.specs.Stored.{Kept}
 use Rattle.flowfile_wal.specs.Calls.{InEach}
-use Rattle.checkpoint_store.specs.Begun.{IsBegun, IsBegunOrNot, IsPassedOver, log_file}
+use Rattle.checkpoint_store.specs.Begun.{IsBegun, IsBegunOrNot, IsPassedOverLog, log_file}
 use Rattle.checkpoint_store.specs.Snapshot.{snapshot, snapshot_file}
 use Rattle.store_core.specs.Checkpoint.{ArePassedOver, HasTakenOver, TakesOver, Drops, AreGone}
 use Rattle.store_core.proofs.Cutting.{each_file, shortened_same, shortened_in_turn}
 use Rattle.store_core.proofs.NextLog.{Prepares, IsStaged, snapshot_no_log, prepares_snapshot, prepares_emptied, prepares_in_turn, takes_prepared, takes_begun, takes_in_turn}
 
 abbrev pub StaysPassed : List ℕ → List ℕ → Type 0
-StaysPassed old new = IsPassedOver old → IsPassedOver new
+StaysPassed old new = IsPassedOverLog old → IsPassedOverLog new
 
 module _ {D : Type 0} (moment : D → ℕ) (images : D → ℕ → Files → Type 0) (number : ℕ) where
   abbrev pub Preparing : D → Files → Type 0

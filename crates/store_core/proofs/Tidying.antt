@@ -6,7 +6,7 @@ use Rattle.std.proofs.lemmas.List.{nil_from_length}
 use Rattle.disk_trait.specs.Files.{Files}
 use Rattle.flowfile_record.specs.declared.content.ContentRef.{ContentRef}
 use Rattle.content_repo.specs.Claims.{claim, HasSizes}
-use Rattle.content_repo.specs.Slots.{count_of, size_of, slot_at, references_to, reclaimed, unused, IsReclaimed}
+use Rattle.content_repo.specs.Slots.{count_of, size_of, slot_numbered, references_to, reclaimed, unused, IsReclaimed}
 use Rattle.content_repo.specs.declared.reclaim.Reclaimed.{Reclaimed}
 use Rattle.content_repo.specs.declared.slot.Slot.{Slot}
 use Rattle.machine_model.proofs.Ordered.{contains_head, contains_later}
@@ -45,7 +45,7 @@ tidy_closed s slots emptied answer files has is sizes = record {
         | inr none ↦
             let unheld : count_of slots n ≡ 0 = omega (arith, has.counts n, has.works.counts n, none) in
             let empty : size_of emptied n ≡ 0 =
-            ap (λ (l : List Slot). size_of l n) is.slots ∙ ap (λ (slot : Slot). slot.size) (slot_reclaimed slots n) ∙ emptied_size (slot_at slots n) (is.unused n) unheld in
+            ap (λ (l : List Slot). size_of l n) is.slots ∙ ap (λ (slot : Slot). slot.size) (slot_reclaimed slots n) ∙ emptied_size (slot_numbered slots n) (is.unused n) unheld in
             absurd (some (nil_from_length (files (claim n)) (sizes n ∙ empty)))
       ];
 }

@@ -11,10 +11,10 @@ use Rattle.disk_trait.proofs.FileNames.{same_name_is, same_name_itself}
 use Rattle.disk_trait.proofs.Moments.{wider, wider_where_left, only_read, step_after_step, nothing, and_syncs}
 use Rattle.flowfile_record.specs.declared.content.ContentRef.{ContentRef}
 use Rattle.content_repo.specs.Claims.{claim, IdleShortened, ShortenedTo}
-use Rattle.content_repo.specs.Slots.{is_idle, slot_at, references_to}
+use Rattle.content_repo.specs.Slots.{is_idle, slot_numbered, references_to}
 use Rattle.content_repo.specs.declared.slot.Slot.{Slot}
 use Rattle.flowfile_wal.specs.Current.{current_log, current_number}
-use Rattle.flowfile_wal.specs.Steps.{LogState, log_with, numbered}
+use Rattle.flowfile_wal.specs.Steps.{LogState, log_with, numbered_log}
 use Rattle.flowfile_wal.proofs.Files.{current_is}
 use Rattle.record_codec.specs.declared.entry.LogEntry.{LogEntry}
 use Rattle.prov_store.specs.Events.{events_file}
@@ -23,7 +23,7 @@ use Rattle.prov_store.specs.declared.events.Stale.{Stale}
 use Rattle.prov_store.proofs.Keeping.{is_stale_or_not, stale_at}
 use Rattle.store_core.specs.Discard.{Discards}
 use Rattle.store_core.specs.Flow.{Flow}
-use Rattle.store_core.specs.Found.{IsFoundIn}
+use Rattle.store_core.specs.Found.{StoreIsFoundIn}
 use Rattle.store_core.specs.New.{first_log}
 use Rattle.store_core.specs.Store.{StoreState, StandsIn, live_in}
 use Rattle.store_core.specs.Touched.{Revives, Frees}
@@ -142,11 +142,11 @@ pub number_read : (state : LogState) (entries : List (ℕ × LogEntry)) (files :
 number_read state entries files is = by_number state.number refl
   where
     by_number : (o : Option ℕ) → state.number ≡ o → current_number files ≡ state.number
-    by_number None none = no_number files (is ∙ ap (λ (o : Option ℕ). of_log (numbered o entries state.end)) none) ∙ sym none
+    by_number None none = no_number files (is ∙ ap (λ (o : Option ℕ). of_log (numbered_log o entries state.end)) none) ∙ sym none
     by_number (Some n) some =
-        (current_is files (record { number = n; entries = entries; end = state.end }) (is ∙ ap (λ (o : Option ℕ). of_log (numbered o entries state.end)) some)).number ∙ sym some
+        (current_is files (record { number = n; entries = entries; end = state.end }) (is ∙ ap (λ (o : Option ℕ). of_log (numbered_log o entries state.end)) some)).number ∙ sym some
 
-pub number_found : (flow : Flow) (lot : ℕ) (files : Files) (found : Found) → IsFoundIn flow lot files found → current_number files ≡ found.log.number
+pub number_found : (flow : Flow) (lot : ℕ) (files : Files) (found : Found) → StoreIsFoundIn flow lot files found → current_number files ≡ found.log.number
 number_found flow lot files found is = number_read found.log is.entries files is.current
 
 module _ {D : Type 0} (tells : Bool) (holds : D → Files) (moment : D → ℕ) (images : D → ℕ → Files → Type 0) where
@@ -168,7 +168,7 @@ module _ {D : Type 0} (tells : Bool) (holds : D → Files) (moment : D → ℕ) 
 
   -- what was read is revived
   pub revived_alone : ((disk : D) (k : ℕ) (c : Files) → images disk k c → IsTrue tells) → (flow : Flow) (lot : ℕ) (found : Found) (old mid new : D)
-      → (IsTrue tells → IsFoundIn flow lot (holds old) found) → Stays holds moment images old mid
+      → (IsTrue tells → StoreIsFoundIn flow lot (holds old) found) → Stays holds moment images old mid
       → Since moment images mid new (Revives found.log.number (holds mid)) → Since moment images old new (Revives (current_number (holds old)) (holds old))
   revived_alone told flow lot found old mid new is stays since =
       behind_reading old mid new (Revives (current_number (holds old)) (holds old)) stays
@@ -186,8 +186,8 @@ stood k live stands =
     subst (λ (n : ℕ). 0 < references_to n live) (ap (λ (r : ContentRef). r.slot) found.2 ∙ stands.2) (referred_at live found.0 at found.1)
 
 frees_claim : (s : StoreState) (slots : List Slot) (k : ℕ) (old new : List ℕ) → HasLetGo s slots
-    → MatchBool (is_idle (slot_at slots k)) (Shortened 0 old new) (new ≡ old) → Shortened 0 old new × (StandsIn k (live_in s) → new ≡ old)
-frees_claim s slots k old new has step = (shorter (is_idle (slot_at slots k)) step, stays)
+    → MatchBool (is_idle (slot_numbered slots k)) (Shortened 0 old new) (new ≡ old) → Shortened 0 old new × (StandsIn k (live_in s) → new ≡ old)
+frees_claim s slots k old new has step = (shorter (is_idle (slot_numbered slots k)) step, stays)
   where
     shorter : (idle : Bool) → MatchBool idle (Shortened 0 old new) (new ≡ old) → Shortened 0 old new
     shorter true gone = gone
@@ -195,8 +195,8 @@ frees_claim s slots k old new has step = (shorter (is_idle (slot_at slots k)) st
 
     stays : StandsIn k (live_in s) → new ≡ old
     stays stands =
-        unmatched (is_idle (slot_at slots k)) _ _
-        (not_idle (slot_at slots k) (omega (arith, has.counts k, has.works.counts k, stood k (live_in s) stands))) step
+        unmatched (is_idle (slot_numbered slots k)) _ _
+        (not_idle (slot_numbered slots k) (omega (arith, has.counts k, has.works.counts k, stood k (live_in s) stands))) step
 
 pub frees_nothing : (live : List ContentRef) (files : Files) → Frees live files files
 frees_nothing live files = record { claims = λ k. (shortened_same 0 (files (claim k)), λ stands. refl); others = λ f other. refl }

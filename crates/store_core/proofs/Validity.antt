@@ -27,8 +27,8 @@ use Rattle.machine_model.proofs.Tally.{at_most, at_place, bit, many, tally, tall
 use Rattle.store_core.specs.Flow.{flow_in}
 use Rattle.prov_store.specs.Events.{events_in}
 use Rattle.prov_store.specs.State.{AreNumberedFrom}
-use Rattle.store_core.specs.State.{queued, queue_of, state_with, stands_for}
-use Rattle.store_core.specs.Store.{StoreState, kept_by, Holds}
+use Rattle.store_core.specs.State.{queued_active, queue_of, state_with, stands_for}
+use Rattle.store_core.specs.Store.{StoreState, kept_by, FilesHold}
 use Rattle.store_core.specs.Valid.{IsLive}
 use Rattle.store_core.proofs.Agreeing.{stands_by_kept, state_of_sound}
 use Rattle.store_core.proofs.ByKey.{Ascends, ascends_fold}
@@ -60,39 +60,39 @@ tally_filter w p (x ∷ xs) =
 module _ (contents : ContentRef → List ℕ) where
   -- what a live file weighs in the queue of a place
   abbrev here : (QueuedFile → ℕ) → ℕ → ActiveFile → ℕ
-  here w place a = cond (a.connection == place) (w (queued contents a)) 0
+  here w place a = cond (a.connection == place) (w (queued_active contents a)) 0
 
   tally_queue : (w : QueuedFile → ℕ) (files : List ActiveFile) (place : ℕ) → tally w (queue_of contents files place) ≡ tally (here w place) files
   tally_queue w files place =
-      tally_fold w (map (queued contents) (filter (λ a. a.connection == place) files)) []
-      ∙ (let mapped = tally-map w (queued contents) (filter (λ a. a.connection == place) files) in omega (arith, mapped))
-      ∙ tally_filter (λ a. w (queued contents a)) (λ a. a.connection == place) files
+      tally_fold w (map (queued_active contents) (filter (λ a. a.connection == place) files)) []
+      ∙ (let mapped = tally-map w (queued_active contents) (filter (λ a. a.connection == place) files) in omega (arith, mapped))
+      ∙ tally_filter (λ a. w (queued_active contents a)) (λ a. a.connection == place) files
 
-  queue_within : (w : QueuedFile → ℕ) (files : List ActiveFile) (place : ℕ) → tally w (queue_of contents files place) ≤ tally w (map (queued contents) files)
+  queue_within : (w : QueuedFile → ℕ) (files : List ActiveFile) (place : ℕ) → tally w (queue_of contents files place) ≤ tally w (map (queued_active contents) files)
   queue_within w files place =
       let one = tally_queue w files place in
-      let all = tally-le (here w place) (λ a. w (queued contents a)) (λ a. at_most (a.connection == place) (w (queued contents a))) files in
-      omega (arith, one, all, tally-map w (queued contents) files)
+      let all = tally-le (here w place) (λ a. w (queued_active contents a)) (λ a. at_most (a.connection == place) (w (queued_active contents a))) files in
+      omega (arith, one, all, tally-map w (queued_active contents) files)
 
   places_within : (w : QueuedFile → ℕ) (files : List ActiveFile) (connections : List (List ℕ))
-      → tally (λ (c : ℕ × List ℕ). tally (here w c.0) files) (enumerate_from 0 connections) ≤ tally (λ a. w (queued contents a)) files
+      → tally (λ (c : ℕ × List ℕ). tally (here w c.0) files) (enumerate_from 0 connections) ≤ tally (λ a. w (queued_active contents a)) files
   places_within w [] connections = omega (arith, tally-none (enumerate_from 0 connections))
   places_within w (a ∷ files) connections =
       let all = places_within w files connections in
       let places = enumerate_from 0 connections in
       let parts = tally-plus (λ (c : ℕ × List ℕ). here w c.0 a) (λ (c : ℕ × List ℕ). tally (here w c.0) files) places in
-      let one = at_place a.connection (w (queued contents a)) 0 connections in
+      let one = at_place a.connection (w (queued_active contents a)) 0 connections in
       omega (arith, parts, one, all)
 
   -- all queues together weigh no more than the live files
-  queues_within : (w : QueuedFile → ℕ) (events : List Event) (k : Kept) → tally w (files_of_all (state_with contents events k)) ≤ tally w (map (queued contents) k.files)
+  queues_within : (w : QueuedFile → ℕ) (events : List Event) (k : Kept) → tally w (files_of_all (state_with contents events k)) ≤ tally w (map (queued_active contents) k.files)
   queues_within w events k =
       let places = enumerate_from 0 k.connections in
       let queues = map (λ (c : ℕ × List ℕ). queue_of contents k.files c.0) places in
       let flat = tally-flat_map w (λ (queue : List QueuedFile). queue) queues in
       let mapped = tally-map (tally w) (λ (c : ℕ × List ℕ). queue_of contents k.files c.0) places in
       let each = tally-same (λ (c : ℕ × List ℕ). tally w (queue_of contents k.files c.0)) (λ (c : ℕ × List ℕ). tally (here w c.0) k.files) (λ c. tally_queue w k.files c.0) places in
-      omega (arith, flat, mapped, each, places_within w k.files k.connections, tally-map w (queued contents) k.files)
+      omega (arith, flat, mapped, each, places_within w k.files k.connections, tally-map w (queued_active contents) k.files)
 
 -- ---- numbers and arrivals
 
@@ -111,28 +111,28 @@ differ_mapped g key (x ∷ xs) distinct =
     (differ_mapped g key xs distinct.1)
 
 module _ (contents : ContentRef → List ℕ) (events : List Event) (k : Kept) (is : IsConsistent k) where
-  numbers_of_live : AreNumbered (λ f. f.number) k.next_number (map (queued contents) k.files)
+  numbers_of_live : AreNumbered (λ f. f.number) k.next_number (map (queued_active contents) k.files)
   numbers_of_live = record {
     first = is.counters.next_number;
-    differ = differ_mapped (queued contents) (λ f. f.number) k.files (ascending_distinct (λ a. a.file.number) k.files is.numbers);
-    within = All-map (λ (f : QueuedFile). (1 ≤ f.number) × (f.number < k.next_number)) (queued contents) k.files
+    differ = differ_mapped (queued_active contents) (λ f. f.number) k.files (ascending_distinct (λ a. a.file.number) k.files is.numbers);
+    within = All-map (λ (f : QueuedFile). (1 ≤ f.number) × (f.number < k.next_number)) (queued_active contents) k.files
         (All-weaker (IsFileIn k) (λ a. (1 ≤ a.file.number) × (a.file.number < k.next_number))
         (λ a known. (let one = known.encoded.file.first_number in omega (arith, one), known.number)) k.files is.files);
   }
 
-  arrivals_of_live : AreNumbered (λ f. f.arrival) k.next_arrival (map (queued contents) k.files)
+  arrivals_of_live : AreNumbered (λ f. f.arrival) k.next_arrival (map (queued_active contents) k.files)
   arrivals_of_live = record {
     first = is.counters.next_arrival;
-    differ = differ_mapped (queued contents) (λ f. f.arrival) k.files is.arrivals;
-    within = All-map (λ (f : QueuedFile). (1 ≤ f.arrival) × (f.arrival < k.next_arrival)) (queued contents) k.files
+    differ = differ_mapped (queued_active contents) (λ f. f.arrival) k.files is.arrivals;
+    within = All-map (λ (f : QueuedFile). (1 ≤ f.arrival) × (f.arrival < k.next_arrival)) (queued_active contents) k.files
         (All-weaker (IsFileIn k) (λ a. (1 ≤ a.file.arrival) × (a.file.arrival < k.next_arrival)) (λ a known. (known.first_arrival, known.arrival)) k.files is.files);
   }
 
-  numbered_all : (key : QueuedFile → ℕ) (next : ℕ) → AreNumbered key next (map (queued contents) k.files) → AreNumbered key next (files_of_all (state_with contents events k))
+  numbered_all : (key : QueuedFile → ℕ) (next : ℕ) → AreNumbered key next (map (queued_active contents) k.files) → AreNumbered key next (files_of_all (state_with contents events k))
   numbered_all key next of_live =
       let all = files_of_all (state_with contents events k) in
-      let live = counted key next (map (queued contents) k.files) of_live in
-      let within : (n : ℕ) → many key n all ≤ many key n (map (queued contents) k.files) = λ n. queues_within contents (λ f. bit (key f == n)) events k in
+      let live = counted key next (map (queued_active contents) k.files) of_live in
+      let within : (n : ℕ) → many key n all ≤ many key n (map (queued_active contents) k.files) = λ n. queues_within contents (λ f. bit (key f == n)) events k in
       numbered key next all (record {
         first = live.first;
         once = λ n. omega (arith, within n, live.once n);
@@ -145,9 +145,9 @@ module _ (contents : ContentRef → List ℕ) (events : List Event) (k : Kept) (
   ordered : (place : ℕ) → AreByArrival (queue_of contents k.files place)
   ordered place =
       let queue = queue_of contents k.files place in
-      let live = counted (λ (f : QueuedFile). f.arrival) k.next_arrival (map (queued contents) k.files) arrivals_of_live in
+      let live = counted (λ (f : QueuedFile). f.arrival) k.next_arrival (map (queued_active contents) k.files) arrivals_of_live in
       let apart = differ_from_once (λ (f : QueuedFile). f.arrival) queue (λ n. omega (arith, queue_within contents (λ f. bit (f.arrival == n)) k.files place, live.once n)) in
-      let rises = rising queue (ascends_fold (λ (f : QueuedFile). f.arrival) (map (queued contents) (filter (λ a. a.connection == place) k.files)) [] tt) in
+      let rises = rising queue (ascends_fold (λ (f : QueuedFile). f.arrival) (map (queued_active contents) (filter (λ a. a.connection == place) k.files)) [] tt) in
       λ i j d before within. let ne = apart i j d before within in let le = rises i j d before within in omega (arith, le, ne)
     where
       rising : (files : List QueuedFile) → Ascends (λ (f : QueuedFile). f.arrival) files → AllPairs (λ earlier later. earlier.arrival ≤ later.arrival) files
@@ -231,10 +231,10 @@ module _ (contents : ContentRef → List ℕ) (events : List Event) (k : Kept) w
 
   live_in_queue : (place : ℕ) (file : QueuedFile) → Among file (queue_of contents k.files place) → IsLive contents k place file
   live_in_queue place file h =
-      elim (fold_had file (map (queued contents) (filter (λ a. a.connection == place) k.files)) [] h) [
+      elim (fold_had file (map (queued_active contents) (filter (λ a. a.connection == place) k.files)) [] h) [
         | inl none ↦ absurd none
         | inr made ↦
-            let from = is_made (queued contents) (filter (λ a. a.connection == place) k.files) file made in
+            let from = is_made (queued_active contents) (filter (λ a. a.connection == place) k.files) file made in
             let passed = passed_by (λ (a : ActiveFile). a.connection == place) k.files from.source from.there in
             record {
               active = from.source;
@@ -251,14 +251,14 @@ module _ (contents : ContentRef → List ℕ) (events : List Event) (k : Kept) w
         | inr le ↦ absurd (among_contained file [] (subst (λ (queue : List QueuedFile). Contains queue file) (queue_past place le) has))
       ]
 
-  pub live_is_queued : (a : ActiveFile) → IsConsistent k → Contains k.files a → Contains (queue_at (state_with contents events k) a.connection) (queued contents a)
+  pub live_is_queued : (a : ActiveFile) → IsConsistent k → Contains k.files a → Contains (queue_at (state_with contents events k) a.connection) (queued_active contents a)
   live_is_queued a is has =
       let within = (All-contains (IsFileIn k) k.files a is.files has).connection in
       let passes = keeps (λ (b : ActiveFile). b.connection == a.connection) k.files a (among_contained a k.files has) (eq-eqb a.connection a.connection refl) in
-      let mapped = makes (queued contents) (filter (λ b. b.connection == a.connection) k.files) a passes in
-      let queue = fold_has (queued contents a) (map (queued contents) (filter (λ b. b.connection == a.connection) k.files)) [] (inr mapped) in
-      subst (λ (files : List QueuedFile). Contains files (queued contents a)) (sym (queue_there a.connection within))
-      (contains_among (queued contents a) (queue_of contents k.files a.connection) queue)
+      let mapped = makes (queued_active contents) (filter (λ b. b.connection == a.connection) k.files) a passes in
+      let queue = fold_has (queued_active contents a) (map (queued_active contents) (filter (λ b. b.connection == a.connection) k.files)) [] (inr mapped) in
+      subst (λ (files : List QueuedFile). Contains files (queued_active contents a)) (sym (queue_there a.connection within))
+      (contains_among (queued_active contents a) (queue_of contents k.files a.connection) queue)
 
   -- ---- no file is swapped out
 
@@ -276,7 +276,7 @@ module _ (contents : ContentRef → List ℕ) (events : List Event) (k : Kept) w
   no_batches : All (HasBatchBelow k.next_batch) (files_of_all (state_with contents events k))
   no_batches =
       let within = queues_within contents (λ f. bit (is_some f.batch)) events k in
-      let live = tally-map (λ (f : QueuedFile). bit (is_some f.batch)) (queued contents) k.files in
+      let live = tally-map (λ (f : QueuedFile). bit (is_some f.batch)) (queued_active contents) k.files in
       unswapped k.next_batch (files_of_all (state_with contents events k)) (omega (arith, within, live, tally-none k.files))
 
   no_batch : (place batch : ℕ) → HasBatch (queue_at (state_with contents events k) place) batch → ⊥
@@ -313,7 +313,7 @@ module _ (contents : ContentRef → List ℕ) (events : List Event) (k : Kept) w
 
 -- ---- files that hold it
 
-pub held_stands : (s : StoreState) (files : Files) (events : List Event) → Holds s files → events_in files (kept_by s).last_event ≡ Ok events
+pub held_stands : (s : StoreState) (files : Files) (events : List Event) → FilesHold s files → events_in files (kept_by s).last_event ≡ Ok events
     → stands_for (flow_in (kept_by s)) s.lot files ≡ Ok (state_with (content_in files) events (kept_by s))
 held_stands s files events holds says =
     stands_by_kept (flow_in (kept_by s)) s.lot files (kept_by s) holds.kept

@@ -13,18 +13,18 @@ use Rattle.content_repo.specs.Claims.{claim, content_in}
 use Rattle.content_repo.specs.declared.slot.Slot.{Slot}
 use Rattle.flowfile_wal.specs.Calls.{InEach, WithOrWithout}
 use Rattle.flowfile_wal.specs.Current.{CurrentLog, current_log}
-use Rattle.flowfile_wal.specs.Steps.{Adds, IsReadyIn, with_entry}
+use Rattle.flowfile_wal.specs.Steps.{AddsEntry, IsReadyIn, with_entry}
 use Rattle.flowfile_wal.proofs.Files.{with_one_more}
 use Rattle.checkpoint_store.specs.Consistent.{IsConsistent}
-use Rattle.kept_state.specs.Applied.{applied, session_applied, swapped_out}
+use Rattle.kept_state.specs.Applied.{applied, session_applied, batch_swapped_out}
 use Rattle.kept_state.specs.Changes.{no_files}
-use Rattle.kept_state.specs.Fits.{fits}
+use Rattle.kept_state.specs.Fits.{entry_suits}
 use Rattle.machine_model.specs.Changing.{HaveDigests}
 use Rattle.prov_store.specs.State.{EventsState, HasEvents, IsTrimmed}
 use Rattle.store_core.specs.Committed.{HoldsEither}
 use Rattle.store_core.specs.Touched.{MayTouch, TouchesOnly}
 use Rattle.store_core.specs.Placing.{GrowsAhead}
-use Rattle.store_core.specs.Store.{StoreState, IsWorking, IsKeptOn, kept_by, Holds, HasLog}
+use Rattle.store_core.specs.Store.{StoreState, IsWorking, IsKeptOn, kept_by, FilesHold, HasLog}
 use Rattle.disk_trait.specs.declared.damage.Damage.{Damage}
 use Rattle.content_repo.specs.Slots.{size_of}
 use Rattle.store_core.proofs.ClaimsAlone.{has_log_same}
@@ -33,7 +33,7 @@ use Rattle.store_core.proofs.Commits.{holds_added, events_beside_log, placed_sou
 use Rattle.record_codec.specs.Placeless.{placeless_entry}
 use Rattle.content_repo.specs.Claims.{HasSizes}
 use Rattle.store_core.specs.Change.{HasLiveContents}
-use Rattle.store_core.specs.Committed.{PreparedChange, IsPrepared}
+use Rattle.store_core.specs.Committed.{PreparedChange, IsPreparedChange}
 use Rattle.store_core.specs.Placing.{ArePlaced, ReferAlike}
 use Rattle.kept_state.specs.Changes.{placed_in}
 use Rattle.store_core.proofs.Following.{Follows, follows_ahead, follows_kept_log, follows_in_turn, holds_following, logs_ahead}
@@ -42,7 +42,7 @@ use Rattle.store_core.proofs.Sound.{IsSoundIn, content_of}
 -- ---- before the log
 
 -- files that grow ahead of the log hold what is kept
-pub holds_ahead : (s : StoreState) (old new : Files) → IsWorking s → HasLog s old → Holds s old → GrowsAhead s.slots s.events old new → Holds s new
+pub holds_ahead : (s : StoreState) (old new : Files) → IsWorking s → HasLog s old → FilesHold s old → GrowsAhead s.slots s.events old new → FilesHold s new
 holds_ahead s old new works has holds grows = holds_following s old new has (follows_ahead s old new works holds.events grows) holds
 
 module _ {D : Type 0} (moment : D → ℕ) (images : D → ℕ → Files → Type 0) (s : StoreState) (old mid : D) where
@@ -55,9 +55,9 @@ module _ {D : Type 0} (moment : D → ℕ) (images : D → ℕ → Files → Typ
       let after = at_the_end moment images old mid (After (GrowsAhead s.slots s.events) (images old (moment old))) since c left in
       has_log_same s after.0 c (logs_ahead s after.0 c after.2) (has after.0 after.1)
 
-  pub since_ahead_holds : IsWorking s → InEach (images old (moment old)) (HasLog s) → InEach (images old (moment old)) (Holds s) → SinceAhead → Since moment images old mid (Holds s)
+  pub since_ahead_holds : IsWorking s → InEach (images old (moment old)) (HasLog s) → InEach (images old (moment old)) (FilesHold s) → SinceAhead → Since moment images old mid (FilesHold s)
   since_ahead_holds works has holds since =
-      wider moment images old mid (After (GrowsAhead s.slots s.events) (images old (moment old))) (Holds s) since
+      wider moment images old mid (After (GrowsAhead s.slots s.events) (images old (moment old))) (FilesHold s) since
       (λ c after. holds_ahead s after.0 c works (has after.0 after.1) (holds after.0 after.1) after.2)
 
 -- ---- the whole
@@ -66,8 +66,8 @@ module _ {D : Type 0} (moment : D → ℕ) (images : D → ℕ → Files → Typ
 pub record IsAdded (s new : StoreState) (e : LogEntry) (held : Files) : Type 0 where
   pub session : SessionEntry
   pub act : applied no_files (kept_by s) e ≡ session_applied (kept_by s) session
-  pub alone : swapped_out e ≡ []
-  pub fit : fits no_files (kept_by s) e ≡ true
+  pub alone : batch_swapped_out e ≡ []
+  pub fit : entry_suits no_files (kept_by s) e ≡ true
   pub contents : All (IsSoundIn held) (map content_of session.placed)
   pub kept : kept_by new ≡ applied no_files (kept_by s) e
   pub lot : new.lot ≡ s.lot
@@ -76,9 +76,9 @@ pub record IsAdded (s new : StoreState) (e : LogEntry) (held : Files) : Type 0 w
 module _ {D : Type 0} (moment : D → ℕ) (images : D → ℕ → Files → Type 0) (held : D → Files) (s new : StoreState) (number : ℕ) (e : LogEntry) (old mid end : D) where
   -- one of the start grown ahead of the log, with the same log, or what was held with the entry
   abbrev pub Either : Files → Type 0
-  Either c = After (Follows s) (images old (moment old)) c ⊎ Adds number e (held mid) c
+  Either c = After (Follows s) (images old (moment old)) c ⊎ AddsEntry number e (held mid) c
 
-  pub since_either : IsWorking s → InEach (images old (moment old)) (Holds s) → Since moment images old mid (After (GrowsAhead s.slots s.events) (images old (moment old)))
+  pub since_either : IsWorking s → InEach (images old (moment old)) (FilesHold s) → Since moment images old mid (After (GrowsAhead s.slots s.events) (images old (moment old)))
       → Since moment images mid end (WithOrWithout number e (images mid (moment mid)) (held mid)) → Since moment images old end Either
   since_either works holds first second =
       one_after_another moment images old mid end (After (GrowsAhead s.slots s.events) (images old (moment old))) (WithOrWithout number e (images mid (moment mid)) (held mid)) Either first second
@@ -91,10 +91,10 @@ module _ {D : Type 0} (moment : D → ℕ) (images : D → ℕ → Files → Typ
           inl (before.0, before.1, follows_in_turn s before.0 after.0 c (follows_ahead s before.0 after.0 works (holds before.0 before.1).events before.2) (follows_kept_log s number after.0 c after.2))
       by_log c (inr added) = inr added
 
-  module _ (works : IsWorking s) (has : InEach (images old (moment old)) (HasLog s)) (holds : InEach (images old (moment old)) (Holds s))
+  module _ (works : IsWorking s) (has : InEach (images old (moment old)) (HasLog s)) (holds : InEach (images old (moment old)) (FilesHold s))
       (first : Since moment images old mid (After (GrowsAhead s.slots s.events) (images old (moment old)))) (numbered : s.log.number ≡ Some number) where
     -- what was held is one of the images
-    pub holds_new : images mid (moment mid) (held mid) → IsAdded s new e (held mid) → (c : Files) → Adds number e (held mid) c → Holds new c
+    pub holds_new : images mid (moment mid) (held mid) → IsAdded s new e (held mid) → (c : Files) → AddsEntry number e (held mid) c → FilesHold new c
     holds_new left is c added =
         let before = at_the_end moment images old mid (After (GrowsAhead s.slots s.events) (images old (moment old))) first (held mid) left in
         let has_mid = has_log_same s before.0 (held mid) (logs_ahead s before.0 (held mid) before.2) (has before.0 before.1) in
@@ -136,8 +136,8 @@ module _ {D : Type 0} (moment : D → ℕ) (images : D → ℕ → Files → Typ
       → Since moment images mid end (WithOrWithout number e (images mid (moment mid)) (held mid))
       → (tells : Bool) → ((k : ℕ) (c : Files) → images end k c → IsTrue tells) → (IsTrue tells → images mid (moment mid) (held mid)) → Since moment images old end Touching
   since_touches numbered first second tells told left =
-      wider_where_left moment images old end (λ c. Touching c ⊎ Adds number e (held mid) c) Touching
-      (one_after_another moment images old mid end (After (GrowsAhead slots events) (images old (moment old))) (WithOrWithout number e (images mid (moment mid)) (held mid)) (λ c. Touching c ⊎ Adds number e (held mid) c) first second
+      wider_where_left moment images old end (λ c. Touching c ⊎ AddsEntry number e (held mid) c) Touching
+      (one_after_another moment images old mid end (After (GrowsAhead slots events) (images old (moment old))) (WithOrWithout number e (images mid (moment mid)) (held mid)) (λ c. Touching c ⊎ AddsEntry number e (held mid) c) first second
       (λ c after. inl (after.0, after.1, touches_ahead log slots events after.0 c after.2)) by_log)
       by_end
     where
@@ -146,20 +146,20 @@ module _ {D : Type 0} (moment : D → ℕ) (images : D → ℕ → Files → Typ
           let before = at_the_end moment images old mid (After (GrowsAhead slots events) (images old (moment old))) first d image in
           (before.0, before.1, λ f other. others f (not_log log number f numbered other) ∙ touches_ahead log slots events before.0 d before.2 f other)
 
-      by_log : (c : Files) → WithOrWithout number e (images mid (moment mid)) (held mid) c → Touching c ⊎ Adds number e (held mid) c
+      by_log : (c : Files) → WithOrWithout number e (images mid (moment mid)) (held mid) c → Touching c ⊎ AddsEntry number e (held mid) c
       by_log c (inl after) = inl (from_mid after.0 c after.1 after.2.others)
       by_log c (inr added) = inr added
 
-      by_end : (k : ℕ) (c : Files) → images end k c → Touching c ⊎ Adds number e (held mid) c → Touching c
+      by_end : (k : ℕ) (c : Files) → images end k c → Touching c ⊎ AddsEntry number e (held mid) c → Touching c
       by_end k c image (inl touching) = touching
       by_end k c image (inr added) = from_mid (held mid) c (left (told k c image)) added.others
 
 -- ---- what a commit adds
 
 module _ {D : Type 0} (moment : D → ℕ) (images : D → ℕ → Files → Type 0) (held : D → Files) (s new : StoreState) (p : PreparedChange) (e : LogEntry) (old mid : D) (slots : List Slot) where
-  pub is_added : (works : IsWorking s) → InEach (images old (moment old)) (HasLog s) → InEach (images old (moment old)) (Holds s)
+  pub is_added : (works : IsWorking s) → InEach (images old (moment old)) (HasLog s) → InEach (images old (moment old)) (FilesHold s)
       → Since moment images old mid (After (GrowsAhead s.slots s.events) (images old (moment old)))
-      → IsConsistent (kept_by s) → (prepared : IsPrepared s p) → (same : placeless_entry e ≡ placeless_entry p.entry) → HasLiveContents s p.settled
+      → IsConsistent (kept_by s) → (prepared : IsPreparedChange s p) → (same : placeless_entry e ≡ placeless_entry p.entry) → HasLiveContents s p.settled
       → HaveDigests (content_in (held mid)) p.settled.placed → images mid (moment mid) (held mid) → HasSizes slots (held mid) → ReferAlike p.settled.placed (placed_in e) → ArePlaced true slots (held mid) p.settled.placed (placed_in e)
       → kept_by new ≡ applied no_files (kept_by s) e → new.lot ≡ s.lot → HasEvents new.events (held mid) → IsAdded s new e (held mid)
   is_added works has holds first consistent prepared same live digests left sizes alike placed kept lot events =
@@ -185,28 +185,28 @@ module _ {D : Type 0} (moment : D → ℕ) (images : D → ℕ → Files → Typ
 abbrev read_as : Option CurrentLog → Result (Option CurrentLog) Damage
 read_as log = Ok log
 
-entries_more : (s new : StoreState) (e : LogEntry) (old files : Files) (number : ℕ) → HasLog s old → s.log.number ≡ Some number → Adds number e old files → new.entries ≡ min (s.entries + 1) (2 ^ 64 - 1)
+entries_more : (s new : StoreState) (e : LogEntry) (old files : Files) (number : ℕ) → HasLog s old → s.log.number ≡ Some number → AddsEntry number e old files → new.entries ≡ min (s.entries + 1) (2 ^ 64 - 1)
     → (l : CurrentLog) → current_log files ≡ Ok (Some l) → new.entries ≡ min (length l.entries) (2 ^ 64 - 1)
 entries_more s new e old files number has numbered added more l is =
     let log = has.ready.log in
     let both : Some number ≡ Some log.number = sym numbered ∙ has.ready.number in
     let same : number ≡ log.number = cc in
-    let now = with_one_more log e old files has.ready.ready (subst (λ (n : ℕ). Adds n e old files) same added) in
+    let now = with_one_more log e old files has.ready.ready (subst (λ (n : ℕ). AddsEntry n e old files) same added) in
     let whole : read_as (Some l) ≡ read_as (Some (with_entry log e)) = sym is ∙ now.current in
     let last : l ≡ with_entry log e = cc in
     let long : length l.entries ≡ length log.entries + 1 = ap (λ (m : CurrentLog). length m.entries) last ∙ length-append log.entries ((log.end, e) ∷ []) in
     let before : s.entries ≡ min (length log.entries) (2 ^ 64 - 1) = has.entries log has.ready.ready.current in
     omega (arith, more, long, before)
 
-claims_added : (number : ℕ) (e : LogEntry) (slots more : List Slot) (old new : Files) → Adds number e old new → HasSizes slots old → ((k : ℕ) → size_of more k ≡ size_of slots k) → HasSizes more new
+claims_added : (number : ℕ) (e : LogEntry) (slots more : List Slot) (old new : Files) → AddsEntry number e old new → HasSizes slots old → ((k : ℕ) → size_of more k ≡ size_of slots k) → HasSizes more new
 claims_added number e slots more old new added sizes same k =
     ap length (added.others (claim k) (λ (x : claim k ≡ named Log number). let kinds : Claim ≡ Log = ap (λ (f : FileName). f.kind) x in absurd cc)) ∙ sizes k ∙ sym (same k)
 
 module _ {D : Type 0} (tells : Bool) (moment : D → ℕ) (images : D → ℕ → Files → Type 0) (held : D → Files) (s new : StoreState) (number : ℕ) (e : LogEntry) (old mid end : D) (slots : List Slot) where
-  pub kept_added : (works : IsWorking s) → InEach (images old (moment old)) (HasLog s) → InEach (images old (moment old)) (Holds s)
+  pub kept_added : (works : IsWorking s) → InEach (images old (moment old)) (HasLog s) → InEach (images old (moment old)) (FilesHold s)
       → Since moment images old mid (After (GrowsAhead s.slots s.events) (images old (moment old))) → s.log.number ≡ Some number
       → ((c : Files) → images end (moment end) c → IsTrue tells) → (IsTrue tells → images mid (moment mid) (held mid)) → (IsTrue tells → images end (moment end) (held end)) → (IsTrue tells → IsAdded s new e (held mid))
-      → InEach (images end (moment end)) (Adds number e (held mid)) → InEach (images end (moment end)) (IsReadyIn new.log)
+      → InEach (images end (moment end)) (AddsEntry number e (held mid)) → InEach (images end (moment end)) (IsReadyIn new.log)
       → new.entries ≡ min (s.entries + 1) (2 ^ 64 - 1) → (IsTrue tells → HasSizes slots (held mid)) → ((k : ℕ) → size_of new.slots k ≡ size_of slots k)
       → (IsTrue tells → IsTrimmed new.events.end (held mid)) → IsKeptOn tells held moment images new end
   kept_added works has holds first numbered told left last is added ready more sizes same trimmed = record {

@@ -9,7 +9,7 @@ use Rattle.kept_state.specs.declared.limit.Limit.{Limit as TheLimit}
 use Rattle.machine_model.specs.State.{State}
 use Rattle.store_core.specs.Flow.{flow_in}
 use Rattle.store_core.specs.State.{stands_for}
-use Rattle.store_core.specs.Store.{StoreState, kept_by, EachStandsFor, Holds}
+use Rattle.store_core.specs.Store.{StoreState, kept_by, EachStandsFor, FilesHold}
 use Rattle.store_core.specs.declared.error.StoreError.{StoreError}
 use Rattle.store_core.specs.declared.error.StoreError.TheVariants.{Disk, Memory, MustReopen, Limit, Damaged}
 
@@ -18,7 +18,7 @@ use Rattle.store_core.specs.declared.error.StoreError.TheVariants.{Disk, Memory,
 -- From the call on, whatever a stop may leave holds what the store keeps, and stands for the same state.
 pub record KeepsMeaning {D : Type 0} (moment : D → ℕ) (images : D → ℕ → Files → Type 0) (s : StoreState) (old new : D)
     : Type 0 where
-  pub holds : Since moment images old new (Holds s)
+  pub holds : Since moment images old new (FilesHold s)
   pub states : (state : State) → EachStandsFor (flow_in (kept_by s)) s.lot state (images old (moment old))
       → Since moment images old new (λ c. stands_for (flow_in (kept_by s)) s.lot c ≡ Ok state)
 
@@ -33,8 +33,8 @@ abbrev pub IsDiskOrMemory : StoreError → Type 0
 IsDiskOrMemory error = (error ≡ Disk) ⊎ (error ≡ Memory)
 
 -- the errors of a call that reads files, and neither refuses a change nor knows the flow
-abbrev pub IsReadRefusal : StoreError → Type 0
-IsReadRefusal error = (error ≡ Disk) ⊎ (error ≡ Memory) ⊎ ((damage : Damage) × (error ≡ Damaged damage))
+abbrev pub IsDiskMemoryOrDamage : StoreError → Type 0
+IsDiskMemoryOrDamage error = (error ≡ Disk) ⊎ (error ≡ Memory) ⊎ ((damage : Damage) × (error ≡ Damaged damage))
 
 -- A call that writes refuses so. MustReopen comes exactly where an earlier call of this store answered Disk, and then
 -- nothing is done. Disk comes only where the disk's fault count rose, and no other error comes.
@@ -61,7 +61,7 @@ pub record RefusesToRead {D A : Type 0} (result : Result A StoreError) (at : Con
   pub reopen : IsErrOf result MustReopen ↔ (s_old.failed ≡ true)
   pub failed : (s_new.failed ≡ true) ↔ ((s_old.failed ≡ true) ⊎ IsErrOf result Disk)
   pub cause : CountsFaults (faults old) (faults new) (IsErrOf result Disk)
-  pub kinds : IfErr result (λ error. IsReadRefusal error ⊎ (error ≡ MustReopen))
+  pub kinds : IfErr result (λ error. IsDiskMemoryOrDamage error ⊎ (error ≡ MustReopen))
   pub memory : IsErrOf result Memory → 0 < at.size
   pub untouched : s_old.failed ≡ true → (s_new ≡ s_old) × (new ≡ old)
 

@@ -9,10 +9,10 @@ use Rattle.flowfile_record.specs.declared.TheConstants.{CONTENT_MAX}
 use Rattle.flowfile_record.specs.declared.change.Settled.{Settled}
 use Rattle.flowfile_record.specs.declared.stored.Fresh.TheVariants.{Bytes}
 use Rattle.flowfile_record.specs.declared.stored.Placed.{Placed}
-use Rattle.content_repo.specs.Slots.{HasRoom}
+use Rattle.content_repo.specs.Slots.{SlotsHaveRoom}
 use Rattle.content_repo.specs.declared.slot_set.TheConstants.{SLOTS}
 use Rattle.kept_state.specs.Applied.{session_applied}
-use Rattle.kept_state.specs.Changes.{session_of, MaySettle, MayExpireAs}
+use Rattle.kept_state.specs.Changes.{entry_of_session, MaySettleAs, MayExpireAs}
 use Rattle.kept_state.specs.Limits.{live_limit, numbers_limit}
 use Rattle.kept_state.specs.declared.limit.Limit.{Limit}
 use Rattle.kept_state.specs.declared.limit.Which.TheVariants.{Claims}
@@ -41,9 +41,9 @@ IsFresh p = (bytes : List ℕ) → p.fresh ≡ Bytes bytes
 -- ones are those of earlier files. Its events are numbered behind the last one, and each has a block unless a number
 -- passes its limit.
 pub record MayChange (k : Kept) (s : Settled) : Type 0 where
-  pub settles : MaySettle k s
+  pub settles : MaySettleAs k s
   pub numbered : AreNumberedFrom (k.last_event + 1) s.events
-  pub events : numbers_limit (session_applied k (session_of k s)) ≡ None → All HasBlock s.events
+  pub events : numbers_limit (session_applied k (entry_of_session k s)) ≡ None → All HasBlock s.events
   pub fresh : All IsFresh s.placed
   pub shared : AreShared s.placed
 
@@ -52,7 +52,7 @@ pub record MayChange (k : Kept) (s : Settled) : Type 0 where
 pub record MayExpire (k : Kept) (e : SettledExpiry) : Type 0 where
   pub expires : MayExpireAs k e.connection e.settled
   pub numbered : AreNumberedFrom (k.last_event + 1) e.settled.events
-  pub events : numbers_limit (session_applied k (session_of k e.settled)) ≡ None → All HasBlock e.settled.events
+  pub events : numbers_limit (session_applied k (entry_of_session k e.settled)) ≡ None → All HasBlock e.settled.events
 
 -- each placed file whose content is in the store has that of a live file, or a part of it
 abbrev pub IsOldLive : StoreState → Placed → Type 0
@@ -65,23 +65,25 @@ HasLiveContents store s = All (IsOldLive store) s.placed
 
 -- what is kept once the session is applied
 abbrev pub kept_with : StoreState → Settled → Kept
-kept_with store s = session_applied (kept_by store) (session_of (kept_by store) s)
+kept_with store s = session_applied (kept_by store) (entry_of_session (kept_by store) s)
 
 abbrev pub claims_full : Limit
 claims_full = record { which = Claims; number = SLOTS; wanted = SLOTS + 1 }
 
 -- no quantity is taken past its limit
-pub record IsWithinLimits (store : StoreState) (s : Settled) : Type 0 where
+pub record ChangeIsWithinLimits (store : StoreState) (s : Settled) : Type 0 where
   pub live : live_limit (kept_with store s) ≡ None
-  pub claims : HasRoom store.slots (fresh_sizes s)
+  pub claims : SlotsHaveRoom store.slots (fresh_sizes s)
   pub numbers : numbers_limit (kept_with store s) ≡ None
 
 -- not all new contents find a slot: none of the SLOTS slots that a store has takes the next one
 abbrev pub PassesClaims : StoreState → Settled → Limit → Type 0
-PassesClaims store s limit = (HasRoom store.slots (fresh_sizes s) → ⊥) × (length store.slots ≡ SLOTS) × (limit ≡ claims_full)
+PassesClaims store s limit = (SlotsHaveRoom store.slots (fresh_sizes s) → ⊥) × (length store.slots ≡ SLOTS)
+    × (limit ≡ claims_full)
 
 abbrev pub PassesNumbers : StoreState → Settled → Limit → Type 0
-PassesNumbers store s limit = HasRoom store.slots (fresh_sizes s) × (numbers_limit (kept_with store s) ≡ Some limit)
+PassesNumbers store s limit = SlotsHaveRoom store.slots (fresh_sizes s)
+    × (numbers_limit (kept_with store s) ≡ Some limit)
 
 -- the first limit that is passed: of the live files, of their bytes, of the claims, of the numbers
 abbrev pub IsLimitOf : StoreState → Settled → Limit → Type 0

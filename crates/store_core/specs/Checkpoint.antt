@@ -3,7 +3,7 @@ use Rattle.std.specs.Prelude.{◌≡◌, ◌⊎◌, ℕ, ◌+◌, ◌≤◌, Lis
 use Rattle.disk_trait.specs.Files.{Files, Shortened}
 use Rattle.disk_trait.specs.declared.file_name.FileName.{FileName}
 use Rattle.flowfile_record.specs.Stored.{Kept}
-use Rattle.checkpoint_store.specs.Begun.{IsBegun, IsPassedOver, log_file}
+use Rattle.checkpoint_store.specs.Begun.{IsBegun, IsPassedOverLog, log_file}
 use Rattle.checkpoint_store.specs.Snapshot.{snapshot, snapshot_file}
 use Rattle.store_core.specs.Touched.{TouchesOnly, OnlyShortens}
 
@@ -13,7 +13,7 @@ IsOfNumber number f = (f ≡ log_file number) ⊎ (f ≡ snapshot_file number)
 
 -- each log from this number on is passed over
 abbrev pub ArePassedOver : ℕ → Files → Type 0
-ArePassedOver number files = (n : ℕ) → number ≤ n → IsPassedOver (files (log_file n))
+ArePassedOver number files = (n : ℕ) → number ≤ n → IsPassedOverLog (files (log_file n))
 
 -- the log of this number is current and has its Begin alone, and its snapshot says this
 pub record HasTakenOver (number : ℕ) (k : Kept) (files : Files) : Type 0 where

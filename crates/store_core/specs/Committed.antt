@@ -10,15 +10,15 @@ use Rattle.record_codec.specs.Placeless.{placeless_active, placeless_entry}
 use Rattle.record_codec.specs.declared.entry.LogEntry.{LogEntry}
 use Rattle.content_repo.specs.Claims.{content_in}
 use Rattle.kept_state.specs.Applied.{applied}
-use Rattle.kept_state.specs.Changes.{entry_of, expiry_entry, no_files, placed_in, record_of, MayExpireAs}
+use Rattle.kept_state.specs.Changes.{entry_of_change, expiry_entry, no_files, placed_in, record_of, MayExpireAs}
 use Rattle.machine_model.specs.Changing.{state_after}
 use Rattle.machine_model.specs.State.{State}
-use Rattle.prov_store.specs.State.{HasBlock, IsAppended, NumberedEvents}
-use Rattle.store_core.specs.Change.{MayChange, IsWithinLimits}
+use Rattle.prov_store.specs.State.{HasBlock, EventsAreAppended, NumberedEvents}
+use Rattle.store_core.specs.Change.{MayChange, ChangeIsWithinLimits}
 use Rattle.store_core.specs.Flow.{flow_in}
 use Rattle.store_core.specs.Placing.{GrowsByFresh, ReferAlike, StaysStored}
 use Rattle.store_core.specs.State.{stands_for}
-use Rattle.store_core.specs.Store.{StoreState, kept_by, EachStandsFor, Holds}
+use Rattle.store_core.specs.Store.{StoreState, kept_by, EachStandsFor, FilesHold}
 
 -- a change with the entry that it makes, whose new contents have no place yet, and its events
 pub record PreparedChange : Type 0 where
@@ -34,12 +34,12 @@ pub record IsExpiryEntry (k : Kept) (s : Settled) (entry : LogEntry) : Type 0 wh
 
 -- the entry is that of the settled session, or of the files that expire as it
 abbrev pub IsEntryFor : Kept → Settled → LogEntry → Type 0
-IsEntryFor k s entry = (entry ≡ entry_of k (change.Session s)) ⊎ IsExpiryEntry k s entry
+IsEntryFor k s entry = (entry ≡ entry_of_change k (change.Session s)) ⊎ IsExpiryEntry k s entry
 
 -- It was prepared by this store, as it is: all that its commit takes is there.
-pub record IsPrepared (store : StoreState) (p : PreparedChange) : Type 0 where
+pub record IsPreparedChange (store : StoreState) (p : PreparedChange) : Type 0 where
   pub may : MayChange (kept_by store) p.settled
-  pub within : IsWithinLimits store p.settled
+  pub within : ChangeIsWithinLimits store p.settled
   pub entry : IsEntryFor (kept_by store) p.settled p.entry
   pub room : length p.settled.placed ≤ store.memory.room
   pub first : p.events.first ≡ (kept_by store).last_event + 1
@@ -59,7 +59,7 @@ pub record HasChange (p : PreparedChange) (old new : StoreState) : Type 0 where
 
 -- the files hold the state before the change, or that behind it
 abbrev pub HoldsEither : (old new : StoreState) → Files → Type 0
-HoldsEither old new files = Holds old files ⊎ Holds new files
+HoldsEither old new files = FilesHold old files ⊎ FilesHold new files
 
 -- The store in memory has the change, and within the commit whatever a stop may leave has all of it or nothing.
 pub record IsAllOrNothing {D : Type 0} (held : D → Files) (moment : D → ℕ) (images : D → ℕ → Files → Type 0)
@@ -86,7 +86,7 @@ pub record KeepsShared (settled : Settled) (old new : StoreState) : Type 0 where
 pub record IsAcknowledged {D : Type 0} (held : D → Files) (moment_of : D → ℕ) (images : D → ℕ → Files → Type 0)
     (s_old s_new : StoreState) (settled : Settled) (old new : D) (told : ℕ) : Type 0 where
   pub moment : told ≡ moment_of new
-  pub events : IsAppended settled.events s_old.events s_new.events
+  pub events : EventsAreAppended settled.events s_old.events s_new.events
   pub entries : s_new.entries ≡ min (s_old.entries + 1) (2 ^ 64 - 1)
   pub grown : GrowsByFresh settled.placed s_old.slots s_new.slots
   pub shared : KeepsShared settled s_old s_new

@@ -7,9 +7,9 @@ use Rattle.prov_store.specs.declared.error.EventsError.{EventsError}
 use Rattle.store_core.specs.Change.{claims_full}
 use Rattle.store_core.specs.declared.error.StoreError.{StoreError}
 
-abbrev pub of_disk : DiskError → StoreError
-of_disk DiskError.Failed = StoreError.Disk
-of_disk DiskError.Memory = StoreError.Memory
+abbrev pub disk_store_error : DiskError → StoreError
+disk_store_error DiskError.Failed = StoreError.Disk
+disk_store_error DiskError.Memory = StoreError.Memory
 
 abbrev pub of_log : LogError → StoreError
 of_log LogError.Disk = StoreError.Disk

@@ -13,7 +13,7 @@ use Rattle.store_core.specs.New.{first_stray}
 use Rattle.store_core.specs.declared.reading.Found.{Found}
 
 -- the current log of the files with so many entries, and what they keep
-pub record IsFoundIn (flow : Flow) (lot : ℕ) (files : Files) (found : Found) : Type 0 where
+pub record StoreIsFoundIn (flow : Flow) (lot : ℕ) (files : Files) (found : Found) : Type 0 where
   pub entries : List (ℕ × LogEntry)
   pub current : current_log files ≡ Ok (log_with found.log entries)
   pub count : found.entries ≡ length entries

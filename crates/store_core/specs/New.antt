@@ -24,18 +24,18 @@ holds_from kind from files n = nat_le from n && nat_lt 0 (length (files (named k
 abbrev pub first_from : FileKind → ℕ → Files → Option FileName
 first_from kind from files = option_map (named kind) (least_below (holds_from kind from files) (2 ^ 64))
 
-abbrev pub or_else : Option FileName → Option FileName → Option FileName
-or_else None other = other
-or_else (Some file) other = Some file
+abbrev pub file_or : Option FileName → Option FileName → Option FileName
+file_or None other = other
+file_or (Some file) other = Some file
 
 -- The first file that a store which is being made doesn't have: a log or a snapshot past the first number, or any file
 -- of another kind.
 unfoldable pub first_stray : Files → Option FileName
 first_stray files =
-    or_else (first_from Log 2 files)
-    (or_else (first_from Snapshot 2 files)
-    (or_else (first_from Swap 0 files)
-    (or_else (first_from Claim 0 files) (first_from Events 0 files))))
+    file_or (first_from Log 2 files)
+    (file_or (first_from Snapshot 2 files)
+    (file_or (first_from Swap 0 files)
+    (file_or (first_from Claim 0 files) (first_from Events 0 files))))
 
 -- what a new store of this flow keeps; its id is the low 60 bits of the lot
 abbrev pub kept_anew : Flow → (lot : ℕ) → Kept

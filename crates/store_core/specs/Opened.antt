@@ -16,7 +16,7 @@ use Rattle.prov_store.specs.State.{EventsState, HasEvents, HasStale}
 use Rattle.store_core.specs.Discard.{HasNoOthers}
 use Rattle.store_core.specs.Flow.{Flow, flow_in}
 use Rattle.store_core.specs.Kept.{kept_in}
-use Rattle.store_core.specs.Found.{IsFoundIn}
+use Rattle.store_core.specs.Found.{StoreIsFoundIn}
 use Rattle.store_core.specs.New.{kept_anew}
 use Rattle.store_core.specs.Calls.{IsUnwritten}
 use Rattle.store_core.specs.State.{stands_for, contents_damage, live_contents}
@@ -96,7 +96,7 @@ pub record IsReadWhole (tells : Bool) (lot : ℕ) (files : Files) (found : Found
   pub empty : found.log.number ≡ None → found.entries ≡ 0
   pub small : found.entries < 2 ^ 64
   pub works : found.log.failed ≡ false
-  pub told : IsTrue tells → IsFoundIn (flow_in found.state.kept) lot files found
+  pub told : IsTrue tells → StoreIsFoundIn (flow_in found.state.kept) lot files found
   pub contents : IsTrue tells → contents_damage files (live_contents found.state.kept) ≡ None
   pub events : IsTrue tells → HasEvents known files
   pub stale : IsTrue tells → HasStale known files
@@ -110,7 +110,7 @@ pub record IsRevived (lot : ℕ) (found : Found) (s : StoreState) : Type 0 where
   pub contents : s.opened ≡ live_in s
 
 -- A store that was just made: its log has its Begin alone, its snapshot says this, and there is nothing else.
-pub record IsMade (k : Kept) (files : Files) : Type 0 where
+pub record IsNewStore (k : Kept) (files : Files) : Type 0 where
   pub log : IsBegun 1 files
   pub snapshot : (rest : List ℕ) × (files (snapshot_file 1) ≡ snapshot k ++ rest)
   pub claims : (n : ℕ) → n < 2 ^ 64 → files (named Claim n) ≡ []

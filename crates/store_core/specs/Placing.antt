@@ -12,13 +12,13 @@ use Rattle.flowfile_record.specs.declared.stored.Placed.{Placed}
 use Rattle.record_codec.specs.ActiveFile.{active}
 use Rattle.record_codec.specs.declared.entry.LogEntry.{LogEntry}
 use Rattle.content_repo.specs.Claims.{content_in, OnClaims}
-use Rattle.content_repo.specs.Slots.{count_of, size_of, held_in, references_to, end_of, IsNamed, HasRoom}
+use Rattle.content_repo.specs.Slots.{count_of, size_of, held_in, references_to, end_of, IsNamed, SlotsHaveRoom}
 use Rattle.content_repo.specs.declared.content.TheConstants.{HELD_MAX}
 use Rattle.content_repo.specs.declared.slot.Slot.{Slot}
 use Rattle.kept_state.specs.Changes.{placed_in, record_of, at_content}
 use Rattle.kept_state.specs.Fits.{active_of}
 use Rattle.prov_store.specs.Events.{events_in}
-use Rattle.prov_store.specs.State.{EventsState, IsReady, IsAppended, GrowsBehind as EventsGrow}
+use Rattle.prov_store.specs.State.{EventsState, EventsAreReady, EventsAreAppended, GrowsBehind as EventsGrow}
 use Rattle.store_core.specs.Change.{IsFresh, fresh_sizes_of}
 
 -- the contents of the files of these numbers
@@ -32,8 +32,8 @@ pub record IsHeldIn (slots : List Slot) (at : ContentRef) : Type 0 where
   pub within : end_of at ≤ size_of slots at.slot
 
 -- in claims of these sizes nothing changes but behind their ends
-abbrev pub GrowsBehind : List Slot → Files → Files → Type 0
-GrowsBehind slots =
+abbrev pub ClaimsGrowBehind : List Slot → Files → Files → Type 0
+ClaimsGrowBehind slots =
     OnClaims (λ k old new. (take (size_of slots k) new ≡ take (size_of slots k) old) × (length old ≤ length new))
 
 -- how many bytes stand in the claims
@@ -47,7 +47,7 @@ GrowsByFresh placed old new = bytes_in new ≡ bytes_in old + sum (fresh_sizes_o
 -- claims grow behind their ends, and then files of events behind the last event
 pub record GrowsAhead (slots : List Slot) (known : EventsState) (old new : Files) : Type 0 where
   pub mid : Files
-  pub claims : GrowsBehind slots old mid
+  pub claims : ClaimsGrowBehind slots old mid
   pub events : EventsGrow known mid new
 
 -- a content that is in the store is recorded where it stood
@@ -97,14 +97,14 @@ pub record MayShare (slots : List Slot) (files : List ActiveFile) (p : Placed) (
 -- This file's content may be placed: a new one is as its file says and finds a slot, one in the store is held.
 pub record MayPlaceOne (slots : List Slot) (p : Placed) : Type 0 where
   pub fresh : IsFresh p
-  pub room : HasRoom slots (fresh_sizes_of (p ∷ []))
+  pub room : SlotsHaveRoom slots (fresh_sizes_of (p ∷ []))
   pub old : is_stored p.fresh ≡ true → IsHeldIn slots p.file.content
   pub few : held_in slots < HELD_MAX
 
 -- so may each of these, one after the other
 pub record MayPlace (slots : List Slot) (placed : List Placed) : Type 0 where
   pub fresh : All IsFresh placed
-  pub room : HasRoom slots (fresh_sizes_of placed)
+  pub room : SlotsHaveRoom slots (fresh_sizes_of placed)
   pub old : All (λ p. is_stored p.fresh ≡ true → IsHeldIn slots p.file.content) placed
   pub shared : AreShared placed
   pub few : held_in slots + length placed ≤ HELD_MAX
@@ -123,7 +123,7 @@ pub record PlacesOne (tells : Bool) (files : Files) (place : ℕ) (p : Placed) (
   pub shared : (of : ℕ) → p.fresh ≡ As of → slice_get (references_of (placed_in before)) of ≡ Some recorded.file.content
   pub holds : HoldsMore (recorded ∷ []) old new
   pub grown : GrowsByFresh (p ∷ []) old new
-  pub room : (sizes : List ℕ) → HasRoom old (fresh_sizes_of (p ∷ []) ++ sizes) → HasRoom new sizes
+  pub room : (sizes : List ℕ) → SlotsHaveRoom old (fresh_sizes_of (p ∷ []) ++ sizes) → SlotsHaveRoom new sizes
   pub entry : (front back : List ActiveFile) → length front ≡ place → placed_in before ≡ front ++ record_of p ∷ back
       → placed_in after ≡ front ++ recorded ∷ back
 
@@ -136,8 +136,9 @@ pub record PlacesAll (tells : Bool) (files : Files) (all : List Placed) (old new
   pub grown : GrowsByFresh all old new
 
 -- These events stand behind those of before, and nothing behind them.
-pub record AddsEvents (tells : Bool) (events : List Event) (old new : EventsState) (before after : Files) : Type 0 where
-  pub appended : IsAppended events old new
-  pub added : IsTrue tells → (earlier : List Event) → events_in before old.end ≡ Ok earlier
-      → events_in after new.end ≡ Ok (earlier ++ events)
-  pub ready : IsTrue tells → IsReady new after
+pub record AppendsEvents (tells : Bool) (events : List Event) (old new : EventsState) (before after : Files) : Type 0
+  where
+    pub appended : EventsAreAppended events old new
+    pub added : IsTrue tells → (earlier : List Event) → events_in before old.end ≡ Ok earlier
+        → events_in after new.end ≡ Ok (earlier ++ events)
+    pub ready : IsTrue tells → EventsAreReady new after

@@ -49,13 +49,13 @@ live_contents k = map (λ active. active.file.content) k.files
 -- ---- queues
 
 -- a live file as one of a queue, with its bytes
-abbrev pub queued : (ContentRef → List ℕ) → ActiveFile → QueuedFile
-queued contents active = queued_file contents active.file
+abbrev pub queued_active : (ContentRef → List ℕ) → ActiveFile → QueuedFile
+queued_active contents active = queued_file contents active.file
 
 -- the queue of the connection at a place, by arrival
 abbrev pub queue_of : (ContentRef → List ℕ) → List ActiveFile → (place : ℕ) → List QueuedFile
 queue_of contents files place =
-    fold with_arrival [] (map (queued contents) (filter (λ active. active.connection == place) files))
+    fold with_arrival [] (map (queued_active contents) (filter (λ active. active.connection == place) files))
 
 -- ---- the state
 

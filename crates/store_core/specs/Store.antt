@@ -30,9 +30,9 @@ pub record StoreState : Type 0 where
   pub lot : ℕ
   pub failed : Bool
 
-abbrev pub state_in : InMemory → LogState → (entries : ℕ) → List Slot → (opened : List ContentRef) → EventsState
+abbrev pub store_in : InMemory → LogState → (entries : ℕ) → List Slot → (opened : List ContentRef) → EventsState
     → (lot : ℕ) → (failed : Bool) → StoreState
-state_in memory log entries slots opened events lot failed = record {
+store_in memory log entries slots opened events lot failed = record {
   memory = memory;
   log = log;
   entries = entries;
@@ -61,14 +61,14 @@ pub record IsWorking (s : StoreState) : Type 0 where
   pub within : All (λ at. end_of at ≤ size_of s.slots at.slot) (live_in s)
 
 -- what a store in memory keeps true
-pub record IsSound (s : StoreState) : Type 0 where
+pub record IsSoundStore (s : StoreState) : Type 0 where
   pub current : IsTrue (is_some s.log.number)
   pub mended : s.log.mended ≡ true
   pub opened : length s.opened ≤ LIVE_FILES_MAX
   pub works : s.failed ≡ false → IsWorking s
 
 -- the files keep what the store has in memory, with all live contents and all events
-pub record Holds (s : StoreState) (files : Files) : Type 0 where
+pub record FilesHold (s : StoreState) (files : Files) : Type 0 where
   pub kept : kept_in (flow_in (kept_by s)) s.lot files ≡ Ok (kept_by s)
   pub contents : contents_damage files (live_in s) ≡ None
   pub events : HasEvents s.events files
@@ -83,7 +83,7 @@ pub record HasLog (s : StoreState) (files : Files) : Type 0 where
 -- as long as it knows, and nothing stands behind the last event.
 pub record IsKeptOn {D : Type 0} (tells : Bool) (held : D → Files) (moment : D → ℕ) (images : D → ℕ → Files → Type 0)
     (s : StoreState) (disk : D) : Type 0 where
-  pub holds : s.failed ≡ false → InEach (images disk (moment disk)) (Holds s)
+  pub holds : s.failed ≡ false → InEach (images disk (moment disk)) (FilesHold s)
   pub log : s.failed ≡ false → InEach (images disk (moment disk)) (HasLog s)
   pub sizes : s.failed ≡ false → IsTrue tells → HasSizes s.slots (held disk)
   pub trimmed : s.failed ≡ false → IsTrue tells → IsTrimmed s.events.end (held disk)

@@ -14,8 +14,8 @@ use Rattle.machine_model.specs.Valid.{IsValid}
 use Rattle.prov_store.specs.Events.{events_in}
 use Rattle.prov_store.specs.State.{AreNumberedFrom}
 use Rattle.store_core.specs.Flow.{flow_in}
-use Rattle.store_core.specs.State.{queued, state_with, stands_for}
-use Rattle.store_core.specs.Store.{StoreState, kept_by, Holds}
+use Rattle.store_core.specs.State.{queued_active, state_with, stands_for}
+use Rattle.store_core.specs.Store.{StoreState, kept_by, FilesHold}
 
 -- what is kept without batches is, with its events in a row, a valid state of each flow with as many connections and
 -- processors
@@ -30,14 +30,14 @@ KeptIsValid =
 abbrev pub LiveFilesAreQueued : Type 0
 LiveFilesAreQueued =
     (contents : ContentRef → List ℕ) (events : List Event) (k : Kept) (a : ActiveFile) → IsConsistent k
-    → Contains k.files a → Contains (queue_at (state_with contents events k) a.connection) (queued contents a)
+    → Contains k.files a → Contains (queue_at (state_with contents events k) a.connection) (queued_active contents a)
 
 -- this file of a queue is a live one of its connection
 pub record IsLive (contents : ContentRef → List ℕ) (k : Kept) (place : ℕ) (file : QueuedFile) : Type 0 where
   pub active : ActiveFile
   pub there : Contains k.files active
   pub connection : active.connection ≡ place
-  pub is : queued contents active ≡ file
+  pub is : queued_active contents active ≡ file
 
 -- and nothing else stands in a queue
 abbrev pub QueuedFilesAreLive : Type 0
@@ -48,6 +48,6 @@ QueuedFilesAreLive =
 -- files that hold what a store has in memory stand for it, with the contents and the events that stand in them
 abbrev pub HeldFilesStandForKept : Type 0
 HeldFilesStandForKept =
-    (s : StoreState) (files : Files) (events : List Event) → Holds s files
+    (s : StoreState) (files : Files) (events : List Event) → FilesHold s files
     → events_in files (kept_by s).last_event ≡ Ok events
     → stands_for (flow_in (kept_by s)) s.lot files ≡ Ok (state_with (content_in files) events (kept_by s))

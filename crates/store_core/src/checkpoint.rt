@@ -8,7 +8,7 @@ ghost use Rattle.disk_trait.specs.Faults.{CountsFaults};
 ghost use Rattle.disk_trait.specs.Images.{After, Since, IsOnly};
 ghost use Rattle.flowfile_record.specs.Encoding.{IsNumber};
 ghost use Rattle.flowfile_record.specs.Stored.{kept_of};
-ghost use Rattle.checkpoint_store.specs.Begun.{IsPassedOver, log_file};
+ghost use Rattle.checkpoint_store.specs.Begun.{IsPassedOverLog, log_file};
 ghost use Rattle.checkpoint_store.specs.Consistent.{IsConsistent};
 ghost use Rattle.flowfile_wal.specs.Calls.{InEach};
 ghost use Rattle.store_core.specs.Calls.{IsDiskOrMemory, KeepsMeaning, StopsOrLacksMemory};
@@ -92,7 +92,7 @@ fn empty_log<D: Disk>(disk: &mut D, number: u64) -> Result<(), Failed>
         → At (log_file number) (λ old new. new ≡ []) (D.held disk.old) (D.held disk.new)) }
     ensures synced { OnOk result (IsOnly (D.held disk.new) (D.images disk.new (D.moment disk.new))) }
     ensures images { Since D.moment D.images disk.old disk.new
-        (After (At (log_file number) (λ old new. IsPassedOver old → IsPassedOver new))
+        (After (At (log_file number) (λ old new. IsPassedOverLog old → IsPassedOverLog new))
         (D.images disk.old (D.moment disk.old))) }
     ensures cause { CountsFaults (D.faults disk.old) (D.faults disk.new) (IsErr result) }
 {

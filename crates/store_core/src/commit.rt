@@ -7,11 +7,11 @@ ghost use Rattle.record_codec.specs.Placeless.{placeless_entry};
 ghost use Rattle.content_repo.specs.Claims.{HasSizes, content_in};
 ghost use Rattle.kept_state.specs.Changes.{placed_in, record_of};
 ghost use Rattle.machine_model.specs.Changing.{HaveDigests};
-ghost use Rattle.prov_store.specs.State.{IsReady};
+ghost use Rattle.prov_store.specs.State.{EventsAreReady};
 ghost use Rattle.store_core.specs.Calls.{StopsOnFault};
 ghost use Rattle.store_core.specs.Change.{HasLiveContents};
-ghost use Rattle.store_core.specs.Committed.{IsPrepared, IsAcknowledged, IsAllOrNothing};
-ghost use Rattle.store_core.specs.Placing.{MayPlace, PlacesAll, AddsEvents, GrowsAhead, StaysStored};
+ghost use Rattle.store_core.specs.Committed.{IsPreparedChange, IsAcknowledged, IsAllOrNothing};
+ghost use Rattle.store_core.specs.Placing.{MayPlace, PlacesAll, AppendsEvents, GrowsAhead, StaysStored};
 ghost use Rattle.store_core.specs.Store.{IsKeptOn};
 ghost use Rattle.store_core.specs.Touched.{CommitsTo};
 
@@ -35,7 +35,7 @@ impl Store {
         prepared: Prepared<'_>,
     ) -> Result<u64, StoreError>
         requires kept { IsKeptOn D.tells D.held D.moment D.images self.old disk.old }
-        requires prepared { IsPrepared self.old prepared }
+        requires prepared { IsPreparedChange self.old prepared }
         requires contents { HasLiveContents self.old prepared.settled }
         requires digests { IsTrue D.tells → HaveDigests (content_in (D.held disk.old)) prepared.settled.placed }
         // The change is made in memory, and once it is acknowledged whatever a stop leaves has it: see `kept`.
@@ -101,13 +101,13 @@ fn write_ahead<D: Disk>(
     requires may { MayPlace contents.old placed.now }
     requires sizes { IsTrue D.tells → HasSizes contents.old (D.held disk.old) }
     requires next { blocks.now.first ≡ events.old.end + 1 }
-    requires ready { IsTrue D.tells → IsReady events.old (D.held disk.old) }
+    requires ready { IsTrue D.tells → EventsAreReady events.old (D.held disk.old) }
     ensures placed { OnOk result (PlacesAll D.tells (D.held disk.new) placed.now contents.old contents.new entry.new) }
     ensures same { placeless_entry entry.new ≡ placeless_entry entry.old }
     ensures stays { AllZip StaysStored placed.now (placed_in entry.new) }
     ensures sizes { OnOk result (IsTrue D.tells → HasSizes contents.new (D.held disk.new)) }
     ensures events { OnOk result
-        (AddsEvents D.tells blocks.now.events events.old events.new (D.held disk.old) (D.held disk.new)) }
+        (AppendsEvents D.tells blocks.now.events events.old events.new (D.held disk.old) (D.held disk.new)) }
     ensures held { IsTrue D.tells → GrowsAhead contents.old events.old (D.held disk.old) (D.held disk.new) }
     ensures images { Since D.moment D.images disk.old disk.new
         (After (GrowsAhead contents.old events.old) (D.images disk.old (D.moment disk.old))) }

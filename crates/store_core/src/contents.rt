@@ -12,7 +12,7 @@ ghost use Rattle.content_repo.specs.Slots.{count_of, size_of, held_in, reference
 ghost use Rattle.content_repo.specs.declared.content.TheConstants.{HELD_MAX};
 ghost use Rattle.kept_state.specs.Changes.{placed_in, record_of};
 ghost use Rattle.store_core.specs.Change.{fresh_contents_of};
-ghost use Rattle.store_core.specs.Placing.{contents_of, GrowsBehind, MayPlace, MayPlaceOne, MayShare, IsRecordedAt, PlacesOne, PlacesAll, StaysStored};
+ghost use Rattle.store_core.specs.Placing.{contents_of, ClaimsGrowBehind, MayPlace, MayPlaceOne, MayShare, IsRecordedAt, PlacesOne, PlacesAll, StaysStored};
 
 use content_repo::{Content, ContentError};
 use disk_trait::Disk;
@@ -48,9 +48,9 @@ pub(crate) fn place_contents<D: Disk>(
     ensures same { placeless_entry entry.new ≡ placeless_entry entry.old }
     ensures stays { AllZip StaysStored placed.now (placed_in entry.new) }
     ensures sizes { OnOk result (IsTrue D.tells → HasSizes contents.new (D.held disk.new)) }
-    ensures held { IsTrue D.tells → GrowsBehind contents.old (D.held disk.old) (D.held disk.new) }
+    ensures held { IsTrue D.tells → ClaimsGrowBehind contents.old (D.held disk.old) (D.held disk.new) }
     ensures images { Since D.moment D.images disk.old disk.new
-        (After (GrowsBehind contents.old) (D.images disk.old (D.moment disk.old))) }
+        (After (ClaimsGrowBehind contents.old) (D.images disk.old (D.moment disk.old))) }
     ensures refusal { RefusesOnFault result (D.faults disk.old) (D.faults disk.new) }
 {
     for (place, one) in placed.iter().enumerate() {
@@ -76,9 +76,9 @@ fn place_content<D: Disk>(
     ensures unplaced { IsErr result → entry.new ≡ entry.old }
     ensures same { placeless_entry entry.new ≡ placeless_entry entry.old }
     ensures sizes { OnOk result (IsTrue D.tells → HasSizes contents.new (D.held disk.new)) }
-    ensures held { IsTrue D.tells → GrowsBehind contents.old (D.held disk.old) (D.held disk.new) }
+    ensures held { IsTrue D.tells → ClaimsGrowBehind contents.old (D.held disk.old) (D.held disk.new) }
     ensures images { Since D.moment D.images disk.old disk.new
-        (After (GrowsBehind contents.old) (D.images disk.old (D.moment disk.old))) }
+        (After (ClaimsGrowBehind contents.old) (D.images disk.old (D.moment disk.old))) }
     ensures refusal { RefusesOnFault result (D.faults disk.old) (D.faults disk.new) }
 {
     match &one.fresh {
@@ -112,9 +112,9 @@ fn write_content<D: Disk>(
     ensures unplaced { IsErr result → entry.new ≡ entry.old }
     ensures same { placeless_entry entry.new ≡ placeless_entry entry.old }
     ensures sizes { OnOk result (IsTrue D.tells → HasSizes contents.new (D.held disk.new)) }
-    ensures held { IsTrue D.tells → GrowsBehind contents.old (D.held disk.old) (D.held disk.new) }
+    ensures held { IsTrue D.tells → ClaimsGrowBehind contents.old (D.held disk.old) (D.held disk.new) }
     ensures images { Since D.moment D.images disk.old disk.new
-        (After (GrowsBehind contents.old) (D.images disk.old (D.moment disk.old))) }
+        (After (ClaimsGrowBehind contents.old) (D.images disk.old (D.moment disk.old))) }
     ensures refusal { RefusesOnFault result (D.faults disk.old) (D.faults disk.new) }
 {
     let at = contents.append(disk, bytes, one.file.content.digest)?;

@@ -1,6 +1,6 @@
 //! Why a call of a store gave no answer.
 ghost use Rattle.std.specs.Prelude.{◌≡◌};
-ghost use Rattle.store_core.specs.Errors.{of_disk, of_log, of_content, of_check, of_events};
+ghost use Rattle.store_core.specs.Errors.{disk_store_error, of_log, of_content, of_check, of_events};
 ghost use Rattle.store_core.specs.declared.error.StoreError.TheVariants.{Disk, Memory};
 
 use checkpoint_store::CheckError;
@@ -54,7 +54,7 @@ impl From<AllocError> for StoreError {
 }
 
 impl From<DiskError> for StoreError {
-    ghost from_gives = { λ from error. error ≡ of_disk from };
+    ghost from_gives = { λ from error. error ≡ disk_store_error from };
 
     fn from(error: DiskError) -> StoreError {
         match error {

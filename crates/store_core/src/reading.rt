@@ -12,13 +12,13 @@ ghost use Rattle.checkpoint_store.specs.Consistent.{IsConsistent};
 ghost use Rattle.checkpoint_store.specs.Snapshot.{snapshot_file};
 ghost use Rattle.content_repo.specs.Slots.{IsNamed};
 ghost use Rattle.flowfile_wal.specs.Calls.{HaveEncodings};
-ghost use Rattle.flowfile_wal.specs.Steps.{numbered};
-ghost use Rattle.kept_state.specs.Applied.{batches_that_matter, swapped_out};
+ghost use Rattle.flowfile_wal.specs.Steps.{numbered_log};
+ghost use Rattle.kept_state.specs.Applied.{batches_that_matter, batch_swapped_out};
 ghost use Rattle.kept_state.specs.Changes.{no_files};
 ghost use Rattle.kept_state.specs.Fits.{replayed};
-ghost use Rattle.store_core.specs.Calls.{IsReadRefusal, IsDiskOrMemory};
+ghost use Rattle.store_core.specs.Calls.{IsDiskMemoryOrDamage, IsDiskOrMemory};
 ghost use Rattle.store_core.specs.Flow.{agrees_with, flow_in};
-ghost use Rattle.store_core.specs.Found.{IsFoundIn, IsStrayDamage};
+ghost use Rattle.store_core.specs.Found.{StoreIsFoundIn, IsStrayDamage};
 ghost use Rattle.store_core.specs.Kept.{snapshot_for, with_least, least_of, unless_swapped, with_entries, fitted, behind_snapshot, behind_log, kept_in};
 ghost use Rattle.store_core.specs.New.{kept_anew, first_from, first_stray};
 ghost use Rattle.store_core.specs.State.{contents_damage, live_contents};
@@ -49,7 +49,7 @@ pub(crate) fn read_kept<D: Disk>(
     lot: u64,
 ) -> Result<Found, StoreError>
     requires flow { IsConsistent (kept_anew flow.now lot) }
-    ensures found { IfOk result (λ found. IsTrue D.tells → IsFoundIn flow.now lot (D.held disk.old) found) }
+    ensures found { IfOk result (λ found. IsTrue D.tells → StoreIsFoundIn flow.now lot (D.held disk.old) found) }
     ensures log { IfOk result (λ found. (found.log.mended ≡ false) × (found.log.failed ≡ false)) }
     ensures flow { IfOk result (λ found. agrees_with flow.now found.state.kept ≡ true) }
     ensures empty { IfOk result (λ found. found.log.number ≡ None → found.entries ≡ 0) }
@@ -57,7 +57,7 @@ pub(crate) fn read_kept<D: Disk>(
     ensures anew { IfOk result (λ found. found.log.number ≡ None → found.state.kept ≡ kept_anew flow.now lot) }
     ensures damaged { (damage : TheDamage) → IsErrOf result (StoreError.Damaged damage) → IsTrue D.tells
         → kept_in flow.now lot (D.held disk.old) ≡ Err damage }
-    ensures refusal { IfErr result IsReadRefusal }
+    ensures refusal { IfErr result IsDiskMemoryOrDamage }
     ensures stays { Stays D.held D.moment D.images disk.old disk.new }
     ensures cause { CountsFaults (D.faults disk.old) (D.faults disk.new) (IsErrOf result StoreError.Disk) }
 {
@@ -83,12 +83,12 @@ fn read_behind<D: Disk>(
     requires flow { IsConsistent (kept_anew flow.now lot) }
     requires encoded { HaveEncodings entries.items }
     ensures kept { IfOk result (λ state. IsTrue D.tells → (end : ℕ)
-        → behind_log flow.now lot (D.held disk.old) (Ok (numbered current entries.items end)) ≡ Ok state.kept) }
+        → behind_log flow.now lot (D.held disk.old) (Ok (numbered_log current entries.items end)) ≡ Ok state.kept) }
     ensures damaged { (damage : TheDamage) → IsErrOf result (StoreError.Damaged damage) → IsTrue D.tells → (end : ℕ)
-        → behind_log flow.now lot (D.held disk.old) (Ok (numbered current entries.items end)) ≡ Err damage }
+        → behind_log flow.now lot (D.held disk.old) (Ok (numbered_log current entries.items end)) ≡ Err damage }
     ensures flow { IfOk result (λ state. agrees_with flow.now state.kept ≡ true) }
     ensures anew { IfOk result (λ state. current ≡ None → state.kept ≡ kept_anew flow.now lot) }
-    ensures refusal { IfErr result IsReadRefusal }
+    ensures refusal { IfErr result IsDiskMemoryOrDamage }
     ensures stays { Stays D.held D.moment D.images disk.old disk.new }
     ensures cause { CountsFaults (D.faults disk.old) (D.faults disk.new) (IsErrOf result StoreError.Disk) }
 {
@@ -110,7 +110,7 @@ fn new_state<D: Disk>(
     ensures none { OnOk result (IsTrue D.tells → first_stray (D.held disk.old) ≡ None) }
     ensures damaged { (damage : TheDamage) → IsErrOf result (StoreError.Damaged damage) → IsTrue D.tells
         → IsStrayDamage (D.held disk.old) damage }
-    ensures refusal { IfErr result IsReadRefusal }
+    ensures refusal { IfErr result IsDiskMemoryOrDamage }
     ensures stays { Stays D.held D.moment D.images disk.old disk.new }
     ensures cause { CountsFaults (D.faults disk.old) (D.faults disk.new) (IsErrOf result StoreError.Disk) }
 {
@@ -131,7 +131,7 @@ pub(crate) fn refuse_stray<D: Disk>(alloc: Global, disk: &mut D) -> Result<(), S
     ensures none { OnOk result (IsTrue D.tells → first_stray (D.held disk.old) ≡ None) }
     ensures damaged { (damage : TheDamage) → IsErrOf result (StoreError.Damaged damage) → IsTrue D.tells
         → IsStrayDamage (D.held disk.old) damage }
-    ensures refusal { IfErr result IsReadRefusal }
+    ensures refusal { IfErr result IsDiskMemoryOrDamage }
     ensures stays { Stays D.held D.moment D.images disk.old disk.new }
     ensures cause { CountsFaults (D.faults disk.old) (D.faults disk.new) (IsErrOf result StoreError.Disk) }
 {
@@ -215,7 +215,7 @@ fn read_state<D: Disk>(
         → behind_snapshot (D.held disk.old) (record { number = number; entries = entries.items; end = end })
         (snapshot_for flow.now (snapshot_file number) (D.held disk.old (snapshot_file number))) ≡ Err damage }
     ensures flow { IfOk result (λ state. agrees_with flow.now state.kept ≡ true) }
-    ensures refusal { IfErr result IsReadRefusal }
+    ensures refusal { IfErr result IsDiskMemoryOrDamage }
     ensures stays { Stays D.held D.moment D.images disk.old disk.new }
     ensures cause { CountsFaults (D.faults disk.old) (D.faults disk.new) (IsErrOf result StoreError.Disk) }
 {
@@ -255,7 +255,7 @@ pub(crate) fn apply_entries(
         → with_entries (record { number = number; entries = entries.items; end = end }) (kept_of stored)
         (unless_swapped (least_of (batches_that_matter (kept_of stored) entries.items))) ≡ Err damage }
     ensures flow { IfOk result (λ state. flow_in state.kept ≡ flow_in (kept_of stored)) }
-    ensures refusal { IfErr result IsReadRefusal }
+    ensures refusal { IfErr result IsDiskMemoryOrDamage }
     ensures works { IsErrOf result StoreError.Disk → ⊥ }
 {
     let least = least_swapped(least_batch(&stored), entries.as_slice());
@@ -295,7 +295,7 @@ fn least_batch(stored: &Stored) -> Option<u64>
 
 // The least of a number and the batches that the entries swap out.
 fn least_swapped(first: Option<u64>, entries: &[(u64, LogEntry)]) -> Option<u64>
-    ensures { result ≡ fold with_least first (flat_map (λ e. swapped_out e.1) entries.now) }
+    ensures { result ≡ fold with_least first (flat_map (λ e. batch_swapped_out e.1) entries.now) }
 {
     let mut least = first;
     for (_, entry) in entries {
@@ -314,14 +314,14 @@ fn replay_entries(
     entries: LogEntries,
 ) -> Result<KeptState, StoreError>
     requires encoded { HaveEncodings entries.items }
-    requires unswapped { All (λ e. swapped_out e.1 ≡ []) entries.items }
+    requires unswapped { All (λ e. batch_swapped_out e.1 ≡ []) entries.items }
     requires no_batches { (kept_of stored).batches ≡ [] }
     requires consistent { IsConsistent (kept_of stored) }
     ensures kept { IfOk result (λ state. replayed no_files (kept_of stored) entries.items ≡ Ok state.kept) }
     ensures damaged { (damage : TheDamage) → IsErrOf result (StoreError.Damaged damage)
         → fitted number (replayed no_files (kept_of stored) entries.items) ≡ Err damage }
     ensures flow { IfOk result (λ state. flow_in state.kept ≡ flow_in (kept_of stored)) }
-    ensures refusal { IfErr result IsReadRefusal }
+    ensures refusal { IfErr result IsDiskMemoryOrDamage }
     ensures works { IsErrOf result StoreError.Disk → ⊥ }
 {
     replays_go_on();
@@ -362,7 +362,7 @@ pub(crate) fn read_contents<D: Disk>(
         → contents_damage (D.held disk.old) (live_contents (kept_of stored.now)) ≡ None) }
     ensures damaged { (damage : TheDamage) → IsErrOf result (StoreError.Damaged damage) → IsTrue D.tells
         → contents_damage (D.held disk.old) (live_contents (kept_of stored.now)) ≡ Some damage }
-    ensures refusal { IfErr result IsReadRefusal }
+    ensures refusal { IfErr result IsDiskMemoryOrDamage }
     ensures stays { Stays D.held D.moment D.images disk.old disk.new }
     ensures cause { CountsFaults (D.faults disk.old) (D.faults disk.new) (IsErrOf result StoreError.Disk) }
 {

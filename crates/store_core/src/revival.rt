@@ -14,7 +14,7 @@ ghost use Rattle.store_core.specs.Calls.{IsDiskOrMemory};
 ghost use Rattle.store_core.specs.Discard.{HasNoOthers};
 ghost use Rattle.store_core.specs.Flow.{flow_in};
 ghost use Rattle.store_core.specs.New.{kept_anew};
-ghost use Rattle.store_core.specs.Opened.{HasNoLeftovers, IsReadWhole, IsRevived, SameMeaning, IsMade};
+ghost use Rattle.store_core.specs.Opened.{HasNoLeftovers, IsReadWhole, IsRevived, SameMeaning, IsNewStore};
 ghost use Rattle.store_core.specs.State.{live_contents};
 ghost use Rattle.store_core.specs.Store.{IsKeptOn};
 ghost use Rattle.store_core.specs.Touched.{Revives, log_opened};
@@ -94,9 +94,9 @@ fn make_whole<D: Disk>(
     ensures mended { (number : ℕ) (needs : Needs) → log.old.number ≡ Some number → IsPlain needs number
         → Since D.moment D.images disk.old disk.new (After (Agrees needs) (D.images disk.old (D.moment disk.old))) }
     ensures images { log.old.number ≡ None
-        → Since D.moment D.images disk.old disk.new (λ c. IsUnmade c ⊎ IsMade (kept_of stored.now) c) }
+        → Since D.moment D.images disk.old disk.new (λ c. IsUnmade c ⊎ IsNewStore (kept_of stored.now) c) }
     ensures made { OnOk result (log.old.number ≡ None
-        → InEach (D.images disk.new (D.moment disk.new)) (IsMade (kept_of stored.now))) }
+        → InEach (D.images disk.new (D.moment disk.new)) (IsNewStore (kept_of stored.now))) }
     ensures others { OnOk result (IsTrue D.tells
         → HasNoOthers (Some (log_opened log.old.number)) (D.held disk.new)) }
     ensures events { Since D.moment D.images disk.old disk.new
@@ -149,8 +149,8 @@ fn make<D: Disk>(
     ensures log { OnOk result ((log.new.number ≡ Some FIRST_LOG) × (log.new.mended ≡ true) × (log.new.failed ≡ false)) }
     ensures ready { OnOk result (InEach (D.images disk.new (D.moment disk.new)) (IsReadyIn log.new)) }
     // Wherever a stop comes, no store is made yet, or it is made.
-    ensures images { Since D.moment D.images disk.old disk.new (λ c. IsUnmade c ⊎ IsMade (kept_of stored.now) c) }
-    ensures made { OnOk result (InEach (D.images disk.new (D.moment disk.new)) (IsMade (kept_of stored.now))) }
+    ensures images { Since D.moment D.images disk.old disk.new (λ c. IsUnmade c ⊎ IsNewStore (kept_of stored.now) c) }
+    ensures made { OnOk result (InEach (D.images disk.new (D.moment disk.new)) (IsNewStore (kept_of stored.now))) }
     ensures others { OnOk result (IsTrue D.tells → HasNoOthers (Some FIRST_LOG) (D.held disk.new)) }
     ensures events { Since D.moment D.images disk.old disk.new
         (After SameEventFiles (D.images disk.old (D.moment disk.old))) }

@@ -10,9 +10,9 @@ ghost use Rattle.checkpoint_store.specs.Consistent.{IsConsistent};
 ghost use Rattle.checkpoint_store.specs.Snapshot.{snapshot_file};
 ghost use Rattle.flowfile_wal.specs.Calls.{HaveEncodings};
 ghost use Rattle.flowfile_wal.specs.Current.{current_number};
-ghost use Rattle.flowfile_wal.specs.Steps.{numbered};
+ghost use Rattle.flowfile_wal.specs.Steps.{numbered_log};
 ghost use Rattle.prov_store.specs.Scanning.{numbers_between, HasBetween};
-ghost use Rattle.store_core.specs.Calls.{IsReadRefusal};
+ghost use Rattle.store_core.specs.Calls.{IsDiskMemoryOrDamage};
 ghost use Rattle.store_core.specs.Kept.{snapshot_for, behind_snapshot, behind_log, kept_in};
 ghost use Rattle.store_core.specs.Seen.{no_flow, or_anew, kept_seen, IsSeenOn, IsReadOf, OfTheState, live_file, IsContentRead, IsContentOf};
 ghost use Rattle.store_core.specs.New.{kept_anew};
@@ -57,7 +57,7 @@ pub fn read_store<D: Disk>(alloc: Global, disk: &mut D) -> Result<Seen, StoreErr
     ensures last { IfOk result (λ seen. seen.events.end ≡ (kept_seen seen).last_event) }
     ensures damaged { (damage : TheDamage) → IsErrOf result (StoreError.Damaged damage) → IsTrue D.tells
         → stands_for no_flow 0 (D.held disk.old) ≡ Err damage }
-    ensures refusal { IfErr result IsReadRefusal }
+    ensures refusal { IfErr result IsDiskMemoryOrDamage }
     ensures stays { Stays D.held D.moment D.images disk.old disk.new }
     ensures cause { CountsFaults (D.faults disk.old) (D.faults disk.new) (IsErrOf result StoreError.Disk) }
 {
@@ -76,7 +76,7 @@ fn see_kept<D: Disk>(alloc: Global, disk: &mut D) -> Result<Option<KeptState>, S
         → ((state ≡ None) ↔ (current_number (D.held disk.old) ≡ None))) }
     ensures damaged { (damage : TheDamage) → IsErrOf result (StoreError.Damaged damage) → IsTrue D.tells
         → kept_in no_flow 0 (D.held disk.old) ≡ Err damage }
-    ensures refusal { IfErr result IsReadRefusal }
+    ensures refusal { IfErr result IsDiskMemoryOrDamage }
     ensures stays { Stays D.held D.moment D.images disk.old disk.new }
     ensures cause { CountsFaults (D.faults disk.old) (D.faults disk.new) (IsErrOf result StoreError.Disk) }
 {
@@ -93,12 +93,12 @@ fn see_behind<D: Disk>(
 ) -> Result<Option<KeptState>, StoreError>
     requires { HaveEncodings entries.items }
     ensures kept { IfOk result (λ state. IsTrue D.tells → (end : ℕ)
-        → behind_log no_flow 0 (D.held disk.old) (Ok (numbered current entries.items end))
+        → behind_log no_flow 0 (D.held disk.old) (Ok (numbered_log current entries.items end))
         ≡ Ok (or_anew (option_map (λ m. m.kept) state))) }
     ensures made { IfOk result (λ state. (state ≡ None) ↔ (current ≡ None)) }
     ensures damaged { (damage : TheDamage) → IsErrOf result (StoreError.Damaged damage) → IsTrue D.tells → (end : ℕ)
-        → behind_log no_flow 0 (D.held disk.old) (Ok (numbered current entries.items end)) ≡ Err damage }
-    ensures refusal { IfErr result IsReadRefusal }
+        → behind_log no_flow 0 (D.held disk.old) (Ok (numbered_log current entries.items end)) ≡ Err damage }
+    ensures refusal { IfErr result IsDiskMemoryOrDamage }
     ensures stays { Stays D.held D.moment D.images disk.old disk.new }
     ensures cause { CountsFaults (D.faults disk.old) (D.faults disk.new) (IsErrOf result StoreError.Disk) }
 {
@@ -128,7 +128,7 @@ fn see_state<D: Disk>(
     ensures damaged { (damage : TheDamage) → IsErrOf result (StoreError.Damaged damage) → IsTrue D.tells → (end : ℕ)
         → behind_snapshot (D.held disk.old) (record { number = number; entries = entries.items; end = end })
         (snapshot_for no_flow (snapshot_file number) (D.held disk.old (snapshot_file number))) ≡ Err damage }
-    ensures refusal { IfErr result IsReadRefusal }
+    ensures refusal { IfErr result IsDiskMemoryOrDamage }
     ensures stays { Stays D.held D.moment D.images disk.old disk.new }
     ensures cause { CountsFaults (D.faults disk.old) (D.faults disk.new) (IsErrOf result StoreError.Disk) }
 {
@@ -147,7 +147,7 @@ fn see_made<D: Disk>(alloc: Global, disk: &mut D, state: KeptState) -> Result<Se
     ensures seen { IfOk result (IsReadOf D.tells (D.held disk.old) (Some state.kept)) }
     ensures damaged { (damage : TheDamage) → IsErrOf result (StoreError.Damaged damage) → IsTrue D.tells
         → state_of (D.held disk.old) state.kept ≡ Err damage }
-    ensures refusal { IfErr result IsReadRefusal }
+    ensures refusal { IfErr result IsDiskMemoryOrDamage }
     ensures stays { Stays D.held D.moment D.images disk.old disk.new }
     ensures cause { CountsFaults (D.faults disk.old) (D.faults disk.new) (IsErrOf result StoreError.Disk) }
 {
@@ -165,7 +165,7 @@ fn see_none<D: Disk>(alloc: Global, disk: &mut D) -> Result<Seen, StoreError>
     ensures seen { IfOk result (IsReadOf D.tells (D.held disk.old) None) }
     ensures damaged { (damage : TheDamage) → IsErrOf result (StoreError.Damaged damage) → IsTrue D.tells
         → state_of (D.held disk.old) (kept_anew no_flow 0) ≡ Err damage }
-    ensures refusal { IfErr result IsReadRefusal }
+    ensures refusal { IfErr result IsDiskMemoryOrDamage }
     ensures stays { Stays D.held D.moment D.images disk.old disk.new }
     ensures cause { CountsFaults (D.faults disk.old) (D.faults disk.new) (IsErrOf result StoreError.Disk) }
 {
@@ -208,7 +208,7 @@ impl Seen {
         // A disk that tells, and still holds what was seen, gives no damage.
         ensures undamaged { (damage : TheDamage) → IsErrOf result (StoreError.Damaged damage) → IsTrue D.tells
             → IsSeenOn (D.held disk.old) self.now → ⊥ }
-        ensures refusal { IfErr result IsReadRefusal }
+        ensures refusal { IfErr result IsDiskMemoryOrDamage }
         ensures stays { Stays D.held D.moment D.images disk.old disk.new }
         ensures cause { CountsFaults (D.faults disk.old) (D.faults disk.new) (IsErrOf result StoreError.Disk) }
     {
@@ -234,7 +234,7 @@ impl Seen {
         ensures none { (HasBetween from to self.now.events.end → ⊥) → disk.new ≡ disk.old }
         ensures undamaged { (damage : TheDamage) → IsErrOf result (StoreError.Damaged damage) → IsTrue D.tells
             → IsSeenOn (D.held disk.old) self.now → ⊥ }
-        ensures refusal { IfErr result IsReadRefusal }
+        ensures refusal { IfErr result IsDiskMemoryOrDamage }
         ensures stays { Stays D.held D.moment D.images disk.old disk.new }
         ensures cause { CountsFaults (D.faults disk.old) (D.faults disk.new) (IsErrOf result StoreError.Disk) }
     {
@@ -262,7 +262,7 @@ impl Seen {
         ensures none { live_file number self.now ≡ None → disk.new ≡ disk.old }
         ensures undamaged { (damage : TheDamage) → IsErrOf result (StoreError.Damaged damage) → IsTrue D.tells
             → IsSeenOn (D.held disk.old) self.now → ⊥ }
-        ensures refusal { IfErr result IsReadRefusal }
+        ensures refusal { IfErr result IsDiskMemoryOrDamage }
         ensures stays { Stays D.held D.moment D.images disk.old disk.new }
         ensures cause { CountsFaults (D.faults disk.old) (D.faults disk.new) (IsErrOf result StoreError.Disk) }
     {

@@ -7,12 +7,12 @@ ghost use Rattle.flowfile_record.specs.declared.change.Change.TheVariants as cha
 ghost use Rattle.checkpoint_store.specs.Consistent.{IsConsistent};
 ghost use Rattle.content_repo.specs.Claims.{AreEmptied, IsRead, IdleShortened};
 ghost use Rattle.content_repo.specs.Slots.{IsReclaimed};
-ghost use Rattle.kept_state.specs.Changes.{entry_of, expiry_entry};
+ghost use Rattle.kept_state.specs.Changes.{entry_of_change, expiry_entry};
 ghost use Rattle.kept_state.specs.Limits.{numbers_limit};
 ghost use Rattle.kept_state.specs.declared.limit.Limit.{Limit as TheLimit};
 ghost use Rattle.store_core.specs.Calls.{KeepsMeaning, RefusesToRead, StopsOnFault};
-ghost use Rattle.store_core.specs.Change.{MayChange, MayExpire, IsWithinLimits, IsLimitOf, kept_with};
-ghost use Rattle.store_core.specs.Committed.{IsPrepared};
+ghost use Rattle.store_core.specs.Change.{MayChange, MayExpire, ChangeIsWithinLimits, IsLimitOf, kept_with};
+ghost use Rattle.store_core.specs.Committed.{IsPreparedChange};
 ghost use Rattle.store_core.specs.Store.{kept_by, live_in, IsKeptOn, IsTidy};
 ghost use Rattle.store_core.specs.Touched.{Frees};
 
@@ -45,7 +45,7 @@ pub struct Store {
 }
 
 impl Model for Store {
-    ghost use Rattle.store_core.specs.Store.{StoreState, state_in, IsSound};
+    ghost use Rattle.store_core.specs.Store.{StoreState, store_in, IsSoundStore};
     ghost use Rattle.std.specs.Coded.{codes};
     ghost use Rattle.flowfile_record.specs.contracts.attributes.Attributes as attributes;
 
@@ -53,10 +53,10 @@ impl Model for Store {
 
     ghost coded = { Prim.hlevel (codes, attributes.the_row.coded) };
 
-    ghost view = { λ store. state_in store.state store.log store.entries store.contents store.opened.items store.events
+    ghost view = { λ store. store_in store.state store.log store.entries store.contents store.opened.items store.events
         store.lot store.has_failed };
 
-    ghost invariant = { λ store. IsSound (state_in store.state store.log store.entries store.contents
+    ghost invariant = { λ store. IsSoundStore (store_in store.state store.log store.entries store.contents
         store.opened.items store.events store.lot store.has_failed) };
 }
 
@@ -106,11 +106,12 @@ impl Store {
     /// contents are written by the commit from where they are, its events are encoded here.
     pub fn prepare<'a>(&mut self, settled: &'a Settled) -> Result<Prepared<'a>, StoreError>
         requires { MayChange (kept_by self.old) settled.now }
-        ensures prepared { IfOk result (λ prepared. (prepared.settled ≡ settled.now) × IsPrepared self.new prepared) }
+        ensures prepared { IfOk result
+            (λ prepared. (prepared.settled ≡ settled.now) × IsPreparedChange self.new prepared) }
         ensures entry { IfOk result (λ prepared.
-            prepared.entry ≡ entry_of (kept_by self.old) (change.Session settled.now)) }
+            prepared.entry ≡ entry_of_change (kept_by self.old) (change.Session settled.now)) }
         // Limit comes exactly where a limit would be passed, and it is the first.
-        ensures within { OnOk result (IsWithinLimits self.old settled.now) }
+        ensures within { OnOk result (ChangeIsWithinLimits self.old settled.now) }
         ensures limit { (limit : TheLimit) → IsErrOf result (StoreError.Limit limit)
             → IsLimitOf self.old settled.now limit }
         ensures others { IfErr result (λ error. (error ≡ StoreError.Memory)
@@ -141,11 +142,11 @@ impl Store {
     pub fn prepare_expiry<'a>(&self, expiry: &'a SettledExpiry) -> Result<Prepared<'a>, StoreError>
         requires { MayExpire (kept_by self.now) expiry.now }
         ensures prepared { IfOk result (λ prepared. (prepared.settled ≡ expiry.now.settled)
-            × IsPrepared self.now prepared) }
+            × IsPreparedChange self.now prepared) }
         ensures entry { IfOk result (λ prepared. prepared.entry
             ≡ expiry_entry (kept_by self.now) expiry.now.connection expiry.now.settled) }
         // Limit comes exactly where the last event would pass its limit.
-        ensures within { OnOk result (IsWithinLimits self.now expiry.now.settled) }
+        ensures within { OnOk result (ChangeIsWithinLimits self.now expiry.now.settled) }
         ensures limit { (limit : TheLimit) → IsErrOf result (StoreError.Limit limit)
             → numbers_limit (kept_with self.now expiry.now.settled) ≡ Some limit }
         ensures others { IfErr result (λ error. (error ≡ StoreError.Memory)

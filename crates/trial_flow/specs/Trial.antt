@@ -31,36 +31,36 @@ Says text expression = IsText text (tree_of expression)
 
 -- ---- processors
 
-abbrev pub processor : List ℕ → Kind → (tasks : ℕ) → (terminated : List (List ℕ)) → Processor
-processor id kind tasks terminated =
+abbrev pub trial_processor : List ℕ → Kind → (tasks : ℕ) → (terminated : List (List ℕ)) → Processor
+trial_processor id kind tasks terminated =
     record { id = id; kind = kind; tasks = tasks; penalty = PENALTY; terminated = terminated }
 
-abbrev pub generator : (count : ℕ) → Expr → Processor
-generator count text = processor (codes "gen") (GenerateFlowFile count text) 1 []
+abbrev pub trial_generator : (count : ℕ) → Expr → Processor
+trial_generator count text = trial_processor (codes "gen") (GenerateFlowFile count text) 1 []
 
 abbrev pub router : Expr → Processor
 router tens =
-    processor (codes "route") (RouteOnAttribute (record { name = codes "tens"; expression = tens } ∷ [])) 4 []
+    trial_processor (codes "route") (RouteOnAttribute (record { name = codes "tens"; expression = tens } ∷ [])) 4 []
 
 abbrev pub splitter : Processor
-splitter = processor (codes "split") (SplitText 1) 4 (codes "original" ∷ codes "failure" ∷ [])
+splitter = trial_processor (codes "split") (SplitText 1) 4 (codes "original" ∷ codes "failure" ∷ [])
 
 abbrev pub merger : Processor
 merger =
-    processor (codes "merge") (MergeContent Defragment MINIMUM_ENTRIES MAXIMUM_ENTRIES) 1
+    trial_processor (codes "merge") (MergeContent Defragment MINIMUM_ENTRIES MAXIMUM_ENTRIES) 1
     (codes "original" ∷ codes "failure" ∷ [])
 
 abbrev pub putter : Processor
-putter = processor (codes "put") (PutFile Replace) 4 (codes "success" ∷ codes "failure" ∷ [])
+putter = trial_processor (codes "put") (PutFile Replace) 4 (codes "success" ∷ codes "failure" ∷ [])
 
 abbrev pub processors : (count : ℕ) → (text tens : Expr) → List Processor
-processors count text tens = generator count text ∷ router tens ∷ splitter ∷ merger ∷ putter ∷ []
+processors count text tens = trial_generator count text ∷ router tens ∷ splitter ∷ merger ∷ putter ∷ []
 
 -- ---- connections
 
 -- from a relationship of the processor at one place to the processor at another
-abbrev pub connection : List ℕ → (source : ℕ) → (relationship : List ℕ) → (target : ℕ) → Connection
-connection id source relationship target = record {
+abbrev pub trial_connection : List ℕ → (source : ℕ) → (relationship : List ℕ) → (target : ℕ) → Connection
+trial_connection id source relationship target = record {
   id = id;
   source = source;
   relationships = relationship ∷ [];
@@ -71,11 +71,11 @@ connection id source relationship target = record {
 
 abbrev pub connections : List Connection
 connections =
-    connection (codes "made") 0 (codes "success") 1
-    ∷ connection (codes "tens") 1 (codes "tens") 2
-    ∷ connection (codes "rest") 1 (codes "unmatched") 4
-    ∷ connection (codes "parts") 2 (codes "splits") 3
-    ∷ connection (codes "whole") 3 (codes "merged") 4
+    trial_connection (codes "made") 0 (codes "success") 1
+    ∷ trial_connection (codes "tens") 1 (codes "tens") 2
+    ∷ trial_connection (codes "rest") 1 (codes "unmatched") 4
+    ∷ trial_connection (codes "parts") 2 (codes "splits") 3
+    ∷ trial_connection (codes "whole") 3 (codes "merged") 4
     ∷ []
 
 -- ---- the flow

@@ -1,6 +1,6 @@
 //! The connections of the flow.
 ghost use Rattle.std.specs.Prelude.{◌≡◌, IfOk};
-ghost use Rattle.trial_flow.specs.Trial.{connection, connections};
+ghost use Rattle.trial_flow.specs.Trial.{trial_connection, connections};
 
 use crate::defaults::{BYTES, EXPIRATION, OBJECTS, SWAP};
 use flowfile_record::{Sequence, Text};
@@ -38,7 +38,7 @@ fn connection(
     relationship: &str,
     target: u16,
 ) -> Result<Connection, AllocError>
-    ensures { IfOk result (λ made. made ≡ connection id.now source relationship.now target) }
+    ensures { IfOk result (λ made. made ≡ trial_connection id.now source relationship.now target) }
 {
     let id = Text::from_str(alloc, id)?;
     let relationships = vec![in alloc; Text::from_str(alloc, relationship)?]?;

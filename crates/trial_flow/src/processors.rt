@@ -1,7 +1,7 @@
 //! The processors of the flow.
 ghost use Rattle.std.specs.Prelude.{◌≡◌, map, IfOk};
 ghost use Rattle.expr_lang.specs.declared.syntax.Expr.{Expr};
-ghost use Rattle.trial_flow.specs.Trial.{AreTrialProcessors, IsReadable, Says, processor, processors, generator, router, splitter, merger, putter};
+ghost use Rattle.trial_flow.specs.Trial.{AreTrialProcessors, IsReadable, Says, trial_processor, processors, trial_generator, router, splitter, merger, putter};
 
 use crate::defaults::{MAXIMUM_ENTRIES, MINIMUM_ENTRIES, PENALTY};
 use expr_lang::{Expr, ExprError, parse};
@@ -48,7 +48,7 @@ fn read(alloc: Global, text: &str) -> Result<Expr, AllocError>
 }
 
 fn generator(alloc: Global, count: u32, custom_text: Expr) -> Result<Processor, AllocError>
-    ensures { IfOk result (λ made. made ≡ generator count custom_text) }
+    ensures { IfOk result (λ made. made ≡ trial_generator count custom_text) }
 {
     let kind = Kind::GenerateFlowFile { count, custom_text };
     processor(alloc, "gen", kind, 1, &[])
@@ -103,7 +103,7 @@ fn processor(
     tasks: u8,
     terminated: &[&str],
 ) -> Result<Processor, AllocError>
-    ensures { IfOk result (λ made. made ≡ processor id.now kind tasks (map (λ name. name.now) terminated.now)) }
+    ensures { IfOk result (λ made. made ≡ trial_processor id.now kind tasks (map (λ name. name.now) terminated.now)) }
 {
     let id = Text::from_str(alloc, id)?;
     let terminated = texts(alloc, terminated)?;

@@ -4,9 +4,9 @@ ghost use Rattle.std.specs.List.{list_any};
 ghost use Rattle.std.specs.Option.{option_map};
 ghost use Rattle.machine_model.specs.Kinds.{is_among};
 ghost use Rattle.serde_json.specs.View.{view, members_view};
-ghost use Rattle.flow_definition.specs.Looks.{text_of, names_of, member_list, others, others_in, own_relationships_in, properties_in, relationships_in};
+ghost use Rattle.flow_definition.specs.Looks.{text_or_empty, member_names, member_list, others, others_in, own_relationships_in, properties_in, relationships_in};
 ghost use Rattle.flow_definition.specs.Places.{part_path};
-ghost use Rattle.flow_definition.specs.Rules.{leaves, carries, is_connected, is_loose, in_item, is_wrong, wrong_name, wrong_item, unconnected, not_of_source};
+ghost use Rattle.flow_definition.specs.Rules.{leaves, connection_carries, is_connected, is_loose, in_item, is_wrong, wrong_name, wrong_item, unconnected, not_of_source};
 
 use crate::field::Field;
 use crate::look::{
@@ -57,7 +57,7 @@ fn has_loose_own(top: &Value, processor: &Value) -> bool
 
 fn any_own_loose(top: &Value, processor: &Value, members: &Map<String, Value>) -> bool
     ensures { result ≡ list_any (is_loose (view top.now) (view processor.now))
-        (names_of (others (properties_in (view processor.now)) (member_list (members_view members.now.entries)))) }
+        (member_names (others (properties_in (view processor.now)) (member_list (members_view members.now.entries)))) }
 {
     let fixed = properties_in(processor);
     members.keys().any(|name| !is_fixed(name.as_str(), fixed)
@@ -87,7 +87,7 @@ fn is_connected(top: &Value, processor: &Value, name: &str) -> bool
 }
 
 fn any_carries(processor: &Value, name: &str, connections: &[Value]) -> bool
-    ensures { result ≡ list_any (carries (view processor.now) name.now) (map view connections.now) }
+    ensures { result ≡ list_any (connection_carries (view processor.now) name.now) (map view connections.now) }
 {
     connections
         .iter()
@@ -96,7 +96,7 @@ fn any_carries(processor: &Value, name: &str, connections: &[Value]) -> bool
 
 /// Whether a connection leads from a processor, and this relationship with it.
 pub(crate) fn carries(processor: &Value, name: &str, connection: &Value) -> bool
-    ensures { result ≡ carries (view processor.now) name.now (view connection.now) }
+    ensures { result ≡ connection_carries (view processor.now) name.now (view connection.now) }
 {
     leaves(processor, connection) && is_among(name, names_at(connection, Field::Relationships))
 }
@@ -135,7 +135,7 @@ fn in_item(field: Field, place: Option<usize>) -> Option<Part<'static>>
 
 fn wrong_name(processor: &Value, names: &[Value]) -> Option<usize>
     ensures { result
-        ≡ wrong_name (relationships_in (view processor.now)) [] (map text_of (map view names.now)) }
+        ≡ wrong_name (relationships_in (view processor.now)) [] (map text_or_empty (map view names.now)) }
 {
     'names: for (place, name) in names.iter().enumerate() {
         if is_wrong(processor, &names[..place], text_of(name)) {
@@ -148,7 +148,7 @@ fn wrong_name(processor: &Value, names: &[Value]) -> Option<usize>
 /// Whether a name is no relationship, or stands earlier.
 fn is_wrong(processor: &Value, earlier: &[Value], name: &str) -> bool
     ensures { result ≡ is_wrong
-        (relationships_in (view processor.now)) (map text_of (map view earlier.now)) name.now }
+        (relationships_in (view processor.now)) (map text_or_empty (map view earlier.now)) name.now }
 {
     !is_relationship(name, processor) || is_among(name, earlier)
 }
@@ -161,7 +161,7 @@ fn is_relationship(name: &str, processor: &Value) -> bool
 
 /// Whether a processor gives a property of this name that is none of its type.
 fn is_other(name: &str, processor: &Value) -> bool
-    ensures { result ≡ is_among name.now (names_of (others_in (view processor.now))) }
+    ensures { result ≡ is_among name.now (member_names (others_in (view processor.now))) }
 {
     !is_fixed(name, properties_in(processor)) && given_at(name, processor).is_some()
 }

@@ -3,7 +3,7 @@ ghost use Rattle.std.specs.Prelude.{◌≡◌, find, string_bytes};
 ghost use Rattle.std.specs.Option.{option_map};
 ghost use Rattle.serde_json.specs.View.{view, members_view};
 ghost use Rattle.flow_definition.specs.Fields.{fields_of};
-ghost use Rattle.flow_definition.specs.Looks.{member_list, names_of};
+ghost use Rattle.flow_definition.specs.Looks.{member_list, member_names};
 ghost use Rattle.flow_definition.specs.Places.{part_path};
 ghost use Rattle.flow_definition.specs.Rules.{missing_field, misshapen_field, bad_number, unknown_field, in_field, in_unknown, is_missing, is_misshapen, is_bad_number, is_unknown};
 
@@ -105,7 +105,7 @@ pub(crate) fn unknown_field(level: Level, object: &Value) -> Option<Part<'_>>
 
 fn first_unknown(level: Level, members: &Map<String, Value>) -> Option<&String>
     ensures { option_map (λ name. string_bytes name.now) result
-        ≡ find (is_unknown level) (names_of (member_list (members_view members.now.entries))) }
+        ≡ find (is_unknown level) (member_names (member_list (members_view members.now.entries))) }
 {
     members.keys().find(|name| is_unknown(level, name.as_str()))
 }

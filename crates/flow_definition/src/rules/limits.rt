@@ -3,9 +3,9 @@ ghost use Rattle.std.specs.Prelude.{◌≡◌, ◌&&◌, not, count_by, length, 
 ghost use Rattle.std.specs.List.{list_any};
 ghost use Rattle.std.specs.Option.{option_map};
 ghost use Rattle.serde_json.specs.View.{view, members_view};
-ghost use Rattle.flow_definition.specs.Looks.{is_fixed, others, own_relationships_in, own_properties_in, properties_in, names_of, member_list};
+ghost use Rattle.flow_definition.specs.Looks.{is_fixed, others, own_relationships_in, own_properties_in, properties_in, member_names, member_list};
 ghost use Rattle.flow_definition.specs.Places.{part_path};
-ghost use Rattle.flow_definition.specs.Rules.{too_many, too_many_own, are_connections_too_many, is_crowded, carries, has_crowded};
+ghost use Rattle.flow_definition.specs.Rules.{too_many, too_many_own, are_connections_too_many, is_crowded, connection_carries, has_crowded};
 
 use super::connected::carries;
 use crate::field::Field;
@@ -92,7 +92,7 @@ fn has_crowded_own(top: &Value, processor: &Value) -> bool
 
 fn any_own_crowded(top: &Value, processor: &Value, members: &Map<String, Value>) -> bool
     ensures { result ≡ list_any (is_crowded (view top.now) (view processor.now))
-        (names_of (others (properties_in (view processor.now)) (member_list (members_view members.now.entries)))) }
+        (member_names (others (properties_in (view processor.now)) (member_list (members_view members.now.entries)))) }
 {
     let fixed = properties_in(processor);
     members.keys().any(|name| is_other_crowded(top, processor, fixed, name.as_str()))
@@ -119,14 +119,14 @@ fn is_crowded(top: &Value, processor: &Value, name: &str) -> bool
 
 #[tactic(auto, using(crate::proofs::Lists::count_by_map))]
 fn count(processor: &Value, name: &str, connections: &[Value]) -> u64
-    ensures { result ≡ count_by (carries (view processor.now) name.now) (map view connections.now) }
+    ensures { result ≡ count_by (connection_carries (view processor.now) name.now) (map view connections.now) }
 {
     count_carrying(processor, name, connections) as u64
 }
 
 fn count_carrying(processor: &Value, name: &str, connections: &[Value]) -> usize
     ensures { result ≡ count_by
-        (λ connection. carries (view processor.now) name.now (view connection)) connections.now }
+        (λ connection. connection_carries (view processor.now) name.now (view connection)) connections.now }
 {
     connections
         .iter()

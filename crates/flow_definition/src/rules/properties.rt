@@ -5,7 +5,7 @@ ghost use Rattle.serde_json.specs.Find.{as_str};
 ghost use Rattle.serde_json.specs.View.{view, members_view};
 ghost use Rattle.flow_definition.specs.Looks.{given_text, member_list};
 ghost use Rattle.flow_definition.specs.Places.{part_path};
-ghost use Rattle.flow_definition.specs.Rules.{unknown_type, may_give, is_missing_property, missing_property, is_bad_property, is_empty_search, may_hold, is_own_property, may_be_own, bad_property, is_above, is_above_most, is_bad_number_property, bad_number_property, in_property};
+ghost use Rattle.flow_definition.specs.Rules.{unknown_type, may_give, is_missing_property, missing_property, is_bad_property, is_empty_search, property_may_hold, is_own_property, may_be_own, bad_property, is_above, is_above_most, is_bad_number_property, bad_number_property, in_property};
 ghost use Rattle.flow_definition.specs.Shapes.{is_number_text};
 ghost use Rattle.flow_definition.specs.Types.{property_name, form_of};
 
@@ -109,7 +109,7 @@ fn is_bad_property(processor: &Value, name: &str, value: &Value) -> bool
 
 fn is_bad_value(processor: &Value, value: &Value, property: Property) -> bool
     ensures { result
-        ≡ not (option_map_or (may_hold (view processor.now) property) (as_str (view value.now)) false) }
+        ≡ not (option_map_or (property_may_hold (view processor.now) property) (as_str (view value.now)) false) }
 {
     match value.as_str() {
         Some(text) => !may_hold(processor, property, text),
@@ -118,7 +118,7 @@ fn is_bad_value(processor: &Value, value: &Value, property: Property) -> bool
 }
 
 fn may_hold(processor: &Value, property: Property, text: &str) -> bool
-    ensures { result ≡ may_hold (view processor.now) property text.now }
+    ensures { result ≡ property_may_hold (view processor.now) property text.now }
 {
     is_of_set(property.form(), text)
         && !is_empty_search(replace_strategy_in(processor), property.form(), text)

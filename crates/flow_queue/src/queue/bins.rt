@@ -4,7 +4,7 @@ ghost use Rattle.std.specs.Option.{option_map};
 ghost use Rattle.machine_model.specs.Due.{numbers_of};
 ghost use Rattle.machine_model.specs.Taking.{bin_of};
 ghost use Rattle.machine_model.specs.declared.kind.TakeRule.TheVariants.{Bin};
-ghost use Rattle.flow_queue.specs.Picking.{Picks, Lists, numbers_picked, views_at, size_by};
+ghost use Rattle.flow_queue.specs.Picking.{Picks, PicksAll, numbers_picked, views_at, size_by};
 
 use crate::held::Held;
 use flowfile_record::CONTENT_MAX;
@@ -58,7 +58,7 @@ fn size_if(size: usize, min: u32, is_filled: bool) -> Option<usize>
 
 fn list_numbers(files: &[&Held], list: &mut Vec<u64>) -> Result<(), AllocError>
     requires { list.old.items ≡ [] }
-    ensures { Lists (numbers_of (views_at files.now)) result list.new.items }
+    ensures { PicksAll (numbers_of (views_at files.now)) result list.new.items }
 {
     for held in files {
         if let Err(error) = list.push(held.file.number) {

@@ -5,8 +5,8 @@ ghost use Rattle.std.specs.Option.{option_map};
 ghost use Rattle.machine_model.specs.Due.{expired_numbers};
 ghost use Rattle.machine_model.specs.Order.{best};
 ghost use Rattle.machine_model.specs.Quiet.{is_full};
-ghost use Rattle.flow_queue.specs.Picking.{Picks, Lists, numbers_picked, expiring};
-ghost use Rattle.flow_queue.specs.Queue.{AreApart, IsAtRest, seen, views_of, offered, offered_by, picked, picked_numbers, next_penalty_end};
+ghost use Rattle.flow_queue.specs.Picking.{Picks, PicksAll, numbers_picked, expiring};
+ghost use Rattle.flow_queue.specs.Queue.{AreApart, IsAtRest, queue_as_seen, views_of, offered, offered_by, picked, picked_numbers, next_penalty_end};
 ghost use Rattle.flow_queue.specs.Ranked.{eligible_among};
 
 use super::Queue;
@@ -31,7 +31,7 @@ impl Queue {
     /// The number of the file that goes first of those that may be taken at a moment.
     pub fn best(&self, moment: u64) -> Option<u64>
         ensures best { result ≡ option_map (λ file. file.number)
-            (best self.now.order self.now.limits moment (seen self.now).active) }
+            (best self.now.order self.now.limits moment (queue_as_seen self.now).active) }
         ensures at_rest { IfSome result (IsAtRest self.now) }
     {
         let held = best_of(&self.by_rank, &self.files, &self.limits, moment)?;
@@ -55,11 +55,11 @@ impl Queue {
     pub fn expired(&self, moment: u64, list: &mut Vec<u64>) -> Result<(), AllocError>
         requires { list.old.items ≡ [] }
         ensures numbers { OnOk result
-            (list.new.items ≡ expired_numbers self.now.limits moment (seen self.now).active) }
+            (list.new.items ≡ expired_numbers self.now.limits moment (queue_as_seen self.now).active) }
         ensures at_rest { All (IsAtRest self.now) list.new.items }
         ensures failed { OnErr result (list.new.items ≡ []) }
         // Memory is taken for numbers alone.
-        ensures free { expired_numbers self.now.limits moment (seen self.now).active ≡ [] → IsOk result }
+        ensures free { expired_numbers self.now.limits moment (queue_as_seen self.now).active ≡ [] → IsOk result }
     {
         if self.limits.expiration == 0 {
             return Ok(());
@@ -69,7 +69,7 @@ impl Queue {
 
     /// Whether the queue has reached one of its limits.
     pub fn is_full(&self) -> bool
-        ensures { result ≡ is_full self.now.limits (seen self.now) }
+        ensures { result ≡ is_full self.now.limits (queue_as_seen self.now) }
     {
         let QueueLimits { objects, bytes, .. } = self.limits;
         (objects > 0 && objects <= self.files.len())
@@ -78,7 +78,7 @@ impl Queue {
 
     /// When the first penalty of a file ends that hasn't ended by a moment.
     pub fn next_penalty_end(&self, moment: u64) -> Option<u64>
-        ensures { result ≡ next_penalty_end moment (seen self.now).active }
+        ensures { result ≡ next_penalty_end moment (queue_as_seen self.now).active }
     {
         next_end(&self.files, moment)
     }
@@ -91,7 +91,7 @@ fn list_expired(
     list: &mut Vec<u64>,
 ) -> Result<(), AllocError>
     requires { list.old.items ≡ [] }
-    ensures lists { Lists (expiring limits.now moment (views_of files.now.items)) result list.new.items }
+    ensures lists { PicksAll (expiring limits.now moment (views_of files.now.items)) result list.new.items }
     ensures free { expiring limits.now moment (views_of files.now.items) ≡ [] → IsOk result }
 {
     for held in files.iter() {

@@ -4,7 +4,7 @@ ghost use Rattle.std.specs.Option.{option_map};
 ghost use Rattle.std.specs.VecDeque.{deque_len};
 ghost use Rattle.machine_model.specs.Order.{in_order};
 ghost use Rattle.flow_queue.specs.Picking.{views_at};
-ghost use Rattle.flow_queue.specs.Queue.{AreApart, view_of, views_of};
+ghost use Rattle.flow_queue.specs.Queue.{AreApart, held_view, views_of};
 ghost use Rattle.flow_queue.specs.Ranked.{IsRanked, IsRankOf, eligible_among, eligible_at, goes_ahead};
 
 use crate::held::Held;
@@ -24,14 +24,14 @@ pub(super) fn place_in_order(
     requires apart { AreApart files.now.items }
     requires ranked { IsRanked order.now files.now.items by_rank.now.items }
     ensures bound { result ≤ deque_len by_rank.now }
-    ensures rank { IsRankOf order.now (view_of held.now) (in_order order.now (views_of files.now.items)) result }
+    ensures rank { IsRankOf order.now (held_view held.now) (in_order order.now (views_of files.now.items)) result }
 {
     by_rank.partition_point(|number| goes_ahead(*number, files, order, held))
 }
 
 // Whether the file of a number goes before one.
 fn goes_ahead(number: u64, files: &NumberedList<Held>, order: &Order, held: &Held) -> bool
-    ensures { result ≡ goes_ahead order.now (view_of held.now) files.now.items number }
+    ensures { result ≡ goes_ahead order.now (held_view held.now) files.now.items number }
 {
     match files.get(number) {
         Some(other) => other.goes_before(held, order),
@@ -46,7 +46,7 @@ pub(super) fn best_of<'a>(
     limits: &QueueLimits,
     moment: u64,
 ) -> Option<&'a Held>
-    ensures { option_map (λ held. view_of held.now) result
+    ensures { option_map (λ held. held_view held.now) result
         ≡ slice_get (eligible_among limits.now moment files.now.items by_rank.now.items) 0 }
 {
     for number in by_rank.iter() {
@@ -89,7 +89,7 @@ fn eligible<'a>(
     limits: &QueueLimits,
     moment: u64,
 ) -> Option<&'a Held>
-    ensures { option_map (λ held. view_of held.now) result ≡ eligible_at limits.now moment files.now.items number }
+    ensures { option_map (λ held. held_view held.now) result ≡ eligible_at limits.now moment files.now.items number }
 {
     let held = files.get(number)?;
     if !held.is_eligible(limits, moment) {

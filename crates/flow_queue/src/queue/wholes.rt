@@ -1,7 +1,7 @@
 //! The first file that is whole: a file that is no fragment, or one that is there with all others of its whole.
 ghost use Rattle.std.specs.Prelude.{◌≡◌, [], All, IfOk, IsOk, OnOk};
 ghost use Rattle.machine_model.specs.declared.kind.TakeRule.TheVariants.{Defragment};
-ghost use Rattle.flow_queue.specs.Fragments.{IsRead, IsNoted, IsTry, AreFirst, files_of, numbers_from};
+ghost use Rattle.flow_queue.specs.Fragments.{HasItsFragment, IsNoted, IsTry, AreFirst, candidate_views, part_numbers_from};
 ghost use Rattle.flow_queue.specs.Picking.{Picks, numbers_picked, views_at};
 
 use crate::held::Held;
@@ -35,8 +35,8 @@ pub(super) fn pick_whole(
 }
 
 fn parse<'a>(alloc: Global, files: &[&'a Held]) -> Result<Vec<Candidate<'a>>, AllocError>
-    ensures files { IfOk result (λ list. files_of list.items ≡ views_at files.now) }
-    ensures read { IfOk result (λ list. All IsRead list.items) }
+    ensures files { IfOk result (λ list. candidate_views list.items ≡ views_at files.now) }
+    ensures read { IfOk result (λ list. All HasItsFragment list.items) }
 {
     let mut list = Vec::new(alloc);
     for held in files {
@@ -53,8 +53,8 @@ fn first_numbers<'a>(
     alloc: Global,
     candidates: &[Candidate<'a>],
 ) -> Result<BTreeMap<Fragment<'a>, u64>, AllocError>
-    requires { All IsRead candidates.now }
-    ensures { IfOk result (λ numbers. AreFirst numbers (files_of candidates.now)) }
+    requires { All HasItsFragment candidates.now }
+    ensures { IfOk result (λ numbers. AreFirst numbers (candidate_views candidates.now)) }
 {
     let mut numbers = BTreeMap::new(alloc);
     for candidate in candidates {
@@ -85,10 +85,10 @@ fn first_whole<'a>(
     numbers: &BTreeMap<Fragment<'a>, u64>,
     list: &mut Vec<u64>,
 ) -> Result<bool, AllocError>
-    requires read { All IsRead candidates.now }
-    requires first { AreFirst numbers.now (files_of candidates.now) }
+    requires read { All HasItsFragment candidates.now }
+    requires first { AreFirst numbers.now (candidate_views candidates.now) }
     requires empty { list.old.items ≡ [] }
-    ensures { Picks (numbers_picked Defragment (files_of candidates.now)) result list.new.items }
+    ensures { Picks (numbers_picked Defragment (candidate_views candidates.now)) result list.new.items }
 {
     let mut tried = BTreeSet::new(alloc);
     for candidate in candidates {
@@ -106,7 +106,7 @@ fn pick_candidate<'a>(
     tried: &mut BTreeSet<Whole<'a>>,
     list: &mut Vec<u64>,
 ) -> Result<bool, AllocError>
-    requires read { IsRead candidate.now }
+    requires read { HasItsFragment candidate.now }
     requires empty { list.old.items ≡ [] }
     ensures { IsTry candidate.now numbers.now tried.old tried.new result list.new.items }
 {
@@ -127,7 +127,7 @@ fn take_all<'a>(
     list: &mut Vec<u64>,
 ) -> Result<bool, AllocError>
     requires { list.old.items ≡ [] }
-    ensures { Picks (numbers_from numbers.now whole.entry 0 whole.entry.count) result list.new.items }
+    ensures { Picks (part_numbers_from numbers.now whole.entry 0 whole.entry.count) result list.new.items }
 {
     for place in 0..whole.count {
         let fragment = Fragment {

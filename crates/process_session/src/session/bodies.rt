@@ -2,7 +2,7 @@
 ghost use Rattle.std.specs.Prelude.{◌≡◌, ◌+◌, ◌≤◌, ◌++◌, length, slice_range, IfOk, All};
 ghost use Rattle.std.specs.Option.{option_map};
 ghost use Rattle.process_session.specs.Bench.{body_bytes, body_size, HasItsSize, IsBodyOf};
-ghost use Rattle.process_session.specs.Changes.{part_of};
+ghost use Rattle.process_session.specs.Changes.{body_part};
 
 use crate::file::Source;
 use flowfile_record::{Body, Bytes};
@@ -70,7 +70,7 @@ pub(super) fn part_of_body(
 ) -> Result<Body, AllocError>
     requires body { IsBodyOf sources.now body.now }
     requires inside { offset + size ≤ body_size sources.now body.now }
-    ensures part { IfOk result (λ part. part ≡ part_of body.now offset size) }
+    ensures part { IfOk result (λ part. part ≡ body_part body.now offset size) }
     ensures inside { IfOk result (IsBodyOf sources.now) }
 {
     match body {

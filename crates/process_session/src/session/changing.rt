@@ -3,7 +3,7 @@ ghost use Rattle.std.specs.Prelude.{◌≡◌, ◌+◌, ◌<◌, ◌≤◌, ◌+
 ghost use Rattle.std.specs.Result.{result_err};
 ghost use Rattle.std.specs.FinMap.{contains_key, insert, remove};
 ghost use Rattle.flowfile_record.specs.Attributes.{IsWithinLimits, encoded_size, has_key_length, is_uuid};
-ghost use Rattle.process_session.specs.Bench.{HasItsSize, IsBodyOf, attribute_size, attributes_at, attributes_in, body_bytes, bytes_in};
+ghost use Rattle.process_session.specs.Bench.{HasItsSize, IsBodyOf, attribute_size, bench_attributes, attributes_in, body_bytes, bytes_in};
 ghost use Rattle.process_session.specs.Changes.{attributed_file, written_file, with_written, with_appended, with_put, with_removed, change_at};
 ghost use Rattle.process_session.specs.Refusals.{refusal_of_write, refusal_of_append, refusal_of_put, refusal_of_remove_attribute};
 ghost use Rattle.process_session.specs.Reasons.{IsRefusal, already_ended, content_too_large, first_refusal, past_limits, unknown_file};
@@ -93,7 +93,8 @@ impl Session {
     #[tactic(auto, using(crate::proofs::Refusing::refusals))]
     pub fn remove_attribute(&mut self, place: u32, key: &str) -> Result<bool, SessionError>
         ensures refusal { result_err result ≡ refusal_of_remove_attribute self.old place key.now }
-        ensures was_there { IfOk result (λ was_there. was_there ≡ contains_key (attributes_at self.old place) key.now) }
+        ensures was_there { IfOk result
+            (λ was_there. was_there ≡ contains_key (bench_attributes self.old place) key.now) }
         ensures after { self.new ≡ (if is_ok result then with_removed self.old place key.now else self.old) }
     {
         self.check_known(place)?;

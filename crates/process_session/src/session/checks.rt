@@ -3,7 +3,7 @@ ghost use Rattle.std.specs.Prelude.{◌≡◌, [], false, ◌+◌, ◌-◌, ◌<
 ghost use Rattle.std.specs.Result.{result_err};
 ghost use Rattle.flowfile_record.specs.Attributes.{has_key_length};
 ghost use Rattle.flowfile_record.specs.Outcome.{is_made};
-ghost use Rattle.process_session.specs.Bench.{attribute_size, bytes_of, content_size, origin_at};
+ghost use Rattle.process_session.specs.Bench.{attribute_size, bench_bytes, content_size, origin_at};
 ghost use Rattle.process_session.specs.Reasons.{unknown_file, already_ended, no_relationship, made_here, no_bytes, content_too_large, bad_key, attributes_too_large, already_sent, no_room_for, past_limits};
 
 use super::Session;
@@ -114,7 +114,7 @@ impl Session {
         requires { place < length self.now.files }
         ensures refusal { result_err result ≡ no_bytes self.now place }
         ensures size { IfOk result (λ size. size ≡ content_size self.now place) }
-        ensures length { IfOk result (λ size. size ≡ length (unwrap_or (bytes_of self.now place) [])) }
+        ensures length { IfOk result (λ size. size ≡ length (unwrap_or (bench_bytes self.now place) [])) }
         ensures small { IfOk result (λ size. size < 2 ^ 63) }
     {
         match body_bytes(&self.sources, &self.files[place as usize].body) {

@@ -3,10 +3,10 @@ ghost use Rattle.std.specs.Prelude.{◌≡◌, [], ◌∷◌, ◌+◌, ◌<◌, 
 ghost use Rattle.std.specs.Result.{result_err};
 ghost use Rattle.std.specs.List.{IsDistinct};
 ghost use Rattle.flowfile_record.specs.Attributes.{encoded_size};
-ghost use Rattle.process_session.specs.Bench.{IsBodyOf, attribute_size, attributes_at, body_at, content_size, made_size};
-ghost use Rattle.process_session.specs.Changes.{common_attributes, is_whole, part_of, with_handed, with_made, with_part, with_created, with_received, with_child, with_joined, with_clone, with_range};
+ghost use Rattle.process_session.specs.Bench.{IsBodyOf, attribute_size, bench_attributes, body_at, content_size, made_size};
+ghost use Rattle.process_session.specs.Changes.{common_attributes, is_whole, body_part, with_handed, with_made, with_part, with_created, with_received, with_child, with_joined, with_clone, with_range};
 ghost use Rattle.process_session.specs.Reasons.{IsRefusal, IsRefusalBehind, already_ended, attributes_too_large, first_refusal, no_room_for, range_outside, unknown_file};
-ghost use Rattle.process_session.specs.Refusals.{unknown_files, ended_files, refusal_of_create, refusal_of_receive, refusal_of_create_from, refusal_of_parents, refusal_of_create_joined, refusal_of_clone, refusal_of_clone_range};
+ghost use Rattle.process_session.specs.Refusals.{unknown_files, ended_refusal, refusal_of_create, refusal_of_receive, refusal_of_create_from, refusal_of_parents, refusal_of_create_joined, refusal_of_clone, refusal_of_clone_range};
 ghost use Rattle.process_session.specs.Sound.{MayCome, MayInherit};
 
 use super::Session;
@@ -105,8 +105,8 @@ impl Session {
     #[tactic(auto, using(crate::proofs::Refusing::steps))]
     fn check_child(&self, of: u32) -> Result<(), SessionError>
         ensures refusal { result_err result ≡ first_refusal (unknown_file self.now of ∷ already_ended self.now of ∷
-            attributes_too_large (made_size (attributes_at self.now of)) ∷
-            no_room_for self.now (encoded_size (attributes_at self.now of)) 0 ∷ []) }
+            attributes_too_large (made_size (bench_attributes self.now of)) ∷
+            no_room_for self.now (encoded_size (bench_attributes self.now of)) 0 ∷ []) }
         ensures may { OnOk result (MayInherit self.now of) }
     {
         self.check_known(of)?;
@@ -121,8 +121,8 @@ impl Session {
     fn check_part(&self, of: u32, offset: u64, size: u64) -> Result<(), SessionError>
         ensures refusal { result_err result ≡ first_refusal (unknown_file self.now of ∷ already_ended self.now of ∷
             range_outside self.now of offset size ∷
-            attributes_too_large (made_size (attributes_at self.now of)) ∷
-            no_room_for self.now (encoded_size (attributes_at self.now of)) 0 ∷ []) }
+            attributes_too_large (made_size (bench_attributes self.now of)) ∷
+            no_room_for self.now (encoded_size (bench_attributes self.now of)) 0 ∷ []) }
         ensures may { OnOk result (MayInherit self.now of) }
         ensures inside { OnOk result (offset + size ≤ content_size self.now of) }
     {
@@ -137,8 +137,8 @@ impl Session {
     /// Whether a made file can have a parent's attributes.
     fn check_inherited(&self, parent: u32) -> Result<(), SessionError>
         requires { parent < length self.now.files }
-        ensures refusal { result_err result ≡ attributes_too_large (made_size (attributes_at self.now parent)) }
-        ensures named { OnOk result (made_size (attributes_at self.now parent) ≤ ATTRIBUTES_MAX) }
+        ensures refusal { result_err result ≡ attributes_too_large (made_size (bench_attributes self.now parent)) }
+        ensures named { OnOk result (made_size (bench_attributes self.now parent) ≤ ATTRIBUTES_MAX) }
     {
         check_attributes(made_size(self.attributes_of(parent)))
     }
@@ -146,10 +146,10 @@ impl Session {
     /// Whether one more file may come with a parent's attributes.
     fn check_heir(&self, parent: u32) -> Result<(), SessionError>
         requires { parent < length self.now.files }
-        ensures refusal { result_err result ≡ no_room_for self.now (encoded_size (attributes_at self.now parent)) 0 }
+        ensures refusal { result_err result ≡ no_room_for self.now (encoded_size (bench_attributes self.now parent)) 0 }
         ensures files { OnOk result (length self.now.files + 1 ≤ FILES_MAX) }
         ensures summed { OnOk result (attribute_size self.now + encoded_size
-            (attributes_at self.now parent) ≤ SESSION_ATTRIBUTES_MAX) }
+            (bench_attributes self.now parent) ≤ SESSION_ATTRIBUTES_MAX) }
         ensures room { OnOk result (self.now.handed + 0 ≤ WRITTEN_MAX) }
     {
         self.check_one_more(self.size_at(parent), 0)
@@ -157,14 +157,14 @@ impl Session {
 
     fn attributes_of(&self, place: u32) -> &Attributes
         requires { place < length self.now.files }
-        ensures { result.now ≡ attributes_at self.now place }
+        ensures { result.now ≡ bench_attributes self.now place }
     {
         &self.files[place as usize].attributes
     }
 
     fn copy_attributes(&self, parent: u32) -> Result<Attributes, AllocError>
         requires { parent < length self.now.files }
-        ensures { IfOk result (λ copy. copy ≡ attributes_at self.now parent) }
+        ensures { IfOk result (λ copy. copy ≡ bench_attributes self.now parent) }
     {
         self.attributes_of(parent).copy()
     }
@@ -202,7 +202,7 @@ impl Session {
 
     fn check_all_open(&self, places: &[u32]) -> Result<(), SessionError>
         requires { All (λ place. place < length self.now.files) places.now }
-        ensures refusal { result_err result ≡ ended_files self.now places.now }
+        ensures refusal { result_err result ≡ ended_refusal self.now places.now }
     {
         for place in places {
             self.check_open(*place)?;
@@ -284,7 +284,7 @@ impl Session {
     fn part_of(&self, of: u32, offset: u64, size: u64) -> Result<Body, AllocError>
         requires there { of < length self.now.files }
         requires inside { offset + size ≤ content_size self.now of }
-        ensures part { IfOk result (λ part. part ≡ part_of (body_at self.now of) offset size) }
+        ensures part { IfOk result (λ part. part ≡ body_part (body_at self.now of) offset size) }
         ensures inside { IfOk result (IsBodyOf self.now.sources) }
     {
         let file = &self.files[of as usize];

@@ -3,7 +3,7 @@ ghost use Rattle.std.specs.Prelude.{◌≡◌, ℕ, ◌+◌, ◌<◌, ◌≤◌,
 ghost use Rattle.std.specs.FinMap.{contains_key, insert, remove};
 ghost use Rattle.flowfile_record.specs.Attributes.{encoded_size};
 ghost use Rattle.flowfile_record.specs.Outcome.{filename_to_come, is_made};
-ghost use Rattle.process_session.specs.Bench.{attribute_size, attributes_at, made_size, origin_at};
+ghost use Rattle.process_session.specs.Bench.{attribute_size, bench_attributes, made_size, origin_at};
 
 use super::Session;
 use crate::FILENAME_SIZE;
@@ -16,7 +16,7 @@ impl Session {
     /// The encoded size of a file's attributes.
     pub(super) fn size_at(&self, place: u32) -> u64
         requires { place < length self.now.files }
-        ensures size { result ≡ encoded_size (attributes_at self.now place) }
+        ensures size { result ≡ encoded_size (bench_attributes self.now place) }
         ensures part { result ≤ attribute_size self.now }
         ensures small { result ≤ ATTRIBUTES_MAX }
     {
@@ -27,7 +27,7 @@ impl Session {
     pub(super) fn size_with(&self, place: u32, key: &str, value: &str) -> u64
         requires there { place < length self.now.files }
         requires key { length key.now ≤ KEY_MAX }
-        ensures size { result ≡ encoded_size (insert (attributes_at self.now place) key.now value.now) }
+        ensures size { result ≡ encoded_size (insert (bench_attributes self.now place) key.now value.now) }
         ensures small { result < 2 ^ 63 + 2 ^ 17 }
     {
         encoded_with(&self.files[place as usize].attributes, key, value)
@@ -36,8 +36,8 @@ impl Session {
     /// Their encoded size without a key.
     pub(super) fn size_without(&self, place: u32, key: &str) -> u64
         requires { place < length self.now.files }
-        ensures size { result ≡ encoded_size (remove (attributes_at self.now place) key.now) }
-        ensures part { result ≤ encoded_size (attributes_at self.now place) }
+        ensures size { result ≡ encoded_size (remove (bench_attributes self.now place) key.now) }
+        ensures part { result ≤ encoded_size (bench_attributes self.now place) }
         ensures small { result ≤ ATTRIBUTES_MAX }
     {
         encoded_without(&self.files[place as usize].attributes, key)
@@ -47,7 +47,7 @@ impl Session {
     pub(super) fn filename_with(&self, place: u32, key: &str) -> u64
         requires { place < length self.now.files }
         ensures size { (value : List ℕ) → result
-            ≡ filename_to_come (origin_at self.now place) (insert (attributes_at self.now place) key.now value) }
+            ≡ filename_to_come (origin_at self.now place) (insert (bench_attributes self.now place) key.now value) }
         ensures small { result ≤ FILENAME_SIZE }
     {
         let file = &self.files[place as usize];
@@ -62,7 +62,7 @@ impl Session {
     pub(super) fn filename_without(&self, place: u32, key: &str) -> u64
         requires { place < length self.now.files }
         ensures size { result ≡ filename_to_come (origin_at self.now place) (remove
-            (attributes_at self.now place) key.now) }
+            (bench_attributes self.now place) key.now) }
         ensures small { result ≤ FILENAME_SIZE }
     {
         let file = &self.files[place as usize];

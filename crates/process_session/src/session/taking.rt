@@ -1,6 +1,6 @@
 //! How taken files come into a session.
 ghost use Rattle.std.specs.Prelude.{◌<◌, ◌≤◌, ◌^◌, IfOk, OnOk, vec_len};
-ghost use Rattle.process_session.specs.Begun.{Begins, Takes};
+ghost use Rattle.process_session.specs.Begun.{BeginsWith, TakesFile};
 
 use crate::TAKEN_MAX;
 use crate::file::{File, Source, Taken};
@@ -17,7 +17,7 @@ pub(super) struct Begun {
 
 pub(super) fn begin(alloc: Global, taken: Vec<Taken>) -> Result<Begun, AllocError>
     requires { vec_len taken ≤ TAKEN_MAX }
-    ensures { IfOk result (λ begun. Begins begun taken.items) }
+    ensures { IfOk result (λ begun. BeginsWith begun taken.items) }
 {
     let mut begun = Begun {
         sources: Vec::new(alloc),
@@ -35,7 +35,7 @@ pub(super) fn begin(alloc: Global, taken: Vec<Taken>) -> Result<Begun, AllocErro
 /// One more taken file.
 fn take_one(begun: &mut Begun, place: u32, taken: Taken) -> Result<(), AllocError>
     requires { begun.old.counted < 2 ^ 63 }
-    ensures { OnOk result (Takes begun.old place taken begun.new) }
+    ensures { OnOk result (TakesFile begun.old place taken begun.new) }
 {
     let Taken {
         attributes,

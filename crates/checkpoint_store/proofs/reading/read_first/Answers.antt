@@ -2,7 +2,7 @@ use Rattle.std.proofs.Common.{rules, arith, ◌≡◌, ◌+◌, ℕ, List, lengt
 use Rattle.std.specs.Prelude.{slice_range}
 use Rattle.flowfile_record.specs.Stored.{kept_of}
 use Rattle.checkpoint_store.specs.Memory.{head}
-use Rattle.checkpoint_store.specs.Reading.{first_in}
+use Rattle.checkpoint_store.specs.Reading.{first_block_kept}
 use Rattle.checkpoint_store.proofs.Parts.{behind_first}
 use Rattle.checkpoint_store.proofs.Untaken.{first_size}
 use Rattle.checkpoint_store.proofs.reading.read_first.Goals as goal
@@ -14,7 +14,7 @@ returns-in-Ok-clause-found g c told =
     let found = c.in_ok-block.ensures.found in
     let k = kept_of c.in-Ok.so_far.state in
     let payload = slice_range items block.start block.end in
-    let first : first_in block.kind payload ≡ Some k = subst (λ (l : List ℕ). first_in block.kind (slice_range l block.start block.end) ≡ Some k) c.deref.ensures.value c.in-Ok.ensures.found in
+    let first : first_block_kept block.kind payload ≡ Some k = subst (λ (l : List ℕ). first_block_kept block.kind (slice_range l block.start block.end) ≡ Some k) c.deref.ensures.value c.in-Ok.ensures.found in
     let size : block.next ≡ length payload + 37 = search rules in
     behind_first c.args.source.file (g.D.Disk.held c.args.disk.now c.args.source.file) block.kind payload k block.next (found.read told) first size
 
@@ -25,7 +25,7 @@ returns-in-Ok-clause-read_to g c told =
     let found = c.in_ok-block.ensures.found in
     let k = kept_of c.in-Ok.so_far.state in
     let payload = slice_range buffer.items block.start block.end in
-    let first : first_in block.kind payload ≡ Some k = subst (λ (l : List ℕ). first_in block.kind (slice_range l block.start block.end) ≡ Some k) c.deref.ensures.value c.in-Ok.ensures.found in
+    let first : first_block_kept block.kind payload ≡ Some k = subst (λ (l : List ℕ). first_block_kept block.kind (slice_range l block.start block.end) ≡ Some k) c.deref.ensures.value c.in-Ok.ensures.found in
     let size : block.next ≡ length payload + 37 = search rules in
     head block.next (vec_capacity buffer) block.kind payload k (found.read told) first size (omega (arith, found.lies.buffered))
 
@@ -36,6 +36,6 @@ returns-in-Ok-clause-room g c =
     let found = c.in_ok-block.ensures.found in
     let k = kept_of c.in-Ok.so_far.state in
     let payload = slice_range buffer.items block.start block.end in
-    let first : first_in block.kind payload ≡ Some k = subst (λ (l : List ℕ). first_in block.kind (slice_range l block.start block.end) ≡ Some k) c.deref.ensures.value c.in-Ok.ensures.found in
+    let first : first_block_kept block.kind payload ≡ Some k = subst (λ (l : List ℕ). first_block_kept block.kind (slice_range l block.start block.end) ≡ Some k) c.deref.ensures.value c.in-Ok.ensures.found in
     let size : block.next ≡ length payload + 37 = search rules in
     omega (arith, found.lies.buffered, first_size block.kind payload k first)

@@ -4,7 +4,7 @@ use Rattle.std.proofs.lemmas.Option.{get_or_from_slice_get, slice_get_read}
 use Rattle.flowfile_record.specs.Stored.{Kept, kept_of}
 use Rattle.flowfile_record.specs.declared.change.Settled.{Settled}
 use Rattle.flowfile_record.specs.declared.event.Event.{Event}
-use Rattle.kept_state.specs.Moves.{are_active}
+use Rattle.kept_state.specs.Moves.{are_all_active}
 use Rattle.kept_state.proofs.Going.{active_from_in}
 use Rattle.machine_model.specs.declared.flow.Connection.{Connection}
 use Rattle.store_core.specs.Change.{MayExpire}
@@ -20,7 +20,7 @@ expiry_events-requires-clause-active c =
     let k = kept_by c.args.store.now in
     let active = active_from_in k.files c.args.connection c.args.numbers c.requires.may.active in
     let same : kept_of c.state-state.result.now ≡ k = c.state-state.ensures.kept in
-    ap (λ (l : Kept). are_active l.files c.as_slice-2.result.now) same ∙ ap (λ (ns : List ℕ). are_active k.files ns) c.as_slice-2.ensures ∙ active
+    ap (λ (l : Kept). are_all_active l.files c.as_slice-2.result.now) same ∙ ap (λ (ns : List ℕ). are_all_active k.files ns) c.as_slice-2.ensures ∙ active
 
 pub returns-clause-may : goal.returns-clause-may
 returns-clause-may c =

@@ -3,7 +3,7 @@ use Rattle.std.specs.Map.Iter.{deref_pair}
 use Rattle.std.proofs.lemmas.Map.Iter.{rest_more}
 use Rattle.serde_json.specs.View.{view}
 use Rattle.flow_definition.specs.declared.processor_type.Property.{Property}
-use Rattle.flow_definition.specs.Looks.{is_fixed, text_of}
+use Rattle.flow_definition.specs.Looks.{is_fixed, text_or_empty}
 use Rattle.flow_definition.specs.Made.{IsNoExpression}
 use Rattle.flow_definition.specs.Reading.{IsOwnOf, AreOwnOf}
 use Rattle.flow_definition.proofs.Others.{texts_left, texts_more, texts_one}
@@ -14,7 +14,7 @@ pub members-preserved-in_ok-push-in-Some-2 : goal.members-preserved-in_ok-push-i
 members-preserved-in_ok-push-in-Some-2 c =
     let ps : List Property = c.args.properties.now in
     let name : List ℕ = string_bytes c.in-Some.name.now in
-    let text : List ℕ = text_of (view c.in-Some.value.now) in
+    let text : List ℕ = text_or_empty (view c.in-Some.value.now) in
     let front : List (List ℕ × List ℕ) = c.members.invariant.0 in
     let own = c.in-Some-2.own in
     let other : is_fixed ps name ≡ false =
@@ -34,7 +34,7 @@ pub returns-in-None-2 : goal.returns-in-None-2
 returns-in-None-2 c =
     let ps : List Property = c.args.properties.now in
     let name : List ℕ = string_bytes c.in-Some.name.now in
-    let text : List ℕ = text_of (view c.in-Some.value.now) in
+    let text : List ℕ = text_or_empty (view c.in-Some.value.now) in
     let front : List (List ℕ × List ℕ) = c.members.invariant.0 in
     let rest : List (List ℕ × List ℕ) = texts_left ps c.next.new.self in
     let other : is_fixed ps name ≡ false =

@@ -1,7 +1,7 @@
 use Rattle.std.proofs.Common.{[], ◌∷◌, ◌++◌, map, take, sym, ap, ◌∙◌, subst, arith}
 use Rattle.serde_json.specs.View.{view}
 use Rattle.flow_definition.specs.Made.{AreMade, told_all, told_made}
-use Rattle.flow_definition.specs.Patterns.{HasRisen, Told, told}
+use Rattle.flow_definition.specs.Patterns.{HasRisen, Told, told_by_builder}
 use Rattle.flow_definition.proofs.Verdicts.{told_push, made_push, made_later, one_later, risen_before, risen_after}
 use Rattle.flow_definition.proofs.Walks.{front_at}
 use Rattle.flow_definition.proofs.made.make_all.Goals as goal
@@ -23,7 +23,7 @@ items-preserved g c =
     let one = one_later (HasRisen middle last) (HasRisen first last) (view item) made
     (risen_after first middle last c.items.invariant.count) c.in_ok-make.ensures.made in
     let more = made_push (HasRisen first last) front c.items.list.items (view item) made before one in
-    let earlier : Told = told g.P.Patterns.faults g.P.Patterns.refused c.args.patterns.now in
+    let earlier : Told = told_by_builder g.P.Patterns.faults g.P.Patterns.refused c.args.patterns.now in
     let is_more = front_at view items c.items.item-index item c.items-test.true c.item-item.is in
     record {
       made = subst (λ ds. AreMade (HasRisen first last) ds c.push.new.self.items)

@@ -3,9 +3,9 @@ use Rattle.std.specs.Map.Iter.{deref_pair}
 use Rattle.std.proofs.lemmas.Map.Iter.{rest_more}
 use Rattle.serde_json.specs.View.{view}
 use Rattle.flow_definition.specs.declared.processor_type.Property.{Property}
-use Rattle.flow_definition.specs.Looks.{is_fixed, text_of}
+use Rattle.flow_definition.specs.Looks.{is_fixed, text_or_empty}
 use Rattle.flow_definition.specs.OwnPatterns.{IsAttempt, AreAttempts, told_attempt, told_attempts}
-use Rattle.flow_definition.specs.Patterns.{HasRisen, Told, told}
+use Rattle.flow_definition.specs.Patterns.{HasRisen, Told, told_by_builder}
 use Rattle.flow_definition.proofs.Others.{texts_left, texts_more}
 use Rattle.flow_definition.proofs.OwnPatterns.{attempt_push, attempts_told, attempts_later, attempt_later}
 use Rattle.flow_definition.proofs.Verdicts.{risen_before, risen_after}
@@ -19,7 +19,7 @@ members-preserved-in_ok-push g c =
     let whole = c.args.is_whole in
     let ps : List Property = c.args.properties.now in
     let name : List ℕ = string_bytes c.in-Some.name.now in
-    let text : List ℕ = text_of (view c.in-Some.value.now) in
+    let text : List ℕ = text_or_empty (view c.in-Some.value.now) in
     let front : List (List ℕ × List ℕ) = c.members.invariant.made.0 in
     let made = c.in_ok-try_pattern.field-0 in
     let other : is_fixed ps name ≡ false =
@@ -32,9 +32,9 @@ members-preserved-in_ok-push g c =
     (subst (λ n. IsAttempt (HasRisen middle last) whole (n, c.text_of.result.now) made) c.as_str-then-not-is_fixed.ensures.value c.in_ok-try_pattern.ensures.made) in
     let one = attempt_later (HasRisen middle last) (HasRisen first last) whole (name, text) made
     (risen_after first middle last c.members.invariant.count) read in
-    let earlier : Told = told g.P.Patterns.faults g.P.Patterns.refused c.args.patterns.now in
-    let between : Told = told g.P.Patterns.faults g.P.Patterns.refused c.members.patterns in
-    let later : Told = told g.P.Patterns.faults g.P.Patterns.refused c.try_pattern.new.patterns in
+    let earlier : Told = told_by_builder g.P.Patterns.faults g.P.Patterns.refused c.args.patterns.now in
+    let between : Told = told_by_builder g.P.Patterns.faults g.P.Patterns.refused c.members.patterns in
+    let later : Told = told_by_builder g.P.Patterns.faults g.P.Patterns.refused c.try_pattern.new.patterns in
     let named : later ≡ told_attempt whole between (name, text) made =
     subst (λ t. later ≡ told_attempt whole between (name, t) made) c.text_of.ensures
     (subst (λ n. later ≡ told_attempt whole between (n, c.text_of.result.now) made) c.as_str-then-not-is_fixed.ensures.value c.in_ok-try_pattern.ensures.told) in

@@ -6,7 +6,7 @@ use Rattle.flowfile_record.specs.declared.flow_file.FlowFile.{FlowFile}
 use Rattle.content_repo.specs.Claims.{content_in}
 use Rattle.machine_model.specs.Acting.{name_in}
 use Rattle.store_core.specs.Store.{kept_by, live_in}
-use Rattle.engine_session.specs.Handing.{AreReadOf, fit_a_content, live_files}
+use Rattle.engine_session.specs.Handing.{AreReadOf, files_fit_a_content, live_files}
 use Rattle.flow_engine.specs.declared.error.EngineError.{EngineError}
 use Rattle.flow_engine.proofs.Files.{all_are_live, taken_so, there_so}
 use Rattle.flow_engine.proofs.job.hand_files.Goals as goal
@@ -37,7 +37,7 @@ returns-clause-handed g c =
       has = refl;
       bytes = read.0;
       taken = taken_so k c.args.connection c.args.numbers c.requires.taken read.0 c.in_ok-files.files c.in_ok-contents.contents are
-          (subst (λ (files : List FlowFile). AreReadOf read.0 (fit_a_content files) files c.in_ok-contents.contents) c.as_slice-2.ensures read.1);
+          (subst (λ (files : List FlowFile). AreReadOf read.0 (files_fit_a_content files) files c.in_ok-contents.contents) c.as_slice-2.ensures read.1);
     }
 
 pub returns-clause-told : goal.returns-clause-told
@@ -49,7 +49,7 @@ returns-clause-told g c in_tells left =
     record {
       read = λ telling.
           taken_so k c.args.connection c.args.numbers c.requires.taken contents c.in_ok-files.files c.in_ok-contents.contents are
-          (subst (λ (files : List FlowFile). AreReadOf contents (fit_a_content files) files c.in_ok-contents.contents) c.as_slice-2.ensures (c.in_ok-contents.ensures.told telling));
+          (subst (λ (files : List FlowFile). AreReadOf contents (files_fit_a_content files) files c.in_ok-contents.contents) c.as_slice-2.ensures (c.in_ok-contents.ensures.told telling));
       received = λ in_telling. tt;
       there = λ out_telling world same. there_so world standing contents c.in_ok-files.files c.in_ok-there.there same
           (c.in_ok-there.ensures.there out_telling

@@ -13,7 +13,7 @@ use Rattle.machine_model.specs.Changing.{HaveDigests, state_after}
 use Rattle.store_core.specs.Flow as store
 use Rattle.store_core.specs.Store.{kept_by}
 use Rattle.store_core.specs.declared.error.StoreError.{StoreError}
-use Rattle.engine_queues.specs.Settling.{MayExpireIn}
+use Rattle.engine_queues.specs.Settling.{MayExpireInQueues}
 use Rattle.flow_run.proofs.Writing.{touches_log}
 use Rattle.flow_engine.proofs.Tends.{committed, committed_between, kept_after, limit_of, passes, refuses}
 use Rattle.flow_engine.proofs.tending.expire.Goals as goal
@@ -94,7 +94,7 @@ returns-clause-queues g c =
     let there = c.in_ok-expiry.ensures.there in
     let left = kept_after c.in_ok-prepared.prepared s c.commit.new.self x (c.commit.ensures.changed c.requires.work.works).change c.in_ok-prepared.ensures.entry in
     let same : c.as_slice.result.now ≡ x.settled.gone = c.as_slice.ensures in
-    let may : MayExpireIn flow (kept_by s) x.connection x.settled.gone c.args.queues.now = record {
+    let may : MayExpireInQueues flow (kept_by s) x.connection x.settled.gone c.args.queues.now = record {
       of_kept = c.requires.queues;
       connections = ap (λ (f : store.Flow). length f.connections) c.requires.work.flow_is ∙ length-map flow.connections (λ c. c.id);
       consistent = c.holds_its_state.ensures.kept.0;
@@ -102,7 +102,7 @@ returns-clause-queues g c =
       active = there.active;
     } in
     c.expire.ensures flow (kept_by s) (kept_by c.commit.new.self)
-    (subst (λ (ns : List ℕ). MayExpireIn flow (kept_by s) x.connection ns c.args.queues.now) (sym same) may)
+    (subst (λ (ns : List ℕ). MayExpireInQueues flow (kept_by s) x.connection ns c.args.queues.now) (sym same) may)
     (left.files ∙ ap (λ (ns : List ℕ). left_after ns (kept_by s).files) (sym same))
 
 pub returns-in_err-moment-clause-alone : goal.returns-in_err-moment-clause-alone

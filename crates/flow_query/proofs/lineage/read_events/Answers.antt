@@ -6,7 +6,7 @@ use Rattle.disk_trait.specs.Files.{Files}
 use Rattle.flowfile_record.specs.NumberedItems.{AscendsByNumber}
 use Rattle.flowfile_record.specs.declared.event.Event.{Event}
 use Rattle.machine_model.specs.Lineage.{is_named}
-use Rattle.prov_index.specs.Index.{number_of}
+use Rattle.prov_index.specs.Index.{event_number}
 use Rattle.prov_store.specs.Scanning.{is_within}
 use Rattle.prov_store.proofs.Scans.{all_between, none_between}
 use Rattle.store_core.specs.Seen.{no_flow, IsSeenOn}
@@ -24,7 +24,7 @@ loop-shown-init g c =
       within = omega arith;
       stays = stays_still g.D.Disk.held g.D.Disk.moment g.D.Disk.images c.args.disk.now;
       events = λ told seen state is. none ∙ sym (none_between 1 0 state.events (omega arith));
-      ascends = subst (AscendsByNumber number_of) (sym none) tt;
+      ascends = subst (AscendsByNumber event_number) (sym none) tt;
       below = subst (λ (l : List Event). All (λ (e : Event). e.number < 0 + 1) l) (sym none) (All-nil (λ (e : Event). e.number < 0 + 1));
       named = λ n is passes. false≢true (ap (λ (l : List Event). is_named l n) (sym none) ∙ passes);
       disk_faults = omega arith;
@@ -56,7 +56,7 @@ loop-shown-preserved g c =
           added ∙ ap (λ (l : List Event). l ++ events) (inv.events told seen state is)
           ∙ ap (λ (l : List Event). filter (is_within 1 shown) state.events ++ l) (c.in_ok-events.ensures.events told here state stands)
           ∙ parted 1 shown to 1 state.events (known (held c.args.disk.now) s state seen is).row (omega arith) (omega (arith, c.next_stop-to.ensures.more));
-      ascends = subst (AscendsByNumber number_of) (sym added) on.ascends;
+      ascends = subst (AscendsByNumber event_number) (sym added) on.ascends;
       below = subst (λ (l : List Event). All (λ (e : Event). e.number < to + 1) l) (sym added) on.below;
       named = subst (λ (l : List Event). IsFoundBy c.store_of-store.result c.args.id (is_named l) c.find_behind-file.result)
           (ap (λ (l : List Event). index ++ l) c.deref.ensures.value ∙ sym added) (c.find_behind-file.ensures index inv.named);

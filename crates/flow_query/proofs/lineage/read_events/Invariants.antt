@@ -5,7 +5,7 @@ use Rattle.flowfile_record.specs.NumberedItems.{AscendsByNumber}
 use Rattle.flowfile_record.specs.declared.event.Event.{Event}
 use Rattle.machine_model.specs.Lineage.{is_named}
 use Rattle.machine_model.specs.State.{State}
-use Rattle.prov_index.specs.Index.{number_of}
+use Rattle.prov_index.specs.Index.{event_number}
 use Rattle.prov_store.specs.Scanning.{is_within}
 use Rattle.store_core.specs.Seen.{no_flow, IsSeenOn}
 use Rattle.store_core.specs.State.{stands_for}
@@ -19,7 +19,7 @@ invariant-loop-shown g l = record {
   stays : Stays g.D.Disk.held g.D.Disk.moment g.D.Disk.images l.fn.disk l.disk;
   events : IsTrue g.D.Disk.tells → IsSeenOn (g.D.Disk.held l.fn.disk) l.seen → (state : State) → stands_for no_flow 0 (g.D.Disk.held l.fn.disk) ≡ Ok state
       → l.index ≡ filter (is_within 1 l.shown) state.events;
-  ascends : AscendsByNumber number_of l.index;
+  ascends : AscendsByNumber event_number l.index;
   below : All (λ (e : Event). e.number < l.shown + 1) l.index;
   named : IsFoundBy l.store l.id (is_named l.index) l.file;
   disk_faults : g.D.Disk.faults l.fn.disk ≤ g.D.Disk.faults l.disk;

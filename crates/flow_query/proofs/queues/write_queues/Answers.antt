@@ -4,7 +4,7 @@ use Rattle.std.proofs.lemmas.Result.{err_from_is_err_and}
 use Rattle.flowfile_record.specs.NumberedItems.{with_items}
 use Rattle.flowfile_record.specs.Stored.{Kept, kept_of}
 use Rattle.checkpoint_store.specs.Consistent.{AreDistinctBy, IsConsistent}
-use Rattle.flow_query.specs.Parts.{arrival_of, lines_text, size_of, waiting_at, waiting_in}
+use Rattle.flow_query.specs.Parts.{waiting_arrival, lines_text, waiting_size, waiting_at, waiting_in}
 use Rattle.flow_query.specs.declared.waiting.Waiting.{Waiting}
 use Rattle.flow_query.proofs.Arrivals.{distinct_in}
 use Rattle.flow_query.proofs.Queued.{sizes_fit, line_more, line_failed, lines_done}
@@ -12,11 +12,11 @@ use Rattle.flow_query.proofs.Written.{leaves-front, printed-sink}
 use Rattle.flow_query.proofs.queues.write_queues.Goals as goal
 
 -- the list of a connection, and its queue
-are_distinct : (k : Kept) (place : ℕ) (list listed : List Waiting) → IsConsistent k → list ≡ listed → listed ≡ waiting_in k.files place → AreDistinctBy arrival_of list
-are_distinct k place list listed consistent taken is = subst (λ (l : List Waiting). AreDistinctBy arrival_of l) (sym (taken ∙ is)) (distinct_in place k.files consistent.arrivals)
+are_distinct : (k : Kept) (place : ℕ) (list listed : List Waiting) → IsConsistent k → list ≡ listed → listed ≡ waiting_in k.files place → AreDistinctBy waiting_arrival list
+are_distinct k place list listed consistent taken is = subst (λ (l : List Waiting). AreDistinctBy waiting_arrival l) (sym (taken ∙ is)) (distinct_in place k.files consistent.arrivals)
 
-queue_is : (k : Kept) (place : ℕ) (queue list listed : List Waiting) → queue ≡ with_items arrival_of list [] → list ≡ listed → listed ≡ waiting_in k.files place → queue ≡ waiting_at k.files place
-queue_is k place queue list listed put taken is = put ∙ ap (λ (l : List Waiting). with_items arrival_of l []) (taken ∙ is)
+queue_is : (k : Kept) (place : ℕ) (queue list listed : List Waiting) → queue ≡ with_items waiting_arrival list [] → list ≡ listed → listed ≡ waiting_in k.files place → queue ≡ waiting_at k.files place
+queue_is k place queue list listed put taken is = put ∙ ap (λ (l : List Waiting). with_items waiting_arrival l []) (taken ∙ is)
 
 pub queue_of-requires : goal.queue_of-requires
 queue_of-requires g c =
@@ -28,7 +28,7 @@ write_queue-requires g c =
     let inv = c.loop-place.invariant in
     let k = kept_of c.args.stored.now in
     let queue = queue_is k c.loop-place.place _ _ _ c.in_ok-queue.ensures c.take_list-waiting.ensures.list (inv.lists c.loop-place.place (omega arith) c.loop-place-test.true) in
-    subst (λ (l : List Waiting). sum_by size_of l < 2 ^ 64) (sym queue) (sizes_fit k c.loop-place.place c.requires)
+    subst (λ (l : List Waiting). sum_by waiting_size l < 2 ^ 64) (sym queue) (sizes_fit k c.loop-place.place c.requires)
 
 here_is : (texts ids : List (List ℕ)) (place : ℕ) (id : List ℕ) → texts ≡ ids → id ≡ get_or texts place id → id ≡ get_or ids place id
 here_is texts ids place id same is = is ∙ ap (λ (l : List (List ℕ)). get_or l place id) same

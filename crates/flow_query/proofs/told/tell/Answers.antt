@@ -7,7 +7,7 @@ use Rattle.lineage_query.specs.declared.answer.LineageError.{LineageError}
 use Rattle.lineage_query.specs.declared.answer.LineageError.TheVariants.{Absent, Memory}
 use Rattle.machine_model.specs.Lineage.{is_named}
 use Rattle.flow_query.specs.Errors.{of_lineage}
-use Rattle.flow_query.specs.Parts.{IsTold}
+use Rattle.flow_query.specs.Parts.{LineageIsPrinted}
 use Rattle.flow_query.proofs.told.tell.Goals as goal
 
 abbrev Answer : Type 0
@@ -17,7 +17,7 @@ abbrev err : LineageError → Answer
 err e = Err e
 
 told-not : (store : ℕ) (events : List Event) (file : ℕ) (before : List ℕ) (e : LineageError) → is_named events file ≡ true → (err e ≡ err Absent → is_named events file ≡ false)
-    → IsTold store events file before before (Err (of_lineage e))
+    → LineageIsPrinted store events file before before (Err (of_lineage e))
 told-not store events file before Absent named absent = absurd (false≢true (sym (absent refl) ∙ named))
 told-not store events file before Memory named absent = refl
 

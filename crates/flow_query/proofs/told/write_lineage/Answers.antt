@@ -7,7 +7,7 @@ use Rattle.disk_trait.specs.declared.file_name.Failed.{Failed}
 use Rattle.flow_report.specs.Writing.{Writes}
 use Rattle.flow_report.specs.declared.line.KinWord.TheVariants.{File, Ancestor, Descendant}
 use Rattle.flow_report.proofs.Writing.{writes-failed, writes-named, writes-then}
-use Rattle.lineage_query.specs.Told.{seen as told_by}
+use Rattle.lineage_query.specs.Told.{lineage_seen as told_by}
 use Rattle.prov_index.specs.Index.{event_of}
 use Rattle.flow_query.specs.Parts.{events_at}
 use Rattle.flow_query.specs.Texts.{event_text, kin_text, told_in}

@@ -1,7 +1,7 @@
 use Rattle.std.proofs.Common.{◌≡◌, ◌+◌}
 use Rattle.std.specs.List.{sum_by}
-use Rattle.flow_query.specs.Parts.{size_of}
+use Rattle.flow_query.specs.Parts.{waiting_size}
 use Rattle.flow_query.proofs.waiting.bytes_of.Given as goal
 
 abbrev pub invariant-loop-waiting : goal.invariant-loop-waiting
-invariant-loop-waiting l = l.bytes + sum_by size_of l.waiting-iterator ≡ sum_by size_of l.queue.items
+invariant-loop-waiting l = l.bytes + sum_by waiting_size l.waiting-iterator ≡ sum_by waiting_size l.queue.items

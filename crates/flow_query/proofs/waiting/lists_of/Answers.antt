@@ -1,5 +1,5 @@
 use Rattle.std.proofs.Common.{◌∙◌, arith, rules}
-use Rattle.flow_query.specs.Parts.{listed_at}
+use Rattle.flow_query.specs.Parts.{listed_waiting}
 use Rattle.flow_query.proofs.Listed.{listed-more}
 use Rattle.flow_query.proofs.waiting.lists_of.Goals as goal
 
@@ -10,6 +10,6 @@ loop-active-preserved c =
       finite = search rules;
       len = c.list_file.ensures.len ∙ inv.len;
       lists = λ place lt.
-          listed-more c.in-Some.active.now c.next.new.self c.loop-active.active-iterator place (listed_at c.loop-active.lists.items place) (listed_at c.list_file.new.lists.items place) _ c.in-Some.ensures.steps
+          listed-more c.in-Some.active.now c.next.new.self c.loop-active.active-iterator place (listed_waiting c.loop-active.lists.items place) (listed_waiting c.list_file.new.lists.items place) _ c.in-Some.ensures.steps
           (c.in_ok-list_file.ensures.lists place (omega (arith, lt, inv.len))) (inv.lists place lt);
     }

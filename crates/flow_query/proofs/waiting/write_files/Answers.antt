@@ -4,7 +4,7 @@ use Rattle.std.specs.List.{flat_map}
 use Rattle.std.proofs.lemmas.Result.{err_from_is_err_and}
 use Rattle.flowfile_record.specs.Identifier.{identifier}
 use Rattle.flow_report.specs.Texts.{line_of}
-use Rattle.flow_report.specs.Words.{uuid_text}
+use Rattle.flow_report.specs.Words.{identifier_text}
 use Rattle.flow_query.specs.Parts.{waiting_text}
 use Rattle.flow_query.specs.declared.waiting.Waiting.{Waiting}
 use Rattle.flow_query.proofs.Written.{leaves-all, leaves-named, first-more, first-failed, writes-done}
@@ -18,8 +18,8 @@ loop-waiting-init g c = record {
 }
 
 line_is : (store : ℕ) (w : Waiting) (id : List ℕ) → id ≡ identifier store w.number
-    → line_of (codes "file " ∷ uuid_text id ∷ codes " " ∷ decimal w.size ∷ []) ≡ waiting_text store w
-line_is store w id is = ap (λ (l : List ℕ). line_of (codes "file " ∷ uuid_text l ∷ codes " " ∷ decimal w.size ∷ [])) is
+    → line_of (codes "file " ∷ identifier_text id ∷ codes " " ∷ decimal w.size ∷ []) ≡ waiting_text store w
+line_is store w id is = ap (λ (l : List ℕ). line_of (codes "file " ∷ identifier_text l ∷ codes " " ∷ decimal w.size ∷ [])) is
 
 pub loop-waiting-preserved : goal.loop-waiting-preserved
 loop-waiting-preserved g c =

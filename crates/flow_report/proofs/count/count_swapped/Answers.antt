@@ -1,5 +1,5 @@
 use Rattle.std.proofs.Common.{◌==◌, ◌+◌, ◌^◌, ℕ, ◌∙◌, length, ap, arith, rules}
-use Rattle.flow_report.specs.Counts.{bytes_at, files_at}
+use Rattle.flow_report.specs.Counts.{counted_bytes, files_at}
 use Rattle.flow_report.proofs.Counting.{sum-step, bound-step}
 use Rattle.flow_report.proofs.count.count_swapped.Goals as goal
 
@@ -10,7 +10,7 @@ loop-batch-preserved c =
     let first = c.args.first in
     let same = λ (at : ℕ). ap (λ (n : ℕ). x.connection == n + at) inv.first in
     let files = λ (at : ℕ). files_at c.loop-batch.counts at in
-    let bytes = λ (at : ℕ). bytes_at c.loop-batch.counts at in
+    let bytes = λ (at : ℕ). counted_bytes c.loop-batch.counts at in
     record {
       next = search rules;
       finite = search rules;

@@ -3,13 +3,13 @@ use Rattle.std.proofs.Common.{ℕ, ◌-◌, ◌≤◌, List, ◌++◌, take, dro
 use Rattle.flowfile_record.specs.Stored.{Kept, kept_of}
 use Rattle.machine_model.specs.declared.flow.Connection.{Connection}
 use Rattle.flow_report.specs.Counts.{lines_from}
-use Rattle.flow_report.specs.Summary.{bytes_in, files_in}
+use Rattle.flow_report.specs.Summary.{connection_bytes, connection_files}
 use Rattle.flow_report.specs.Texts.{connection_text}
 use Rattle.flow_report.proofs.Writing.{writes-named, writes-then, writes-failed, places-cut, cut-more}
 use Rattle.flow_report.proofs.summary.write_connections.Goals as goal
 
 abbrev line_at : Kept → ℕ × Connection → List ℕ
-line_at kept at = connection_text at.1.id (files_in at.0 kept) (bytes_in at.0 kept)
+line_at kept at = connection_text at.1.id (connection_files at.0 kept) (connection_bytes at.0 kept)
 
 pub loop-first-preserved : goal.loop-first-preserved
 loop-first-preserved g c =

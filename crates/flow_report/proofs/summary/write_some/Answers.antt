@@ -2,14 +2,14 @@ use Rattle.std.proofs.lemmas.Result.{err_from_is_err_and}
 use Rattle.std.proofs.Common.{◌≡◌, ℕ, ◌+◌, ◌<◌, ◌∙◌, List, arith}
 use Rattle.flowfile_record.specs.Stored.{Kept, kept_of}
 use Rattle.machine_model.specs.declared.flow.Connection.{Connection}
-use Rattle.flow_report.specs.Summary.{bytes_in, files_in}
+use Rattle.flow_report.specs.Summary.{connection_bytes, connection_files}
 use Rattle.flow_report.specs.Texts.{connection_text}
 use Rattle.flow_report.specs.declared.count.TheConstants.{COUNTED}
 use Rattle.flow_report.proofs.Writing.{writes-named, writes-nothing, place-more, place-failed, places-all}
 use Rattle.flow_report.proofs.summary.write_some.Goals as goal
 
 abbrev line_at : Kept → ℕ × Connection → List ℕ
-line_at kept at = connection_text at.1.id (files_in at.0 kept) (bytes_in at.0 kept)
+line_at kept at = connection_text at.1.id (connection_files at.0 kept) (connection_bytes at.0 kept)
 
 -- the counts that the code tells
 line_is : (id : List ℕ) (files files' more more' bytes bytes' further further' : ℕ) → files ≡ files' → more ≡ more' → bytes ≡ bytes' → further ≡ further'

@@ -7,7 +7,7 @@ use Rattle.disk_trait.specs.declared.file_name.FileKind.TheVariants.{Log}
 use Rattle.record_codec.specs.EntryEncoding.{IsEntry}
 use Rattle.record_codec.specs.declared.entry.LogEntry.{LogEntry}
 use Rattle.flowfile_wal.specs.Calls.{HaveEncodings}
-use Rattle.flowfile_wal.specs.Reads.{IsNextAt, IsNextWithin, IsDamagedAt, IsReadTo}
+use Rattle.flowfile_wal.specs.Reads.{IsNextAt, IsNextWithin, IsDamagedAt, LogIsReadTo}
 use Rattle.flowfile_wal.specs.declared.error.LogError.TheVariants.{Damaged}
 use Rattle.flowfile_wal.proofs.Reading.{read_next, read_done, read_damaged}
 use Rattle.flowfile_wal.proofs.read.read_log.Goals as goal
@@ -44,8 +44,8 @@ loop-entries-preserved g c =
           (subst (λ (o : Option (LogEntry × ℕ)). IsNextAt end (g.D.Disk.held c.loop-entries.disk (named Log number)) o) c.in-Some.is (c.in_ok-entry.ensures.next told)) in
           let more = read_next number end c.loop-entries.entries.items bytes (inv.read told) (c.in-Some.entry, c.in-Some.block) next in
           let gate : end + 1 + c.in-Some.block ≡ end + (1 + c.in-Some.block) = omega arith in
-          subst (λ (es : List (ℕ × LogEntry)). IsReadTo number (end + (1 + c.in-Some.block)) es bytes) (sym c.in_default-push.ensures.items)
-          (subst (λ (n : ℕ). IsReadTo number n (c.loop-entries.entries.items ++ (end, c.in-Some.entry) ∷ []) bytes) gate more);
+          subst (λ (es : List (ℕ × LogEntry)). LogIsReadTo number (end + (1 + c.in-Some.block)) es bytes) (sym c.in_default-push.ensures.items)
+          (subst (λ (n : ℕ). LogIsReadTo number n (c.loop-entries.entries.items ++ (end, c.in-Some.entry) ∷ []) bytes) gate more);
     }
 
 pub returns-clause-read : goal.returns-clause-read

@@ -11,8 +11,8 @@ use Rattle.flowfile_record.specs.declared.stored.ActiveFile.{ActiveFile}
 use Rattle.checkpoint_store.specs.Consistent.{record_size}
 use Rattle.kept_state.specs.Applied.{left_after, session_applied}
 use Rattle.kept_state.specs.Arrivals.{are_fresh, IsSetOf}
-use Rattle.kept_state.specs.Fits.{are_distinct, are_active_in_one}
-use Rattle.kept_state.specs.Limits.{passed, live_limit}
+use Rattle.kept_state.specs.Fits.{are_distinct_numbers, are_active_in_one}
+use Rattle.kept_state.specs.Limits.{limit_passed, live_limit}
 use Rattle.kept_state.specs.declared.limit.Which.TheVariants as which
 use Rattle.kept_state.proofs.Going.{active_from_one, live_limit-session}
 use Rattle.kept_state.proofs.Testing.{new_in, suits_counters, fits_in_turn, third_false, fourth_false, fifth_false, all_true, arrivals_fresh, any-with_files}
@@ -25,8 +25,8 @@ read_so part placed s_placed gone s_gone files k_files p g f =
     ap (λ (x : List ActiveFile). new_in part x gone files) p ∙ ap (λ (x : List ℕ). new_in part s_placed x files) g ∙ ap (new_in part s_placed s_gone) f
 
 -- the numbers of the files that go are distinct, and the set has them
-set_made : (o : Option (BTreeSet ℕ)) (set : BTreeSet ℕ) (ns : List ℕ) → o ≡ Some set → MatchOption o (are_distinct ns ≡ false) (λ s. (are_distinct ns ≡ true) × IsSetOf s ns) → (are_distinct ns ≡ true) × IsSetOf set ns
-set_made o set ns is made = subst (λ (p : Option (BTreeSet ℕ)). MatchOption p (are_distinct ns ≡ false) (λ s. (are_distinct ns ≡ true) × IsSetOf s ns)) is made
+set_made : (o : Option (BTreeSet ℕ)) (set : BTreeSet ℕ) (ns : List ℕ) → o ≡ Some set → MatchOption o (are_distinct_numbers ns ≡ false) (λ s. (are_distinct_numbers ns ≡ true) × IsSetOf s ns) → (are_distinct_numbers ns ≡ true) × IsSetOf set ns
+set_made o set ns is made = subst (λ (p : Option (BTreeSet ℕ)). MatchOption p (are_distinct_numbers ns ≡ false) (λ s. (are_distinct_numbers ns ≡ true) × IsSetOf s ns)) is made
 
 flipped : (r b : Bool) → b ≡ not r → r ≡ not b
 flipped true b is = sym (ap not is)
@@ -42,8 +42,8 @@ returns-then-not-branch-clause-fits c =
     let numbers = c.in_ok-numbers_are_new.ensures c.as_slice-gone.result.now made.1
     ∙ read_so (λ f. f.number) c.as_slice-placed.result.now s.placed c.as_slice-gone.result.now s.gone c.stored-stored.result.now.files.items k.files c.as_slice-placed.ensures c.as_slice-gone.ensures files_are in
     let is_false = sym numbers ∙ c.if-not-branch.true in
-    sym (fits_in_turn k s none ∙ ap (λ b. are_distinct s.gone && (are_active_in_one k.files s.gone && (b && (new_in (λ f. f.arrival) s.placed s.gone k.files && (suits_counters k s && is_none (live_limit (session_applied k s))))))) is_false
-    ∙ third_false (are_distinct s.gone) (are_active_in_one k.files s.gone) (new_in (λ f. f.arrival) s.placed s.gone k.files && (suits_counters k s && is_none (live_limit (session_applied k s)))))
+    sym (fits_in_turn k s none ∙ ap (λ b. are_distinct_numbers s.gone && (are_active_in_one k.files s.gone && (b && (new_in (λ f. f.arrival) s.placed s.gone k.files && (suits_counters k s && is_none (live_limit (session_applied k s))))))) is_false
+    ∙ third_false (are_distinct_numbers s.gone) (are_active_in_one k.files s.gone) (new_in (λ f. f.arrival) s.placed s.gone k.files && (suits_counters k s && is_none (live_limit (session_applied k s)))))
 
 pub returns-then-not-branch-2-clause-fits : goal.returns-then-not-branch-2-clause-fits
 returns-then-not-branch-2-clause-fits c =
@@ -59,8 +59,8 @@ returns-then-not-branch-2-clause-fits c =
     ∙ arrivals_fresh c.remove_arrivals.new.arrivals c.as_slice-gone.result.now c.as_slice-placed.result.now c.stored-stored.result.now.files.items c.remove_arrivals.ensures
     ∙ read_so (λ f. f.arrival) c.as_slice-placed.result.now s.placed c.as_slice-gone.result.now s.gone c.stored-stored.result.now.files.items k.files c.as_slice-placed.ensures c.as_slice-gone.ensures files_are in
     let is_false = sym fresh ∙ c.if-not-branch-2.true in
-    sym (fits_in_turn k s none ∙ ap (λ b. are_distinct s.gone && (are_active_in_one k.files s.gone && (new_in (λ f. f.number) s.placed s.gone k.files && (b && (suits_counters k s && is_none (live_limit (session_applied k s))))))) is_false
-    ∙ fourth_false (are_distinct s.gone) (are_active_in_one k.files s.gone) (new_in (λ f. f.number) s.placed s.gone k.files) (suits_counters k s && is_none (live_limit (session_applied k s))))
+    sym (fits_in_turn k s none ∙ ap (λ b. are_distinct_numbers s.gone && (are_active_in_one k.files s.gone && (new_in (λ f. f.number) s.placed s.gone k.files && (b && (suits_counters k s && is_none (live_limit (session_applied k s))))))) is_false
+    ∙ fourth_false (are_distinct_numbers s.gone) (are_active_in_one k.files s.gone) (new_in (λ f. f.number) s.placed s.gone k.files) (suits_counters k s && is_none (live_limit (session_applied k s))))
 
 pub returns-then-not-suits_counters-clause-fits : goal.returns-then-not-suits_counters-clause-fits
 returns-then-not-suits_counters-clause-fits c =
@@ -73,8 +73,8 @@ returns-then-not-suits_counters-clause-fits c =
     ∙ read_so (λ f. f.number) c.as_slice-placed.result.now s.placed c.as_slice-gone.result.now s.gone c.stored-stored.result.now.files.items k.files c.as_slice-placed.ensures c.as_slice-gone.ensures files_are in
     let counters = ap (λ (m : Kept). suits_counters m s) c.stored-stored.ensures.kept in
     let is_false = sym counters ∙ sym c.suits_counters.ensures ∙ c.if-not-suits_counters.true in
-    sym (fits_in_turn k s none ∙ ap (λ b. are_distinct s.gone && (are_active_in_one k.files s.gone && (new_in (λ f. f.number) s.placed s.gone k.files && (new_in (λ f. f.arrival) s.placed s.gone k.files && (b && is_none (live_limit (session_applied k s))))))) is_false
-    ∙ fifth_false (are_distinct s.gone) (are_active_in_one k.files s.gone) (new_in (λ f. f.number) s.placed s.gone k.files) (new_in (λ f. f.arrival) s.placed s.gone k.files) (is_none (live_limit (session_applied k s))))
+    sym (fits_in_turn k s none ∙ ap (λ b. are_distinct_numbers s.gone && (are_active_in_one k.files s.gone && (new_in (λ f. f.number) s.placed s.gone k.files && (new_in (λ f. f.arrival) s.placed s.gone k.files && (b && is_none (live_limit (session_applied k s))))))) is_false
+    ∙ fifth_false (are_distinct_numbers s.gone) (are_active_in_one k.files s.gone) (new_in (λ f. f.number) s.placed s.gone k.files) (new_in (λ f. f.arrival) s.placed s.gone k.files) (is_none (live_limit (session_applied k s))))
 
 pub limit_with-limit-requires-clause-active : goal.limit_with-limit-requires-clause-active
 limit_with-limit-requires-clause-active c =
@@ -98,10 +98,10 @@ returns-clause-fits c =
     ∙ read_so (λ f. f.arrival) c.as_slice-placed.result.now s.placed c.as_slice-gone.result.now s.gone c.stored-stored.result.now.files.items k.files c.as_slice-placed.ensures c.as_slice-gone.ensures files_are in
     let counters = ap (λ (m : Kept). suits_counters m s) c.stored-stored.ensures.kept in
     let active = ap (are_active_in_one k.files) (sym c.as_slice-gone.ensures) ∙ ap (λ (f : List ActiveFile). are_active_in_one f c.as_slice-gone.result.now) (sym files_are) ∙ sym c.are_active_in_one.ensures ∙ c.if-not-are_active_in_one.false in
-    let whole = fits_in_turn k s none ∙ all_true (are_distinct s.gone) (are_active_in_one k.files s.gone) (new_in (λ f. f.number) s.placed s.gone k.files) (new_in (λ f. f.arrival) s.placed s.gone k.files) (suits_counters k s) (is_none (live_limit (session_applied k s)))
-    (ap are_distinct (sym c.as_slice-gone.ensures) ∙ made.0) active (sym numbers ∙ c.if-not-branch.false) (sym fresh ∙ c.if-not-branch-2.false) (sym counters ∙ sym c.suits_counters.ensures ∙ c.if-not-suits_counters.false) in
+    let whole = fits_in_turn k s none ∙ all_true (are_distinct_numbers s.gone) (are_active_in_one k.files s.gone) (new_in (λ f. f.number) s.placed s.gone k.files) (new_in (λ f. f.arrival) s.placed s.gone k.files) (suits_counters k s) (is_none (live_limit (session_applied k s)))
+    (ap are_distinct_numbers (sym c.as_slice-gone.ensures) ∙ made.0) active (sym numbers ∙ c.if-not-branch.false) (sym fresh ∙ c.if-not-branch-2.false) (sym counters ∙ sym c.suits_counters.ensures ∙ c.if-not-suits_counters.false) in
     let at_limit : List ℕ → ℕ → ℕ → _ = λ gone placed bytes.
-    option_or (passed which.Files LIVE_FILES_MAX (length (left_after gone k.files) + placed)) (passed which.FileBytes LIVE_BYTES_MAX (sum (map record_size (left_after gone k.files)) + bytes)) in
+    option_or (limit_passed which.Files LIVE_FILES_MAX (length (left_after gone k.files) + placed)) (limit_passed which.FileBytes LIVE_BYTES_MAX (sum (map record_size (left_after gone k.files)) + bytes)) in
     let bytes : c.bytes_of.result ≡ sum (map record_size s.placed) = c.bytes_of.ensures.bytes ∙ ap (λ (l : List ActiveFile). sum (map record_size l)) c.as_slice-placed.ensures in
     let limit = c.limit_with-limit.ensures.limit ∙ ap (λ (g : List ℕ). at_limit g (length c.as_slice-placed.result.now) c.bytes_of.result) c.as_slice-gone.ensures
     ∙ ap (λ (l : List ActiveFile). at_limit s.gone (length l) c.bytes_of.result) c.as_slice-placed.ensures ∙ ap (at_limit s.gone (length s.placed)) bytes ∙ sym (live_limit-session k s none) in

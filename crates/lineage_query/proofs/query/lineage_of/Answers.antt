@@ -4,7 +4,7 @@ use Rattle.std.specs.List.{dedup}
 use Rattle.std.specs.List.Sorted.{IsPermutation}
 use Rattle.std.proofs.lemmas.List.Filters.{dedup_is}
 use Rattle.machine_model.specs.Lineage.{HasTold, IsAncestor, IsDescendant, Lists}
-use Rattle.lineage_query.specs.Told.{numbers_of, numbers_of_all}
+use Rattle.lineage_query.specs.Told.{own_event_numbers, numbers_of_all}
 use Rattle.lineage_query.specs.Work.{work}
 use Rattle.lineage_query.proofs.Telling.{all-told, cost-1, cost-2, cost-3, cost-4, cost-5, lists-cost, told-lists}
 use Rattle.lineage_query.proofs.query.lineage_of.Goals as goal
@@ -15,7 +15,7 @@ returns-clause-lineage g c =
     let file = c.args.number in
     let up = c.in_ok-ancestors.ancestors in
     let down = c.in_ok-descendants.descendants in
-    let own = c.in_ok-tell.ensures.told ∙ ap (λ (l : List ℕ). l ++ numbers_of events file) c.new-events.ensures.items in
+    let own = c.in_ok-tell.ensures.told ∙ ap (λ (l : List ℕ). l ++ own_event_numbers events file) c.new-events.ensures.items in
     let above = c.in_ok-tell_all.ensures.told ∙ ap (λ (l : List ℕ). c.tell.new.told.items ++ numbers_of_all events l) c.as_slice.ensures ∙ ap (λ (l : List ℕ). l ++ numbers_of_all events up) own in
     let all : c.tell_all-2.new.told.items ≡ all-told events file up down
     = c.in_ok-tell_all-2.ensures.told ∙ ap (λ (l : List ℕ). c.tell_all.new.told.items ++ numbers_of_all events l) c.as_slice-2.ensures ∙ ap (λ (l : List ℕ). l ++ numbers_of_all events down) above in

@@ -1,5 +1,5 @@
 use Rattle.std.proofs.Common.{ℕ, List, ◌≤◌, length, subst, ap, ◌∙◌, arith}
-use Rattle.lineage_query.specs.Walk.{kin_of, with_all}
+use Rattle.lineage_query.specs.Walk.{kin_towards, with_all}
 use Rattle.lineage_query.proofs.Asking.{never, the-event, found-more, found-all}
 use Rattle.lineage_query.proofs.walk.look.Goals as goal
 
@@ -15,7 +15,7 @@ loop-number-preserved g c =
     let event = c.in-Some.event.now in
     let is = the-event events c.of-numbers.result.now file i event c.of-numbers.ensures.numbers c.of-numbers.ensures.ascends c.loop-number-test.true c.in-Some.ensures.event in
     record {
-      found = c.in_ok-add_all.ensures ∙ ap (with_all c.loop-number.found) c.kin.ensures ∙ ap (λ (l : List ℕ). with_all l (kin_of way file event)) c.loop-number.invariant.found
+      found = c.in_ok-add_all.ensures ∙ ap (with_all c.loop-number.found) c.kin.ensures ∙ ap (λ (l : List ℕ). with_all l (kin_towards way file event)) c.loop-number.invariant.found
           ∙ found-more way events file i c.args.found.now event is.2 is.0;
       steps = omega (arith, c.event.ensures.steps, c.loop-number.invariant.steps);
     }

@@ -1,5 +1,5 @@
 use Rattle.std.proofs.Common.{◌≡◌, ◌+◌, List, drop, map, refl}
-use Rattle.process_session.specs.Bench.{attributes_at}
+use Rattle.process_session.specs.Bench.{bench_attributes}
 use Rattle.process_session.specs.Changes.{with_put}
 use Rattle.processor_api.proofs.Answered.{changed_so, only_memory}
 use Rattle.proc_attribute.specs.Setting.{set_by}
@@ -34,7 +34,7 @@ loop-setting-preserved c =
     let new-is : new ≡ with_put now 0 pair.0 c.as_str.result.now = changed_so _ _ _ _ _ c.put_attribute.ensures.after c.in_ok-or_no_memory.ensures.value in
     record {
       after = put-keeps before now new c.requires.one pair c.as_str.result.now put new-is;
-      same = sets-more (attributes_at before 0) (attributes_at now 0) (attributes_at new 0) pairs (map set_by (drop i settings)) rest pair c.loop-setting.invariant.same left
+      same = sets-more (bench_attributes before 0) (bench_attributes now 0) (bench_attributes new 0) pairs (map set_by (drop i settings)) rest pair c.loop-setting.invariant.same left
           (put-sets before now new c.requires.one pair c.as_str.result.now put new-is);
       keys = (keys-first (map set_by (drop i settings)) rest pair left c.loop-setting.invariant.keys).1;
     }

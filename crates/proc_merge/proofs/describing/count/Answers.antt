@@ -2,7 +2,7 @@ use Rattle.std.proofs.Common.{◌≡◌, codes, length, refl, ◌∙◌, ap}
 use Rattle.std.specs.Prelude.{decimal}
 use Rattle.machine_model.specs.Making.{with_set}
 use Rattle.machine_model.specs.MergeContent.{counted}
-use Rattle.process_session.specs.Bench.{Bench, attributes_at}
+use Rattle.process_session.specs.Bench.{Bench, bench_attributes}
 use Rattle.process_session.specs.Changes.{with_removed}
 use Rattle.processor_api.proofs.Answered.{changed_so, never_refused}
 use Rattle.proc_merge.specs.Joining.{IsDescribed, of_parents}
@@ -27,6 +27,6 @@ returns c =
     let left : now ≡ with_removed bench file (codes "segment.original.filename") = changed_so _ _ _ _ _ c.remove_attribute.ensures.after c.unwrap.ensures in
     let value : c.as_str.result.now ≡ decimal (length bench.sources) =
     c.as_str.ensures.value ∙ c.in_ok-count.ensures.ok ∙ ap decimal (c.taken-count.ensures ∙ ap (λ (b : Bench). length b.sources) left) in
-    ok-weaker c.set.result (λ done. IsDescribed now c.set.new.session file (with_set of_parents (attributes_at now file) (codes "merge.count", c.as_str.result.now)) done)
-    (λ done. IsDescribed bench c.set.new.session file (counted (length bench.sources) of_parents (attributes_at bench file)) done)
+    ok-weaker c.set.result (λ done. IsDescribed now c.set.new.session file (with_set of_parents (bench_attributes now file) (codes "merge.count", c.as_str.result.now)) done)
+    (λ done. IsDescribed bench c.set.new.session file (counted (length bench.sources) of_parents (bench_attributes bench file)) done)
     (λ done. count-done bench now c.set.new.session file (length bench.sources) c.as_str.result.now done c.requires left value) c.set.ensures

@@ -1,6 +1,6 @@
 use Rattle.std.proofs.Common.{◌≡◌, codes, refl}
 use Rattle.std.specs.FinMap.{remove}
-use Rattle.process_session.specs.Bench.{attributes_at}
+use Rattle.process_session.specs.Bench.{bench_attributes}
 use Rattle.process_session.specs.Changes.{with_removed}
 use Rattle.processor_api.proofs.Answered.{changed_so, never_refused}
 use Rattle.proc_merge.proofs.Described.{remove_attribute-free, removed-joined, removed-more}
@@ -30,7 +30,7 @@ pub returns : goal.returns
 returns c =
     let bench = c.args.session.now in
     let file = c.args.file in
-    let attributes = attributes_at bench file in
+    let attributes = bench_attributes bench file in
     let first : c.remove_attribute.new.self ≡ with_removed bench file (codes "fragment.identifier") = changed_so _ _ _ _ _ c.remove_attribute.ensures.after c.unwrap.ensures in
     let second : c.remove_attribute-2.new.self ≡ with_removed c.remove_attribute.new.self file (codes "fragment.index") = changed_so _ _ _ _ _ c.remove_attribute-2.ensures.after c.unwrap-2.ensures in
     let third : c.remove_attribute-3.new.self ≡ with_removed c.remove_attribute-2.new.self file (codes "fragment.count") = changed_so _ _ _ _ _ c.remove_attribute-3.ensures.after c.unwrap-3.ensures in

@@ -4,7 +4,7 @@ use Rattle.flowfile_record.specs.declared.attributes.TheConstants.{ATTRIBUTES_MA
 use Rattle.machine_model.specs.MergeContent.{shared_by_all}
 use Rattle.process_session.specs.Bench.{made_size}
 use Rattle.processor_api.proofs.Answered.{changed_so, never_refused}
-use Rattle.proc_merge.specs.Joining.{IsDescribed, described, file_joined, joined_file, with_child}
+use Rattle.proc_merge.specs.Joining.{IsDescribed, described, file_joined, joined_file, with_joined_child}
 use Rattle.proc_merge.specs.Taken.{bytes_read, files_seen}
 use Rattle.proc_merge.proofs.Child.{child-attributes, child-joined, child-remove, child-removed, child-transfer, child-written, described-fits, done-child, has-joined, large-none, nothing-made, refused-child, short-read, unread-none, wanted-is, write-free}
 use Rattle.proc_merge.proofs.joining.join.Goals as goal
@@ -39,7 +39,7 @@ unwrap-requires c =
     let now = c.describe.new.session in
     let file = c.in_ok-file.file in
     let shared = c.in_ok-shared.shared in
-    let is : made ≡ with_child bench shared = c.in_ok-file.ensures.after ∙ ap (with_child bench) (sym c.in_ok-shared.ensures.shared) in
+    let is : made ≡ with_joined_child bench shared = c.in_ok-file.ensures.after ∙ ap (with_joined_child bench) (sym c.in_ok-shared.ensures.shared) in
     let wanted = described c.args.strategy (length made.sources) shared in
     let isnt : IsDescribed made now file wanted false = subst (IsDescribed made now file wanted) c.if-not-branch.true c.in_ok-describe.ensures in
     let child = refused-child bench made now file shared wanted c.in_ok-file.ensures.place is isnt in
@@ -53,7 +53,7 @@ returns-then-not-branch c =
     let file = c.in_ok-file.file in
     let shared = c.in_ok-shared.shared in
     let fits : made_size shared ≤ ATTRIBUTES_MAX = omega (arith, c.if-made_size-gt-ATTRIBUTES_MAX.false, c.made_size.ensures) in
-    let is : made ≡ with_child bench shared = c.in_ok-file.ensures.after ∙ ap (with_child bench) (sym c.in_ok-shared.ensures.shared) in
+    let is : made ≡ with_joined_child bench shared = c.in_ok-file.ensures.after ∙ ap (with_joined_child bench) (sym c.in_ok-shared.ensures.shared) in
     let wanted = described c.args.strategy (length made.sources) shared in
     let isnt : IsDescribed made now file wanted false = subst (IsDescribed made now file wanted) c.if-not-branch.true c.in_ok-describe.ensures in
     let child = refused-child bench made now file shared wanted c.in_ok-file.ensures.place is isnt in
@@ -68,7 +68,7 @@ unwrap-requires-2 c =
     let now = c.describe.new.session in
     let file = c.in_ok-file.file in
     let shared = c.in_ok-shared.shared in
-    let is : made ≡ with_child bench shared = c.in_ok-file.ensures.after ∙ ap (with_child bench) (sym c.in_ok-shared.ensures.shared) in
+    let is : made ≡ with_joined_child bench shared = c.in_ok-file.ensures.after ∙ ap (with_joined_child bench) (sym c.in_ok-shared.ensures.shared) in
     let wanted = described c.args.strategy (length made.sources) shared in
     let done : IsDescribed made now file wanted true = subst (IsDescribed made now file wanted) c.if-not-branch.false c.in_ok-describe.ensures in
     let child = done-child bench made now file shared wanted c.in_ok-file.ensures.place is done in
@@ -84,7 +84,7 @@ unwrap-requires-3 c =
     let now = c.describe.new.session in
     let file = c.in_ok-file.file in
     let shared = c.in_ok-shared.shared in
-    let is : made ≡ with_child bench shared = c.in_ok-file.ensures.after ∙ ap (with_child bench) (sym c.in_ok-shared.ensures.shared) in
+    let is : made ≡ with_joined_child bench shared = c.in_ok-file.ensures.after ∙ ap (with_joined_child bench) (sym c.in_ok-shared.ensures.shared) in
     let wanted = described c.args.strategy (length made.sources) shared in
     let done : IsDescribed made now file wanted true = subst (IsDescribed made now file wanted) c.if-not-branch.false c.in_ok-describe.ensures in
     let child = done-child bench made now file shared wanted c.in_ok-file.ensures.place is done in
@@ -100,7 +100,7 @@ returns c =
     let shared = c.in_ok-shared.shared in
     let content = c.in-Some.content.items in
     let fits : made_size shared ≤ ATTRIBUTES_MAX = omega (arith, c.if-made_size-gt-ATTRIBUTES_MAX.false, c.made_size.ensures) in
-    let is : made ≡ with_child bench shared = c.in_ok-file.ensures.after ∙ ap (with_child bench) (sym c.in_ok-shared.ensures.shared) in
+    let is : made ≡ with_joined_child bench shared = c.in_ok-file.ensures.after ∙ ap (with_joined_child bench) (sym c.in_ok-shared.ensures.shared) in
     let wanted = described c.args.strategy (length made.sources) shared in
     let done : IsDescribed made now file wanted true = subst (IsDescribed made now file wanted) c.if-not-branch.false c.in_ok-describe.ensures in
     let child = done-child bench made now file shared wanted c.in_ok-file.ensures.place is done in

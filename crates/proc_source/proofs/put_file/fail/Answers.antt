@@ -1,6 +1,6 @@
 use Rattle.std.proofs.Common.{◌≡◌, true, ◌∙◌, sym, ap, subst, arith}
 use Rattle.flowfile_record.specs.declared.worked.End.TheVariants.{To}
-use Rattle.process_session.specs.Bench.{Bench, attributes_at}
+use Rattle.process_session.specs.Bench.{Bench, bench_attributes}
 use Rattle.process_session.specs.Changes.{with_end, with_penalty}
 use Rattle.process_session.specs.Refusals.{refusal_of_transfer}
 use Rattle.processor_api.proofs.Answered.{changed_so, never_refused}
@@ -22,5 +22,5 @@ returns c =
     let penalised : c.penalize.new.self ≡ with_penalty c.args.session.now 0 = changed_so _ _ _ _ _ c.penalize.ensures.after c.unwrap.ensures in
     let after : c.transfer.new.self ≡ with_end (with_penalty c.args.session.now 0) 0 (To 1) =
     changed_so _ _ _ _ _ c.transfer.ensures.after c.unwrap-2.ensures ∙ ap (λ b. with_end b 0 (To 1)) penalised in
-    let P : Bench → Type 0 = λ after. EndsWith c.args.session.now after (passed_and_put c.args.session.now.sent (attributes_at c.args.session.now 0) true 1) in
+    let P : Bench → Type 0 = λ after. EndsWith c.args.session.now after (passed_and_put c.args.session.now.sent (bench_attributes c.args.session.now 0) true 1) in
     subst P (sym after) (penalised-ended c.args.session.now 1 c.requires)

@@ -1,5 +1,5 @@
 use Rattle.std.proofs.Common.{◌≡◌, ◌+◌, List, ◌∷◌, Some, drop, map, sym, ◌∙◌, ap, ap₂}
-use Rattle.process_session.specs.Bench.{attributes_at}
+use Rattle.process_session.specs.Bench.{bench_attributes}
 use Rattle.process_session.specs.Changes.{with_put}
 use Rattle.processor_api.proofs.Answered.{changed_so, only_memory}
 use Rattle.proc_text.specs.Extracting.{pair_of}
@@ -16,7 +16,7 @@ or_no_memory-requires c =
     let pair : Pair = (c.as_str.result.now, c.as_str-in-loop-extract.result.now) in
     let same : pair_of c.extract-item.result ≡ pair = ap₂ (λ name value. (name, value)) (sym c.as_str.ensures.value) (sym c.as_str-in-loop-extract.ensures.value) in
     let left = next-pair pair_of extracts i c.extract-item.result c.loop-extract-test.true c.extract-item.is ∙ ap (λ p. p ∷ rest) same in
-    let first = sets-first (attributes_at before 0) (attributes_at now 0) (map pair_of extracts) (map pair_of (drop i extracts)) rest pair c.loop-extract.invariant.same left c.requires.may in
+    let first = sets-first (bench_attributes before 0) (bench_attributes now 0) (map pair_of extracts) (map pair_of (drop i extracts)) rest pair c.loop-extract.invariant.same left c.requires.may in
     only_memory _ _ c.put_attribute.ensures.refusal (put-one now c.loop-extract.invariant.began pair first.0 first.1).free
 
 pub loop-extract-preserved : goal.loop-extract-preserved
@@ -30,13 +30,13 @@ loop-extract-preserved c =
     let pair : Pair = (c.as_str.result.now, c.as_str-in-loop-extract.result.now) in
     let same : pair_of c.extract-item.result ≡ pair = ap₂ (λ name value. (name, value)) (sym c.as_str.ensures.value) (sym c.as_str-in-loop-extract.ensures.value) in
     let left = next-pair pair_of extracts i c.extract-item.result c.loop-extract-test.true c.extract-item.is ∙ ap (λ p. p ∷ rest) same in
-    let first = sets-first (attributes_at before 0) (attributes_at now 0) (map pair_of extracts) (map pair_of (drop i extracts)) rest pair c.loop-extract.invariant.same left c.requires.may in
+    let first = sets-first (bench_attributes before 0) (bench_attributes now 0) (map pair_of extracts) (map pair_of (drop i extracts)) rest pair c.loop-extract.invariant.same left c.requires.may in
     let put = put-one now c.loop-extract.invariant.began pair first.0 first.1 in
     let new-is : new ≡ with_put now 0 pair.0 pair.1 = changed_so _ _ _ _ _ c.put_attribute.ensures.after c.in_ok-or_no_memory.ensures.value in
     let made = put-made before now new c.loop-extract.invariant.began pair first.0 c.loop-extract.invariant.kept put new-is in
     record {
       began = made.began;
       kept = made.kept;
-      same = sets-more (attributes_at before 0) (attributes_at now 0) (attributes_at new 0) (map pair_of extracts) (map pair_of (drop i extracts)) rest pair
+      same = sets-more (bench_attributes before 0) (bench_attributes now 0) (bench_attributes new 0) (map pair_of extracts) (map pair_of (drop i extracts)) rest pair
           c.loop-extract.invariant.same left (first.1 ∙ ap Some (sym made.attributes));
     }

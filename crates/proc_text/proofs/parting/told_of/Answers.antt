@@ -1,6 +1,6 @@
 use Rattle.std.proofs.Common.{rules, ◌≡◌, List, [], ◌∷◌, ◌++◌, ◌∙◌}
 use Rattle.std.specs.Prelude.{codes, decimal, string_bytes}
-use Rattle.proc_text.specs.Parting.{told_by}
+use Rattle.proc_text.specs.Parting.{pair_told}
 use Rattle.proc_text.specs.Pieces.{lines_told}
 use Rattle.proc_text.proofs.Telling.{Pair, told-four, told-more}
 use Rattle.proc_text.proofs.parting.told_of.Goals as goal
@@ -12,10 +12,10 @@ returns c =
     let b : Pair = (codes "fragment.index", decimal c.args.index) in
     let d : Pair = (codes "fragment.count", string_bytes c.args.whole.now.count) in
     let e : Pair = (codes "segment.original.filename", string_bytes c.args.whole.now.filename) in
-    let one : told_by c.told_as.result ≡ a = search rules in
-    let two : told_by c.told_as-2.result ≡ b = search rules in
-    let three : told_by c.told_as-3.result ≡ d = search rules in
-    let four : told_by c.told_as-4.result ≡ e = search rules in
+    let one : pair_told c.told_as.result ≡ a = search rules in
+    let two : pair_told c.told_as-2.result ≡ b = search rules in
+    let three : pair_told c.told_as-3.result ≡ d = search rules in
+    let four : pair_told c.told_as-4.result ≡ e = search rules in
     told-more _ _ c.told_as-4.result (((lines ++ a ∷ []) ++ b ∷ []) ++ d ∷ []) e
     (told-more _ _ c.told_as-3.result ((lines ++ a ∷ []) ++ b ∷ []) d
     (told-more _ _ c.told_as-2.result (lines ++ a ∷ []) b

@@ -1,7 +1,7 @@
 use Rattle.std.proofs.Common.{◌≤◌, ap, arith}
 use Rattle.flowfile_record.specs.Attributes.{encoded_size}
 use Rattle.flowfile_record.specs.declared.attributes.TheConstants.{ATTRIBUTES_MAX}
-use Rattle.process_session.specs.Bench.{attributes_at}
+use Rattle.process_session.specs.Bench.{bench_attributes}
 use Rattle.processor_api.proofs.Answered.{changed_so, never_refused}
 use Rattle.proc_text.proofs.Passed.{replace-free, replaced-ends, replaced-transfer}
 use Rattle.proc_text.proofs.passing.replace.Goals as goal
@@ -9,7 +9,7 @@ use Rattle.proc_text.proofs.passing.replace.Goals as goal
 pub unwrap-requires : goal.unwrap-requires
 unwrap-requires c =
     let same = ap encoded_size c.attributes_of.ensures in
-    let small : encoded_size (attributes_at c.args.session.now 0) ≤ ATTRIBUTES_MAX = omega (arith, same, c.size-size.ensures.limits.size) in
+    let small : encoded_size (bench_attributes c.args.session.now 0) ≤ ATTRIBUTES_MAX = omega (arith, same, c.size-size.ensures.limits.size) in
     never_refused _ _ c.write.ensures.refusal (replace-free c.args.session.now c.requires.one c.args.bytes.items small c.requires.fits)
 
 pub unwrap-requires-2 : goal.unwrap-requires-2

@@ -1,7 +1,7 @@
 //! The files that an outcome keeps.
 ghost use Rattle.std.specs.Prelude.{◌≡◌, ◌≤◌, ◌<◌, ◌+◌, ◌++◌, ◌∷◌, [], ℕ, List, length, vec_len, vec_capacity};
 ghost use Rattle.process_session.specs.Finish.{kept_files, worked_with};
-ghost use Rattle.process_session.specs.Finishing.{kept_origins, Keeps};
+ghost use Rattle.process_session.specs.Finishing.{kept_origins, KeepsFile};
 ghost use Rattle.process_session.specs.declared.file.File.{File as Held};
 
 use super::is_left_out;
@@ -34,7 +34,7 @@ fn keep(kept: &mut Vec<Worked>, origins: &mut VecDeque<Origin>, file: File)
     requires room { vec_len kept.old + length origins.old.items ≤ vec_capacity kept.old }
     ensures room { vec_len kept.new + length origins.new.items ≤ vec_capacity kept.new }
     ensures kept { (stand : List (List ℕ)) (more : List Held) → origins.old.items ≡ kept_origins stand (file ∷ more)
-        → Keeps file kept.old.items kept.new.items origins.old.items origins.new.items stand more }
+        → KeepsFile file kept.old.items kept.new.items origins.old.items origins.new.items stand more }
 {
     if is_left_out(&file) {
         return;

@@ -2,10 +2,10 @@ use Rattle.std.proofs.Common.{◌≡◌, ◌<◌, ◌∷◌, sym, ◌∙◌, ap,
 use Rattle.std.specs.List.{All}
 use Rattle.std.proofs.lemmas.List.Elements.{All-tail}
 use Rattle.flowfile_record.specs.declared.worked.End.TheVariants.{To}
-use Rattle.process_session.specs.Bench.{attributes_at}
+use Rattle.process_session.specs.Bench.{bench_attributes}
 use Rattle.process_session.specs.Changes.{with_end, with_route}
 use Rattle.processor_api.proofs.Answered.{changed_so, never_refused}
-use Rattle.processor_api.specs.Sessions.{HasTaken}
+use Rattle.processor_api.specs.Sessions.{HasFirstTaken}
 use Rattle.processor_api.proofs.Clones.{cloned-has, first-transfer, took-has}
 use Rattle.processor_api.proofs.Routed.{no_places, none-routed, routed_clones, some-routed, up-routed}
 use Rattle.processor_api.proofs.cloning.route.Goals as goal
@@ -26,7 +26,7 @@ add_routed_clones-requires-clause-there c =
 
 pub route_taken-requires-then-may_be_routed-clause-taken : goal.route_taken-requires-then-may_be_routed-clause-taken
 route_taken-requires-then-may_be_routed-clause-taken c =
-    subst HasTaken (sym c.in_ok-add_routed_clones.ensures) (cloned-has c.args.session.now (routed_clones (attributes_at c.args.session.now 0) c.in-Some.others.now) c.requires.one)
+    subst HasFirstTaken (sym c.in_ok-add_routed_clones.ensures) (cloned-has c.args.session.now (routed_clones (bench_attributes c.args.session.now 0) c.in-Some.others.now) c.requires.one)
 
 pub unwrap-requires : goal.unwrap-requires
 unwrap-requires c = never_refused _ _ c.transfer.ensures.refusal (first-transfer c.args.session.now c.args.unmatched (took-has c.args.session.now c.requires.one) c.requires.unmatched)

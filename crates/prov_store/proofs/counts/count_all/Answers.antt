@@ -2,7 +2,7 @@ use Rattle.std.proofs.Common.{◌+◌, ◌-◌, ◌<◌, ◌≤◌, length, slic
 use Rattle.std.specs.Prelude.{All}
 use Rattle.std.proofs.lemmas.List.{take_all, length-set}
 use Rattle.flowfile_record.specs.Events.{code_of}
-use Rattle.prov_store.specs.State.{of_code}
+use Rattle.prov_store.specs.State.{count_of_code}
 use Rattle.prov_store.proofs.Counting.{code_within, counted_more, most_more}
 use Rattle.prov_store.proofs.counts.count_all.Goals as goal
 
@@ -40,7 +40,7 @@ loop-event-preserved c =
 pub returns-clause-counted : goal.returns-clause-counted
 returns-clause-counted c code first last =
     let all = take_all c.loop-event.event-index c.args.events.now c.loop-event-test.false in
-    c.loop-event.invariant.counted code first last ∙ ap (λ l. slice_index c.args.counts.now.counts (code - 1) + of_code code l) all
+    c.loop-event.invariant.counted code first last ∙ ap (λ l. slice_index c.args.counts.now.counts (code - 1) + count_of_code code l) all
 
 pub returns-clause-most : goal.returns-clause-most
 returns-clause-most c most all k d lt = omega (arith, c.loop-event.invariant.most most all k d lt, c.loop-event.auto.event-index-end)

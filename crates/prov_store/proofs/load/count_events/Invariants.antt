@@ -2,14 +2,14 @@ use Rattle.std.proofs.Common.{◌≡◌, ℕ, ◌+◌, ◌≤◌, List, length}
 use Rattle.std.specs.Prelude.{All}
 use Rattle.disk_trait.specs.Images.{Stays}
 use Rattle.flowfile_record.specs.declared.event.Event.{Event}
-use Rattle.prov_store.specs.Loading.{AreRead}
+use Rattle.prov_store.specs.Loading.{AreReadEvents}
 use Rattle.prov_store.specs.State.{AreCounted}
 use Rattle.prov_store.proofs.load.count_events.Given as goal
 
 abbrev pub invariant-loop : goal.invariant-loop
 invariant-loop g l = record {
   events : List Event;
-  read : AreRead g.D.Disk.tells (g.D.Disk.held l.fn.disk) l.fn.start l.counter events l.cursor.at;
+  read : AreReadEvents g.D.Disk.tells (g.D.Disk.held l.fn.disk) l.fn.start l.counter events l.cursor.at;
   cursor : l.cursor ≡ record l.fn.start { at = l.cursor.at; number = l.fn.start.number + l.counter };
   counted : AreCounted events l.fn.counts.counts l.counts.counts;
   most : (most : ℕ) → All (λ n. n ≤ most) l.fn.counts.counts → All (λ n. n ≤ most + l.counter) l.counts.counts;

@@ -6,7 +6,7 @@ use Rattle.std.proofs.lemmas.Result.{err_from_is_err_and}
 use Rattle.disk_trait.specs.Files.{Files}
 use Rattle.flowfile_record.specs.declared.event.Event.{Event}
 use Rattle.prov_store.specs.Events.{events_from}
-use Rattle.prov_store.specs.Loading.{AreRead, bytes_there}
+use Rattle.prov_store.specs.Loading.{AreReadEvents, bytes_there}
 use Rattle.prov_store.specs.Reading.{event_there}
 use Rattle.prov_store.specs.declared.error.EventsError.TheVariants.{Damaged}
 use Rattle.prov_store.specs.declared.read.Cursor.{Cursor}
@@ -31,7 +31,7 @@ loop-preserved g c =
     let at = ap (λ (n : Cursor). n.at) next in
     record {
       events = inv.events ++ e ∷ [];
-      read = subst (AreRead g.D.Disk.tells (g.D.Disk.held c.args.disk.now) c.args.start (c.loop.counter + 1) (inv.events ++ e ∷ [])) (sym at)
+      read = subst (AreReadEvents g.D.Disk.tells (g.D.Disk.held c.args.disk.now) c.args.start (c.loop.counter + 1) (inv.events ++ e ∷ [])) (sym at)
           (read_more g.D.Disk.tells (g.D.Disk.held c.args.disk.now) c.args.start c.loop.counter inv.events c.loop.cursor e c.in_ok-event.size inv.read inv.cursor c.in_ok-event.ensures.within c.in_ok-event.ensures.number
           (λ told. subst (λ (f : Files). event_there f c.loop.cursor ≡ Ok (e, c.in_ok-event.size)) inv.stays.files (c.in_ok-event.ensures.found told)));
       cursor = cursor_on c.args.start c.loop.cursor c.behind-cursor.result c.loop.counter c.in_ok-event.size inv.cursor next;

@@ -3,7 +3,7 @@ use Rattle.std.proofs.lemmas.Result.{err_from_is_err_and}
 use Rattle.std.specs.Prelude.{Err, IfErr, Result}
 use Rattle.store_core.specs.Store.{StoreState as Store}
 use Rattle.store_core.specs.declared.error.StoreError.TheVariants as StoreError
-use Rattle.run_top.specs.Status.{error_of}
+use Rattle.run_top.specs.Status.{answer_of_opening}
 use Rattle.run_top.specs.Opening.{IsOfStore}
 use Rattle.run_top.specs.declared.answer.Answer.{Answer}
 use Rattle.run_top.proofs.Answers.{of_store}
@@ -19,14 +19,14 @@ pub returns-in_err-store-clause-kinds : goal.returns-in_err-store-clause-kinds
 returns-in_err-store-clause-kinds g c =
     let error = c.in_err-store.field-0.0 in
     let p = err_from_is_err_and c.from_residual-in_err-store.result c.from_residual-in_err-store.ensures.1 in
-    let fails : c.from_residual-in_err-store.result ≡ Err (error_of error) = cc (p.1, p.2) in
+    let fails : c.from_residual-in_err-store.result ≡ Err (answer_of_opening error) = cc (p.1, p.2) in
     subst (λ (r : Result Store Answer). IfErr r IsOfStore) (sym fails) (of_store error)
 
 pub returns-in_err-store-clause-shut : goal.returns-in_err-store-clause-shut
 returns-in_err-store-clause-shut g c =
     let error = c.in_err-store.field-0.0 in
     let p = err_from_is_err_and c.from_residual-in_err-store.result c.from_residual-in_err-store.ensures.1 in
-    let fails : c.from_residual-in_err-store.result ≡ Err (error_of error) = cc (p.1, p.2) in
+    let fails : c.from_residual-in_err-store.result ≡ Err (answer_of_opening error) = cc (p.1, p.2) in
     shut_stays g.D.Disk.tells g.D.Disk.held g.D.Disk.moment _ _ (identity_is c.args.flow.now _ _ _ refl c.in_ok-ids.ensures c.len.ensures) c.args.lot c.args.disk.now c.load.new.disk
     g.D.Disk.images c.load.result c.from_residual-in_err-store.result error c.in_err-store.was fails c.load.ensures.shut
 

@@ -2,7 +2,7 @@ use Rattle.std.proofs.Common.{◌≡◌, ap, ◌∙◌}
 use Rattle.std.specs.Prelude.{Some, Result, Ok, Err, OnOk}
 use Rattle.disk_trait.specs.Images.{After}
 use Rattle.disk_trait.proofs.Moments.{at_the_end}
-use Rattle.flowfile_wal.specs.Steps.{LogState, Keeps, SameLog}
+use Rattle.flowfile_wal.specs.Steps.{LogState, KeepsLog, SameLog}
 use Rattle.store_core.specs.Discard.{Discards}
 use Rattle.store_core.proofs.Reviving.{mended_agrees, discarded_agrees, ready_number, discarded_ready, since_agrees, since_agreeing, same_events_logged, same_events_discarded, since_events, since_events_in_turn}
 use Rattle.store_core.proofs.Touching.{revives_discarded, revives_log, since_revived, since_revives}
@@ -14,7 +14,7 @@ ready_if (Err e) p = tt
 
 pub returns-in_err-mend-clause-images : goal.returns-in_err-mend-clause-images
 returns-in_err-mend-clause-images g c needs plain =
-    since_agrees g.D.Disk.moment g.D.Disk.images needs c.args.disk.now c.mend.new.disk (Keeps c.args.number) (c.mend.ensures.images c.args.number c.requires.number)
+    since_agrees g.D.Disk.moment g.D.Disk.images needs c.args.disk.now c.mend.new.disk (KeepsLog c.args.number) (c.mend.ensures.images c.args.number c.requires.number)
     (λ d e left step. mended_agrees needs c.args.number d e plain step)
 
 pub returns-clause-images : goal.returns-clause-images
@@ -22,7 +22,7 @@ returns-clause-images g c needs plain =
     let number = c.args.number in
     let same : c.mend.new.self.number ≡ Some number = ap (λ (s : LogState). s.number) c.in_ok-mend.ensures.mended ∙ c.requires.number in
     since_agreeing g.D.Disk.moment g.D.Disk.images needs c.args.disk.now c.mend.new.disk c.discard.new.disk
-    (since_agrees g.D.Disk.moment g.D.Disk.images needs c.args.disk.now c.mend.new.disk (Keeps number) (c.mend.ensures.images number c.requires.number)
+    (since_agrees g.D.Disk.moment g.D.Disk.images needs c.args.disk.now c.mend.new.disk (KeepsLog number) (c.mend.ensures.images number c.requires.number)
     (λ d e left step. mended_agrees needs number d e plain step))
     (since_agrees g.D.Disk.moment g.D.Disk.images needs c.mend.new.disk c.discard.new.disk (Discards (Some number)) c.discard.ensures.images
     (λ d e left step. discarded_agrees needs number d e plain (ready_number c.mend.new.self number d same (c.in_ok-mend.ensures.ready.ready d left)) step))
@@ -38,14 +38,14 @@ returns-clause-ready g c = ready_if c.discard.result
 
 pub returns-in_err-mend-clause-events : goal.returns-in_err-mend-clause-events
 returns-in_err-mend-clause-events g c =
-    since_events g.D.Disk.moment g.D.Disk.images c.args.disk.now c.mend.new.disk (Keeps c.args.number) (c.mend.ensures.images c.args.number c.requires.number)
+    since_events g.D.Disk.moment g.D.Disk.images c.args.disk.now c.mend.new.disk (KeepsLog c.args.number) (c.mend.ensures.images c.args.number c.requires.number)
     (λ d e. same_events_logged c.args.number (SameLog c.args.number) d e)
 
 pub returns-clause-events : goal.returns-clause-events
 returns-clause-events g c =
     let number = c.args.number in
     since_events_in_turn g.D.Disk.moment g.D.Disk.images c.args.disk.now c.mend.new.disk c.discard.new.disk
-    (since_events g.D.Disk.moment g.D.Disk.images c.args.disk.now c.mend.new.disk (Keeps number) (c.mend.ensures.images number c.requires.number)
+    (since_events g.D.Disk.moment g.D.Disk.images c.args.disk.now c.mend.new.disk (KeepsLog number) (c.mend.ensures.images number c.requires.number)
     (λ d e. same_events_logged number (SameLog number) d e))
     (since_events g.D.Disk.moment g.D.Disk.images c.mend.new.disk c.discard.new.disk (Discards (Some number)) c.discard.ensures.images
     (λ d e. same_events_discarded (Some number) d e))
@@ -53,11 +53,11 @@ returns-clause-events g c =
 pub returns-in_err-mend-clause-alone : goal.returns-in_err-mend-clause-alone
 returns-in_err-mend-clause-alone g c =
     let number = c.args.number in
-    since_revives g.D.Disk.moment g.D.Disk.images (Some number) c.args.disk.now c.mend.new.disk (Keeps number) (c.mend.ensures.images number c.requires.number) (revives_log number (SameLog number))
+    since_revives g.D.Disk.moment g.D.Disk.images (Some number) c.args.disk.now c.mend.new.disk (KeepsLog number) (c.mend.ensures.images number c.requires.number) (revives_log number (SameLog number))
 
 pub returns-clause-alone : goal.returns-clause-alone
 returns-clause-alone g c =
     let number = c.args.number in
     since_revived g.D.Disk.moment g.D.Disk.images (Some number) c.args.disk.now c.mend.new.disk c.discard.new.disk
-    (since_revives g.D.Disk.moment g.D.Disk.images (Some number) c.args.disk.now c.mend.new.disk (Keeps number) (c.mend.ensures.images number c.requires.number) (revives_log number (SameLog number)))
+    (since_revives g.D.Disk.moment g.D.Disk.images (Some number) c.args.disk.now c.mend.new.disk (KeepsLog number) (c.mend.ensures.images number c.requires.number) (revives_log number (SameLog number)))
     (since_revives g.D.Disk.moment g.D.Disk.images (Some number) c.mend.new.disk c.discard.new.disk (Discards (Some number)) c.discard.ensures.images (revives_discarded (Some number)))

@@ -7,8 +7,8 @@ use Rattle.content_repo.specs.Claims.{IsCovered, ShortenedTo}
 use Rattle.content_repo.specs.Slots.{covered}
 use Rattle.flowfile_wal.specs.Calls.{InEach}
 use Rattle.store_core.specs.Agreement.{IsUnmade}
-use Rattle.store_core.specs.Opened.{IsMade}
-use Rattle.store_core.specs.Store.{state_in}
+use Rattle.store_core.specs.Opened.{IsNewStore}
+use Rattle.store_core.specs.Store.{store_in}
 use Rattle.prov_store.specs.State.{EventsState, CutsStale}
 use Rattle.store_core.proofs.RevivedFiles.{unmade_found, means_mid, means_new, means_end, events_known, end_holds, end_log, sizes_trimmed, since_still, still_covered, working, few_live}
 use Rattle.store_core.specs.Touched.{log_opened}
@@ -26,7 +26,7 @@ returns-in_err-make_whole-clause-images g c =
     let laws = g.met.D.Disk g.world.𝓛 g.world.𝓜 g.world.𝓡 ((λ s x. x), (λ x. x), (λ x. x), λ x. x) in
     let d0 = c.args.disk.now in
     let d1 = c.make_whole.new.disk in
-    let made = subst (λ (k : Kept). c.args.found.log.number ≡ None → Since moment images d0 d1 (λ e. IsUnmade e ⊎ IsMade k e)) c.stored.ensures.kept c.make_whole.ensures.images in
+    let made = subst (λ (k : Kept). c.args.found.log.number ≡ None → Since moment images d0 d1 (λ e. IsUnmade e ⊎ IsNewStore k e)) c.stored.ensures.kept c.make_whole.ensures.images in
     means_mid g.D.Disk.tells g.D.Disk.held moment images (λ disk k e left. laws.left_is_told disk k e left) c.args.lot c.args.found c.args.events d0 d1
     c.requires.synced c.requires.found c.make_whole.ensures.mended made c.make_whole.ensures.events
 
@@ -38,7 +38,7 @@ hold_opened-requires-clause-within g c κs within told =
     let d0 = c.args.disk.now in
     let d1 = c.make_whole.new.disk in
     let k = c.args.found.state.kept in
-    let made = subst (λ (x : Kept). c.args.found.log.number ≡ None → Since moment images d0 d1 (λ e. IsUnmade e ⊎ IsMade x e)) c.stored.ensures.kept c.make_whole.ensures.images in
+    let made = subst (λ (x : Kept). c.args.found.log.number ≡ None → Since moment images d0 d1 (λ e. IsUnmade e ⊎ IsNewStore x e)) c.stored.ensures.kept c.make_whole.ensures.images in
     let since = since_still g.D.Disk.tells g.D.Disk.held moment images (λ disk j e left. laws.left_is_told disk j e left) c.args.lot c.args.found c.args.events d0 d1
     c.requires.synced c.requires.found c.make_whole.ensures.mended made c.make_whole.ensures.events in
     let still = since.each (moment d1) (g.D.Disk.held d1) since.later (omega arith) (laws.held_is_left d1 told) in
@@ -53,11 +53,11 @@ returns-in_err-contents-clause-images g c =
     let d0 = c.args.disk.now in
     let d1 = c.make_whole.new.disk in
     let d2 = c.hold_opened.new.disk in
-    let made = subst (λ (x : Kept). c.args.found.log.number ≡ None → Since moment images d0 d1 (λ e. IsUnmade e ⊎ IsMade x e)) c.stored.ensures.kept c.make_whole.ensures.images in
-    let is_made = subst (λ (x : Kept). c.args.found.log.number ≡ None → InEach (images d1 (moment d1)) (IsMade x)) c.stored.ensures.kept c.in_ok-make_whole.ensures.made in
+    let made = subst (λ (x : Kept). c.args.found.log.number ≡ None → Since moment images d0 d1 (λ e. IsUnmade e ⊎ IsNewStore x e)) c.stored.ensures.kept c.make_whole.ensures.images in
+    let is_made = subst (λ (x : Kept). c.args.found.log.number ≡ None → InEach (images d1 (moment d1)) (IsNewStore x)) c.stored.ensures.kept c.in_ok-make_whole.ensures.made in
     let live = c.as_slice.ensures.value ∙ c.requires.opened in
     means_new g.D.Disk.tells g.D.Disk.held moment images (λ disk j e left. laws.left_is_told disk j e left) c.args.lot c.args.found c.args.events d0 d1
-    c.requires.synced c.requires.found c.make_whole.ensures.mended made c.make_whole.ensures.events (state_in c.args.found.state c.make_whole.new.log c.args.found.entries [] c.args.opened.items c.args.events c.args.lot false) refl c.in_ok-make_whole.ensures.ready is_made d2 c.as_slice.result.now live c.hold_opened.ensures.images
+    c.requires.synced c.requires.found c.make_whole.ensures.mended made c.make_whole.ensures.events (store_in c.args.found.state c.make_whole.new.log c.args.found.entries [] c.args.opened.items c.args.events c.args.lot false) refl c.in_ok-make_whole.ensures.ready is_made d2 c.as_slice.result.now live c.hold_opened.ensures.images
 
 pub trim-requires-clause-events : goal.trim-requires-clause-events
 trim-requires-clause-events g c κs within told =
@@ -67,11 +67,11 @@ trim-requires-clause-events g c κs within told =
     let d0 = c.args.disk.now in
     let d1 = c.make_whole.new.disk in
     let d2 = c.hold_opened.new.disk in
-    let made = subst (λ (x : Kept). c.args.found.log.number ≡ None → Since moment images d0 d1 (λ e. IsUnmade e ⊎ IsMade x e)) c.stored.ensures.kept c.make_whole.ensures.images in
-    let is_made = subst (λ (x : Kept). c.args.found.log.number ≡ None → InEach (images d1 (moment d1)) (IsMade x)) c.stored.ensures.kept c.in_ok-make_whole.ensures.made in
+    let made = subst (λ (x : Kept). c.args.found.log.number ≡ None → Since moment images d0 d1 (λ e. IsUnmade e ⊎ IsNewStore x e)) c.stored.ensures.kept c.make_whole.ensures.images in
+    let is_made = subst (λ (x : Kept). c.args.found.log.number ≡ None → InEach (images d1 (moment d1)) (IsNewStore x)) c.stored.ensures.kept c.in_ok-make_whole.ensures.made in
     let live = c.as_slice.ensures.value ∙ c.requires.opened in
     (events_known g.D.Disk.tells g.D.Disk.held moment images (λ disk j e left. laws.left_is_told disk j e left) c.args.lot c.args.found c.args.events d0 d1
-    c.requires.synced c.requires.found c.make_whole.ensures.mended made c.make_whole.ensures.events (state_in c.args.found.state c.make_whole.new.log c.args.found.entries [] c.args.opened.items c.args.events c.args.lot false) refl c.in_ok-make_whole.ensures.ready is_made d2 c.as_slice.result.now live c.hold_opened.ensures.images (g.D.Disk.held d2) (laws.held_is_left d2 told) told).0
+    c.requires.synced c.requires.found c.make_whole.ensures.mended made c.make_whole.ensures.events (store_in c.args.found.state c.make_whole.new.log c.args.found.entries [] c.args.opened.items c.args.events c.args.lot false) refl c.in_ok-make_whole.ensures.ready is_made d2 c.as_slice.result.now live c.hold_opened.ensures.images (g.D.Disk.held d2) (laws.held_is_left d2 told) told).0
 
 pub trim-requires-clause-stale : goal.trim-requires-clause-stale
 trim-requires-clause-stale g c κs within told =
@@ -81,11 +81,11 @@ trim-requires-clause-stale g c κs within told =
     let d0 = c.args.disk.now in
     let d1 = c.make_whole.new.disk in
     let d2 = c.hold_opened.new.disk in
-    let made = subst (λ (x : Kept). c.args.found.log.number ≡ None → Since moment images d0 d1 (λ e. IsUnmade e ⊎ IsMade x e)) c.stored.ensures.kept c.make_whole.ensures.images in
-    let is_made = subst (λ (x : Kept). c.args.found.log.number ≡ None → InEach (images d1 (moment d1)) (IsMade x)) c.stored.ensures.kept c.in_ok-make_whole.ensures.made in
+    let made = subst (λ (x : Kept). c.args.found.log.number ≡ None → Since moment images d0 d1 (λ e. IsUnmade e ⊎ IsNewStore x e)) c.stored.ensures.kept c.make_whole.ensures.images in
+    let is_made = subst (λ (x : Kept). c.args.found.log.number ≡ None → InEach (images d1 (moment d1)) (IsNewStore x)) c.stored.ensures.kept c.in_ok-make_whole.ensures.made in
     let live = c.as_slice.ensures.value ∙ c.requires.opened in
     (events_known g.D.Disk.tells g.D.Disk.held moment images (λ disk j e left. laws.left_is_told disk j e left) c.args.lot c.args.found c.args.events d0 d1
-    c.requires.synced c.requires.found c.make_whole.ensures.mended made c.make_whole.ensures.events (state_in c.args.found.state c.make_whole.new.log c.args.found.entries [] c.args.opened.items c.args.events c.args.lot false) refl c.in_ok-make_whole.ensures.ready is_made d2 c.as_slice.result.now live c.hold_opened.ensures.images (g.D.Disk.held d2) (laws.held_is_left d2 told) told).1
+    c.requires.synced c.requires.found c.make_whole.ensures.mended made c.make_whole.ensures.events (store_in c.args.found.state c.make_whole.new.log c.args.found.entries [] c.args.opened.items c.args.events c.args.lot false) refl c.in_ok-make_whole.ensures.ready is_made d2 c.as_slice.result.now live c.hold_opened.ensures.images (g.D.Disk.held d2) (laws.held_is_left d2 told) told).1
 
 pub returns-in_err-trim-clause-images : goal.returns-in_err-trim-clause-images
 returns-in_err-trim-clause-images g c =
@@ -96,11 +96,11 @@ returns-in_err-trim-clause-images g c =
     let d1 = c.make_whole.new.disk in
     let d2 = c.hold_opened.new.disk in
     let d3 = c.trim.new.disk in
-    let made = subst (λ (x : Kept). c.args.found.log.number ≡ None → Since moment images d0 d1 (λ e. IsUnmade e ⊎ IsMade x e)) c.stored.ensures.kept c.make_whole.ensures.images in
-    let is_made = subst (λ (x : Kept). c.args.found.log.number ≡ None → InEach (images d1 (moment d1)) (IsMade x)) c.stored.ensures.kept c.in_ok-make_whole.ensures.made in
+    let made = subst (λ (x : Kept). c.args.found.log.number ≡ None → Since moment images d0 d1 (λ e. IsUnmade e ⊎ IsNewStore x e)) c.stored.ensures.kept c.make_whole.ensures.images in
+    let is_made = subst (λ (x : Kept). c.args.found.log.number ≡ None → InEach (images d1 (moment d1)) (IsNewStore x)) c.stored.ensures.kept c.in_ok-make_whole.ensures.made in
     let live = c.as_slice.ensures.value ∙ c.requires.opened in
     means_end g.D.Disk.tells g.D.Disk.held moment images (λ disk j e left. laws.left_is_told disk j e left) c.args.lot c.args.found c.args.events d0 d1
-    c.requires.synced c.requires.found c.make_whole.ensures.mended made c.make_whole.ensures.events (state_in c.args.found.state c.make_whole.new.log c.args.found.entries [] c.args.opened.items c.args.events c.args.lot false) refl c.in_ok-make_whole.ensures.ready is_made d2 c.as_slice.result.now live c.hold_opened.ensures.images d3 c.trim.ensures.behind.left
+    c.requires.synced c.requires.found c.make_whole.ensures.mended made c.make_whole.ensures.events (store_in c.args.found.state c.make_whole.new.log c.args.found.entries [] c.args.opened.items c.args.events c.args.lot false) refl c.in_ok-make_whole.ensures.ready is_made d2 c.as_slice.result.now live c.hold_opened.ensures.images d3 c.trim.ensures.behind.left
 
 pub returns-clause-images : goal.returns-clause-images
 returns-clause-images g c =
@@ -111,11 +111,11 @@ returns-clause-images g c =
     let d1 = c.make_whole.new.disk in
     let d2 = c.hold_opened.new.disk in
     let d3 = c.trim.new.disk in
-    let made = subst (λ (x : Kept). c.args.found.log.number ≡ None → Since moment images d0 d1 (λ e. IsUnmade e ⊎ IsMade x e)) c.stored.ensures.kept c.make_whole.ensures.images in
-    let is_made = subst (λ (x : Kept). c.args.found.log.number ≡ None → InEach (images d1 (moment d1)) (IsMade x)) c.stored.ensures.kept c.in_ok-make_whole.ensures.made in
+    let made = subst (λ (x : Kept). c.args.found.log.number ≡ None → Since moment images d0 d1 (λ e. IsUnmade e ⊎ IsNewStore x e)) c.stored.ensures.kept c.make_whole.ensures.images in
+    let is_made = subst (λ (x : Kept). c.args.found.log.number ≡ None → InEach (images d1 (moment d1)) (IsNewStore x)) c.stored.ensures.kept c.in_ok-make_whole.ensures.made in
     let live = c.as_slice.ensures.value ∙ c.requires.opened in
     means_end g.D.Disk.tells g.D.Disk.held moment images (λ disk j e left. laws.left_is_told disk j e left) c.args.lot c.args.found c.args.events d0 d1
-    c.requires.synced c.requires.found c.make_whole.ensures.mended made c.make_whole.ensures.events (state_in c.args.found.state c.make_whole.new.log c.args.found.entries [] c.args.opened.items c.args.events c.args.lot false) refl c.in_ok-make_whole.ensures.ready is_made d2 c.as_slice.result.now live c.hold_opened.ensures.images d3 c.trim.ensures.behind.left
+    c.requires.synced c.requires.found c.make_whole.ensures.mended made c.make_whole.ensures.events (store_in c.args.found.state c.make_whole.new.log c.args.found.entries [] c.args.opened.items c.args.events c.args.lot false) refl c.in_ok-make_whole.ensures.ready is_made d2 c.as_slice.result.now live c.hold_opened.ensures.images d3 c.trim.ensures.behind.left
 
 pub returns-clause-kept : goal.returns-clause-kept
 returns-clause-kept g c =
@@ -126,10 +126,10 @@ returns-clause-kept g c =
     let d1 = c.make_whole.new.disk in
     let d2 = c.hold_opened.new.disk in
     let d3 = c.trim.new.disk in
-    let made = subst (λ (x : Kept). c.args.found.log.number ≡ None → Since moment images d0 d1 (λ e. IsUnmade e ⊎ IsMade x e)) c.stored.ensures.kept c.make_whole.ensures.images in
-    let is_made = subst (λ (x : Kept). c.args.found.log.number ≡ None → InEach (images d1 (moment d1)) (IsMade x)) c.stored.ensures.kept c.in_ok-make_whole.ensures.made in
+    let made = subst (λ (x : Kept). c.args.found.log.number ≡ None → Since moment images d0 d1 (λ e. IsUnmade e ⊎ IsNewStore x e)) c.stored.ensures.kept c.make_whole.ensures.images in
+    let is_made = subst (λ (x : Kept). c.args.found.log.number ≡ None → InEach (images d1 (moment d1)) (IsNewStore x)) c.stored.ensures.kept c.in_ok-make_whole.ensures.made in
     let live = c.as_slice.ensures.value ∙ c.requires.opened in
-    let s = state_in c.args.found.state c.make_whole.new.log c.args.found.entries c.in_ok-contents.contents c.args.opened.items c.trim.new.self c.args.lot false in
+    let s = store_in c.args.found.state c.make_whole.new.log c.args.found.entries c.in_ok-contents.contents c.args.opened.items c.trim.new.self c.args.lot false in
     record {
       holds = λ works. end_holds g.D.Disk.tells g.D.Disk.held moment images (λ disk j e left. laws.left_is_told disk j e left) c.args.lot c.args.found c.args.events d0 d1
           c.requires.synced c.requires.found c.make_whole.ensures.mended made c.make_whole.ensures.events s refl c.in_ok-make_whole.ensures.ready is_made d2 c.as_slice.result.now live c.hold_opened.ensures.images d3 c.trim.ensures.behind.left [] c.in_ok-trim.ensures.trimmed.state refl refl;
@@ -141,7 +141,7 @@ returns-clause-kept g c =
 
 pub invariant_of-result : goal.invariant_of-result
 invariant_of-result g c =
-    let s = state_in c.args.found.state c.make_whole.new.log c.args.found.entries c.in_ok-contents.contents c.args.opened.items c.trim.new.self c.args.lot false in
+    let s = store_in c.args.found.state c.make_whole.new.log c.args.found.entries c.in_ok-contents.contents c.args.opened.items c.trim.new.self c.args.lot false in
     record {
       current = subst (λ (o : Option ℕ). IsTrue (is_some o)) (sym c.in_ok-make_whole.ensures.log.0) refl;
       mended = c.in_ok-make_whole.ensures.log.1;
@@ -207,7 +207,7 @@ returns-clause-tidy g c told =
     let d1 = c.make_whole.new.disk in
     let d2 = c.hold_opened.new.disk in
     let d3 = c.trim.new.disk in
-    let s = state_in c.args.found.state c.make_whole.new.log c.args.found.entries c.in_ok-contents.contents c.args.opened.items c.trim.new.self c.args.lot false in
+    let s = store_in c.args.found.state c.make_whole.new.log c.args.found.entries c.in_ok-contents.contents c.args.opened.items c.trim.new.self c.args.lot false in
     no_leftovers s (log_opened c.args.found.log.number) c.as_slice.result.now c.args.events.stale (held d1) (held d2) (held d3) c.in_ok-make_whole.ensures.log.0
     (c.as_slice.ensures.value ∙ c.requires.opened) (c.in_ok-make_whole.ensures.others told) (c.in_ok-contents.ensures.cut told) (c.trim.ensures.behind.files told)
     (sizes_trimmed c.args.events.stale s.slots (held d2) (held d3) (c.trim.ensures.behind.files told) (c.in_ok-contents.ensures.files told))

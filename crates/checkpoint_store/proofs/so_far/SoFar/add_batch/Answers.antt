@@ -5,7 +5,7 @@ use Rattle.flowfile_record.specs.Stored.{kept_of}
 use Rattle.flowfile_record.specs.NumberedItems.{item_of, with_item}
 use Rattle.flowfile_record.specs.declared.stored.SwapBatch.{SwapBatch}
 use Rattle.checkpoint_store.specs.Reading.{last_number}
-use Rattle.checkpoint_store.specs.SoFar.{AreNumbered}
+use Rattle.checkpoint_store.specs.SoFar.{AreNumberedTo}
 use Rattle.checkpoint_store.proofs.Numbering.{none_there, joins_last, are_numbered}
 use Rattle.checkpoint_store.proofs.so_far.SoFar.add_batch.Goals as goal
 
@@ -27,7 +27,7 @@ returns-clause-so_far c =
     let items = c.put.ensures.items ∙ ap (with_item (λ (b : SwapBatch). b.batch) c.args.batch) c.in_ok-reserve.ensures.items ∙ joins_last (λ b. b.batch) c.args.batch c.args.self.now.last_batch c.args.self.now.state.batches.items was.batches.below (omega arith) in
     record {
       files = was.files;
-      batches = subst (λ (l : List SwapBatch). AreNumbered (λ b. b.batch) l c.args.batch.batch) (sym items)
+      batches = subst (λ (l : List SwapBatch). AreNumberedTo (λ b. b.batch) l c.args.batch.batch) (sym items)
           (are_numbered (λ b. b.batch) c.args.batch c.args.self.now.last_batch c.args.self.now.state.batches.items was.batches (omega arith) c.requires.batch.batch);
       arrivals = was.arrivals;
       ordered = was.ordered;

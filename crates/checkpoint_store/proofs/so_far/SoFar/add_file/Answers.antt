@@ -8,8 +8,8 @@ use Rattle.flowfile_record.specs.NumberedItems.{item_of, with_item}
 use Rattle.flowfile_record.specs.declared.stored.ActiveFile.{ActiveFile}
 use Rattle.record_codec.proofs.Sizes.{file_most}
 use Rattle.checkpoint_store.specs.Consistent.{IsConsistent, record_size}
-use Rattle.checkpoint_store.specs.Reading.{has_place}
-use Rattle.checkpoint_store.specs.SoFar.{AreNumbered}
+use Rattle.checkpoint_store.specs.Reading.{file_has_place}
+use Rattle.checkpoint_store.specs.SoFar.{AreNumberedTo}
 use Rattle.flowfile_record.specs.declared.limits.TheConstants.{LIVE_BYTES_MAX}
 use Rattle.checkpoint_store.proofs.Consistency.{file_joins}
 use Rattle.checkpoint_store.proofs.Numbering.{none_there, joins_last, are_numbered, sum_more, any_more, place_above, all_three}
@@ -22,7 +22,7 @@ pub put-requires-clause-new : goal.put-requires-clause-new
 put-requires-clause-new c =
     let was = c.requires.so_far in
     let k = kept_of c.args.self.now.state in
-    let placed : has_place k c.args.active ≡ true = sym c.has_place.ensures ∙ c.if-not-has_place.false in
+    let placed : file_has_place k c.args.active ≡ true = sym c.has_place.ensures ∙ c.if-not-has_place.false in
     let above = place_above k c.args.active placed in
     ap (item_of (λ (a : ActiveFile). a.file.number) c.args.active.file.number) c.in_ok-reserve.ensures.items
     ∙ none_there (λ a. a.file.number) c.args.active.file.number c.args.self.now.last_file c.args.self.now.state.files.items was.files.below (omega (arith, above, was.files.last))
@@ -31,25 +31,25 @@ pub returns-clause-joined : goal.returns-clause-joined
 returns-clause-joined c =
     let was = c.requires.so_far in
     let k = kept_of c.args.self.now.state in
-    let placed : has_place k c.args.active ≡ true = sym c.has_place.ensures ∙ c.if-not-has_place.false in
+    let placed : file_has_place k c.args.active ≡ true = sym c.has_place.ensures ∙ c.if-not-has_place.false in
     let above = place_above k c.args.active placed in
     let items = c.put.ensures.items ∙ ap (with_item (λ (a : ActiveFile). a.file.number) c.args.active) c.in_ok-reserve.ensures.items
     ∙ joins_last (λ a. a.file.number) c.args.active c.args.self.now.last_file c.args.self.now.state.files.items was.files.below (omega (arith, above, was.files.last)) in
     let within : nat_le (sum (map record_size k.files) + record_size c.args.active) LIVE_BYTES_MAX ≡ true = grind (arith, nat_tests, was.bytes, c.file_size-size.ensures, c.if-self-size-gt-LIVE_BYTES_MAX.false) in
     let fresh : not (list_any (λ (b : ActiveFile). b.file.arrival == c.args.active.file.arrival) k.files) ≡ true =
     ap not (sym (was.arrivals c.args.active.file.arrival)) ∙ sym c.in_ok-add_arrival.ensures.added ∙ c.if-not-branch.false in
-    (all_three (has_place k c.args.active) _ _ placed within fresh, ap (λ (l : List ActiveFile). record (kept_of c.args.self.now.state) { files = l }) items)
+    (all_three (file_has_place k c.args.active) _ _ placed within fresh, ap (λ (l : List ActiveFile). record (kept_of c.args.self.now.state) { files = l }) items)
 
 pub returns-clause-so_far : goal.returns-clause-so_far
 returns-clause-so_far c =
     let was = c.requires.so_far in
     let k = kept_of c.args.self.now.state in
-    let placed : has_place k c.args.active ≡ true = sym c.has_place.ensures ∙ c.if-not-has_place.false in
+    let placed : file_has_place k c.args.active ≡ true = sym c.has_place.ensures ∙ c.if-not-has_place.false in
     let above = place_above k c.args.active placed in
     let items = c.put.ensures.items ∙ ap (with_item (λ (a : ActiveFile). a.file.number) c.args.active) c.in_ok-reserve.ensures.items
     ∙ joins_last (λ a. a.file.number) c.args.active c.args.self.now.last_file c.args.self.now.state.files.items was.files.below (omega (arith, above, was.files.last)) in
     record {
-      files = subst (λ (l : List ActiveFile). AreNumbered (λ a. a.file.number) l c.args.active.file.number) (sym items)
+      files = subst (λ (l : List ActiveFile). AreNumberedTo (λ a. a.file.number) l c.args.active.file.number) (sym items)
           (are_numbered (λ a. a.file.number) c.args.active c.args.self.now.last_file c.args.self.now.state.files.items was.files (omega (arith, above, was.files.last)) c.requires.file.file.number);
       batches = was.batches;
       arrivals = λ n.

@@ -4,14 +4,14 @@ use Rattle.std.proofs.lemmas.List.{take_all}
 use Rattle.content_repo.specs.declared.slot.Slot.{Slot}
 use Rattle.content_repo.specs.Claims.{claim}
 use Rattle.content_repo.specs.SlotSet.{bit_of}
-use Rattle.content_repo.specs.Slots.{unused, slot_at, is_idle, reclaimed}
+use Rattle.content_repo.specs.Slots.{unused, slot_numbered, is_idle, reclaimed}
 use Rattle.content_repo.proofs.Cuts.{turns, turn_emptied, turn_here, count_more, reclaimed_list, since_turn}
 use Rattle.content_repo.proofs.content.Content.reclaim.Goals as goal
 
 pub returns-in_err-emptied-clause-images : goal.returns-in_err-emptied-clause-images
 returns-in_err-emptied-clause-images g c =
     let k = c.loop-number.number in
-    since_turn g.D.Disk.moment g.D.Disk.images c.args.self.now (slot_at c.loop-number.self k) k c.args.disk.now c.loop-number.disk c.reclaim_at.new.disk
+    since_turn g.D.Disk.moment g.D.Disk.images c.args.self.now (slot_numbered c.loop-number.self k) k c.args.disk.now c.loop-number.disk c.reclaim_at.new.disk
     (c.loop-number.invariant.behind k (omega arith)) c.loop-number.invariant.since c.reclaim_at.ensures.images
 
 pub loop-number-preserved : goal.loop-number-preserved
@@ -19,7 +19,7 @@ loop-number-preserved g c =
     let slots = c.args.self.now in
     let k = c.loop-number.number in
     let left = c.loop-number.self in
-    let slot = slot_at left k in
+    let slot = slot_numbered left k in
     let old = g.D.Disk.held c.args.disk.now in
     let now = g.D.Disk.held c.loop-number.disk in
     let new = g.D.Disk.held c.reclaim_at.new.disk in
@@ -39,20 +39,20 @@ loop-number-preserved g c =
             | inr late ↦
                 let here : j ≡ k = omega (arith, below, late) in
                 subst (λ (i : ℕ). new (claim i) ≡ []) (sym here)
-                (turn_here slot k now new (c.in_ok-emptied.ensures.held told) (ap is_idle same ∙ subst (λ (i : ℕ). is_idle (slot_at slots i) ≡ true) here idle))
+                (turn_here slot k now new (c.in_ok-emptied.ensures.held told) (ap is_idle same ∙ subst (λ (i : ℕ). is_idle (slot_numbered slots i) ≡ true) here idle))
           ];
       held = c.in_ok-emptied.ensures.count ∙ inv.held;
       long = ap length value ∙ length-set left k (reclaimed slot) ∙ long;
       before = λ j below.
-          ap (λ (l : List Slot). slot_at l j) value
-          ∙ elim (cases_eq j k) as (λ _. slot_at (set left k (reclaimed slot)) j ≡ reclaimed (slot_at slots j)) [
+          ap (λ (l : List Slot). slot_numbered l j) value
+          ∙ elim (cases_eq j k) as (λ _. slot_numbered (set left k (reclaimed slot)) j ≡ reclaimed (slot_numbered slots j)) [
             | inl here ↦
-                ap (slot_at (set left k (reclaimed slot))) here ∙ get_or-set_same left k (reclaimed slot) unused (omega (arith, in_slots, long))
-                ∙ ap reclaimed same ∙ ap (λ (i : ℕ). reclaimed (slot_at slots i)) (sym here)
+                ap (slot_numbered (set left k (reclaimed slot))) here ∙ get_or-set_same left k (reclaimed slot) unused (omega (arith, in_slots, long))
+                ∙ ap reclaimed same ∙ ap (λ (i : ℕ). reclaimed (slot_numbered slots i)) (sym here)
             | inr differs ↦ get_or-set_other left k j (reclaimed slot) unused differs ∙ inv.before j (omega (arith, below, differs))
           ];
       behind = λ j past.
-          ap (λ (l : List Slot). slot_at l j) value
+          ap (λ (l : List Slot). slot_numbered l j) value
           ∙ get_or-set_other left k j (reclaimed slot) unused (omega (arith, past)) ∙ inv.behind j (omega (arith, past));
       emptied = omega (arith, inv.emptied, c.in_ok-emptied.ensures.emptied, ap {B = ℕ} (λ (s : Slot). bit_of (is_idle s)) same, count_more slots k in_slots);
     }

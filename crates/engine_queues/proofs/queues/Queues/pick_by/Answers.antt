@@ -3,7 +3,7 @@ use borrow.Author.Count.{below_more}
 use Rattle.std.proofs.lemmas.Bool.{eq-eqb, ne_eqb}
 use Rattle.std.proofs.lemmas.Option.{slice_get_read}
 use Rattle.machine_model.specs.declared.flow.Connection.{Connection}
-use Rattle.flow_queue.specs.Queue.{QueueState, seen}
+use Rattle.flow_queue.specs.Queue.{QueueState, queue_as_seen}
 use Rattle.engine_queues.specs.Choosing.{picked_from}
 use Rattle.engine_queues.proofs.Due.{OwesNothing, none-due, first-due, picked-here, none-here, none-elsewhere}
 use Rattle.engine_queues.proofs.queues.Queues.pick_by.Goals as goal
@@ -42,13 +42,13 @@ loop-place-preserved c =
           let found = w.index.result.now in
           let there_found = slice_get_read queues (length queues) place found refl (omega (arith, within, c.requires.queues.count)) (w.index.ensures ∙ ap (λ l. get_or l place found) c.self.view_is) in
           let same_queue : found ≡ queue = cc (there_found, there) in
-          subst (λ (q : QueueState). owes connection (seen q) ≡ None) same_queue
-          (subst (λ (cn : Connection). owes cn (seen found) ≡ None) same
+          subst (λ (q : QueueState). owes connection (queue_as_seen q) ≡ None) same_queue
+          (subst (λ (cn : Connection). owes cn (queue_as_seen found) ≡ None) same
           (none-here c.args.rule c.args.processor c.args.moment item found (c.requires.queues.each place item found at_item there_found)
           (eq-eqb item.target c.args.processor w.if-connection-processor.true) (sym w.in_ok-pick.ensures.answer ∙ w.if-branch.false)))
       | else-connection-processor w ↦
-          subst (λ (cn : Connection). owes cn (seen queue) ≡ None) same
-          (none-elsewhere c.args.rule c.args.processor c.args.moment item (seen queue) (ne_eqb item.target c.args.processor w.if-connection-processor.false))
+          subst (λ (cn : Connection). owes cn (queue_as_seen queue) ≡ None) same
+          (none-elsewhere c.args.rule c.args.processor c.args.moment item (queue_as_seen queue) (ne_eqb item.target c.args.processor w.if-connection-processor.false))
     ])
 
 pub returns : goal.returns

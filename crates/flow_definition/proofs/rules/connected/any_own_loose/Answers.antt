@@ -3,7 +3,7 @@ use Rattle.std.specs.List.{list_any}
 use Rattle.std.proofs.lemmas.Iterator.Consumers.{YieldsList-from_rest}
 use Rattle.std.proofs.lemmas.Iterator.Search.{any_from_yields_List}
 use Rattle.serde_json.specs.View.{view, members_view}
-use Rattle.flow_definition.specs.Looks.{is_fixed, member_list, names_of, others}
+use Rattle.flow_definition.specs.Looks.{is_fixed, member_list, member_names, others}
 use Rattle.flow_definition.specs.Rules.{is_loose}
 use Rattle.flow_definition.proofs.Lists.{list_any-map, member_names_view}
 use Rattle.flow_definition.proofs.Others.{any_others}
@@ -21,4 +21,4 @@ returns c =
     ∙ sym (list_any-map test string_bytes keys)
     ∙ ap (list_any test) (member_names_view entries)
     ∙ any_others fixed wrong (member_list (members_view entries))
-    ∙ ap (λ ps. list_any wrong (names_of (others ps (member_list (members_view entries))))) c.properties_in-fixed.ensures
+    ∙ ap (λ ps. list_any wrong (member_names (others ps (member_list (members_view entries))))) c.properties_in-fixed.ensures

@@ -3,14 +3,14 @@ use Rattle.machine_model.specs.State.{Machine}
 use Rattle.flow_run.specs.Turns.{AreMadeAt}
 use Rattle.flow_run.specs.Work.{IsNoEarlier, WritesLog}
 use Rattle.flow_engine.specs.Engine.{AreTakeable, IsOfSameRun}
-use Rattle.flow_engine.specs.Ready.{IsReady}
+use Rattle.flow_engine.specs.Ready.{EngineIsReady}
 use Rattle.flow_engine.specs.Running.{IsRunning}
 use Rattle.flow_run.specs.Puts.{Start, outgoing}
 use Rattle.flow_engine.proofs.engine.Engine.drive.Given as goal
 
 abbrev pub invariant-loop-turn : goal.invariant-loop-turn
 invariant-loop-turn g l = record {
-  ready : IsReady g.D.Disk.tells g.D.Disk.held g.D.Disk.moment g.D.Disk.images l.self l.disk;
+  ready : EngineIsReady g.D.Disk.tells g.D.Disk.held g.D.Disk.moment g.D.Disk.images l.self l.disk;
   works : l.self.failed ≡ false;
   left : IsTrue g.I.Inbox.tells → AreTakeable (g.I.Inbox.left l.inbox) l.self.listing.names;
   same : IsOfSameRun l.fn.self l.self;

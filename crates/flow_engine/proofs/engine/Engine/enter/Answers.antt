@@ -12,7 +12,7 @@ use Rattle.store_core.specs.Store.{StoreState, kept_by}
 use Rattle.flow_run.specs.Ending.{journal_full}
 use Rattle.flow_run.specs.Run.{IsStateOf}
 use Rattle.flow_engine.specs.Change.{names_without, without_received}
-use Rattle.flow_engine.specs.Committing.{IsQueued}
+use Rattle.flow_engine.specs.Committing.{IsAtWorkWithQueues}
 use Rattle.flow_engine.specs.Done.{step_done}
 use Rattle.flow_engine.specs.Engine.{AreTakeable, EngineState}
 use Rattle.flow_engine.specs.Journal.{journaled}
@@ -339,7 +339,7 @@ returns-clause-ready g c other =
     ready_by D.tells D.held D.moment D.images e f c.args.disk.now c.write.new.disk c.requires.ready (ap (λ (x : EngineState). x.flow) v ∙ ap (λ (x : EngineState). x.flow) rest) (ap (λ (x : EngineState). x.most) v ∙ ap (λ (x : EngineState). x.most) rest)
     (ap (λ (l : Left). l.flow) c.remove.ensures.names ∙ ap (λ (l : Left). l.flow) listing)
     (subst (λ (l : Left). AreDistinct l.names) (sym c.remove.ensures.names) (distinct_without c.in_ok-received.received c.self-2.inside.listing.names (subst (λ (l : Left). AreDistinct l.names) (sym listing) c.requires.ready.distinct)))
-    (subst (λ (x : EngineState). IsQueued e.flow D.tells D.held D.moment D.images x.store x.queues c.write.new.disk) (sym v) queued)
+    (subst (λ (x : EngineState). IsAtWorkWithQueues e.flow D.tells D.held D.moment D.images x.store x.queues c.write.new.disk) (sym v) queued)
     (subst (λ (j : List Entry). length j ≤ e.most) (sym (ap (λ (x : EngineState). x.journal) v ∙ c.write.ensures.journal ∙ ap (λ (r : Result ℕ EngineError). journaled r c.in_ok-step.step e.journal) is)) (one_more c.in_ok-moment.moment c.in_ok-step.step e.journal e.most room))
     (knows_none f tended)
 
@@ -373,7 +373,7 @@ returns-in_err-remove-clause-ready g c other =
     ready_by D.tells D.held D.moment D.images e f c.args.disk.now c.write.new.disk c.requires.ready (ap (λ (x : EngineState). x.flow) v ∙ ap (λ (x : EngineState). x.flow) rest) (ap (λ (x : EngineState). x.most) v ∙ ap (λ (x : EngineState). x.most) rest)
     (ap (λ (l : Left). l.flow) c.remove.ensures.names ∙ ap (λ (l : Left). l.flow) listing)
     (subst (λ (l : Left). AreDistinct l.names) (sym c.remove.ensures.names) (distinct_without c.in_ok-received.received c.self-2.inside.listing.names (subst (λ (l : Left). AreDistinct l.names) (sym listing) c.requires.ready.distinct)))
-    (subst (λ (x : EngineState). IsQueued e.flow D.tells D.held D.moment D.images x.store x.queues c.write.new.disk) (sym v) queued)
+    (subst (λ (x : EngineState). IsAtWorkWithQueues e.flow D.tells D.held D.moment D.images x.store x.queues c.write.new.disk) (sym v) queued)
     (subst (λ (j : List Entry). length j ≤ e.most) (sym (ap (λ (x : EngineState). x.journal) v ∙ c.write.ensures.journal ∙ ap (λ (r : Result ℕ EngineError). journaled r c.in_ok-step.step e.journal) is)) (one_more c.in_ok-moment.moment c.in_ok-step.step e.journal e.most room))
     (knows_none f tended)
 

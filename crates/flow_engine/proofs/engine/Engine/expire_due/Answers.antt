@@ -16,9 +16,9 @@ use Rattle.flow_run.specs.Run.{StandsFor}
 use Rattle.flow_run.specs.Work.{IsAtWork, IsRefused}
 use Rattle.flow_engine.specs.Engine.{EngineState, IsOfSameRun}
 use Rattle.flow_engine.specs.Journal.{journaled}
-use Rattle.flow_engine.specs.Ready.{IsReady}
+use Rattle.flow_engine.specs.Ready.{EngineIsReady}
 use Rattle.flow_engine.specs.Running.{IsLimited, IsRunning, Stops}
-use Rattle.flow_engine.specs.Tending.{HasExpired, IsDone, counted_on}
+use Rattle.flow_engine.specs.Tending.{HasExpired, StepIsDone, counted_on}
 use Rattle.flow_engine.specs.declared.error.EngineError.{EngineError}
 use Rattle.flow_engine.proofs.Expired.{are_of, due_comes, due_goes, due_kept}
 use Rattle.flow_engine.proofs.RunsOn.{on_ok_leads, runs_idle, runs_stepped, runs_unwritten, stops_failed, stops_limited, stops_wanting}
@@ -52,7 +52,7 @@ returns-then-entries-self-clause-stopped g c error is telling opened first start
     let i = c.self.inside in
     let e : EngineState = record { flow = i.flow.now; store = i.store; queues = i.queues; listing = i.listing; last = i.last; journal = i.journal.items; most = i.most; checkpoint = i.checkpoint; since_reclaim = i.since_reclaim; failed = i.has_failed; tended = i.tended } in
     let laws = g.met.D.Disk g.world.𝓛 g.world.𝓜 g.world.𝓡 ((λ s x. x), (λ x. x), (λ x. x), λ x. x) in
-    let ready = subst (λ (u : EngineState). IsReady tells held moment images u disk) (sym c.self.view_is) c.requires.ready in
+    let ready = subst (λ (u : EngineState). EngineIsReady tells held moment images u disk) (sym c.self.view_is) c.requires.ready in
     let expiry = c.in-Some.expiry in
     let due : due_expiry i.flow.now (queue_seen i.queues) c.args.moment ≡ Some (expiry.connection, expiry.numbers)
     = sym (c.in_ok-expiry.ensures i.flow.now (are_of i.flow.now (kept_by i.store) i.queues ready.queues)) ∙ ap (option_map (λ expiry. (expiry.connection, expiry.numbers))) c.in-Some.is in
@@ -172,7 +172,7 @@ returns-in_err-expired-clause-stopped g c error is telling opened first start ti
     let e : EngineState = record { flow = i.flow.now; store = i.store; queues = i.queues; listing = i.listing; last = i.last; journal = i.journal.items; most = i.most; checkpoint = i.checkpoint; since_reclaim = i.since_reclaim; failed = i.has_failed; tended = i.tended } in
     let f : EngineState = record e { store = c.expire-expired.new.store; queues = c.expire-expired.new.queues; journal = c.note.new.journal.items; tended = None } in
     let same : IsOfSameRun e f = record { flow = refl; most = refl; checkpoint = refl; too_large = refl; lot = c.expire-expired.ensures.same.0 } in
-    let ready = subst (λ (u : EngineState). IsReady tells held moment images u old) (sym c.self.view_is) c.requires.ready in
+    let ready = subst (λ (u : EngineState). EngineIsReady tells held moment images u old) (sym c.self.view_is) c.requires.ready in
     let expiry = c.in-Some.expiry in
     let due : due_expiry i.flow.now (queue_seen i.queues) c.args.moment ≡ Some (expiry.connection, expiry.numbers)
     = sym (c.in_ok-expiry.ensures i.flow.now (are_of i.flow.now (kept_by i.store) i.queues ready.queues)) ∙ ap (option_map (λ expiry. (expiry.connection, expiry.numbers))) c.in-Some.is in
@@ -210,7 +210,7 @@ returns-in_err-expired-clause-cut_off g c is =
     let e : EngineState = record { flow = i.flow.now; store = i.store; queues = i.queues; listing = i.listing; last = i.last; journal = i.journal.items; most = i.most; checkpoint = i.checkpoint; since_reclaim = i.since_reclaim; failed = i.has_failed; tended = i.tended } in
     let f : EngineState = record e { store = c.expire-expired.new.store; queues = c.expire-expired.new.queues; journal = c.note.new.journal.items; tended = None } in
     let same : IsOfSameRun e f = record { flow = refl; most = refl; checkpoint = refl; too_large = refl; lot = c.expire-expired.ensures.same.0 } in
-    let ready = subst (λ (u : EngineState). IsReady tells held moment images u old) (sym c.self.view_is) c.requires.ready in
+    let ready = subst (λ (u : EngineState). EngineIsReady tells held moment images u old) (sym c.self.view_is) c.requires.ready in
     let expiry = c.in-Some.expiry in
     let due : due_expiry i.flow.now (queue_seen i.queues) c.args.moment ≡ Some (expiry.connection, expiry.numbers)
     = sym (c.in_ok-expiry.ensures i.flow.now (are_of i.flow.now (kept_by i.store) i.queues ready.queues)) ∙ ap (option_map (λ expiry. (expiry.connection, expiry.numbers))) c.in-Some.is in
@@ -240,7 +240,7 @@ returns-in_err-expired-clause-refused g c limit is =
 pub returns-clause-due : goal.returns-clause-due
 returns-clause-due g c =
     let i = c.self.inside in
-    let ready = subst (λ (u : EngineState). IsReady g.D.Disk.tells g.D.Disk.held g.D.Disk.moment g.D.Disk.images u c.args.disk.now) (sym c.self.view_is) c.requires.ready in
+    let ready = subst (λ (u : EngineState). EngineIsReady g.D.Disk.tells g.D.Disk.held g.D.Disk.moment g.D.Disk.images u c.args.disk.now) (sym c.self.view_is) c.requires.ready in
     let due : due_expiry i.flow.now (queue_seen i.queues) c.args.moment ≡ Some (c.in-Some.expiry.connection, c.in-Some.expiry.numbers)
     = sym (c.in_ok-expiry.ensures i.flow.now (are_of i.flow.now (kept_by i.store) i.queues ready.queues)) ∙ ap (option_map (λ expiry. (expiry.connection, expiry.numbers))) c.in-Some.is in
     subst (λ (u : EngineState). true ≡ is_some (due_expiry u.flow (queue_seen u.queues) c.args.moment)) c.self.view_is (sym (ap is_some due))
@@ -257,7 +257,7 @@ returns-clause-goes_on g c well telling opened first start time left out by run 
     let e : EngineState = record { flow = i.flow.now; store = i.store; queues = i.queues; listing = i.listing; last = i.last; journal = i.journal.items; most = i.most; checkpoint = i.checkpoint; since_reclaim = i.since_reclaim; failed = i.has_failed; tended = i.tended } in
     let f : EngineState = record e { store = c.expire-expired.new.store; queues = c.expire-expired.new.queues; journal = c.note.new.journal.items; since_reclaim = c.saturating_add-self-inside.result; tended = None } in
     let same : IsOfSameRun e f = record { flow = refl; most = refl; checkpoint = refl; too_large = refl; lot = c.expire-expired.ensures.same.0 } in
-    let ready = subst (λ (u : EngineState). IsReady tells held moment images u old) (sym c.self.view_is) c.requires.ready in
+    let ready = subst (λ (u : EngineState). EngineIsReady tells held moment images u old) (sym c.self.view_is) c.requires.ready in
     let expiry = c.in-Some.expiry in
     let due : due_expiry i.flow.now (queue_seen i.queues) c.args.moment ≡ Some (expiry.connection, expiry.numbers)
     = sym (c.in_ok-expiry.ensures i.flow.now (are_of i.flow.now (kept_by i.store) i.queues ready.queues)) ∙ ap (option_map (λ expiry. (expiry.connection, expiry.numbers))) c.in-Some.is in
@@ -275,7 +275,7 @@ returns-clause-goes_on g c well telling opened first start time left out by run 
     (λ m stands. due_comes c.what_is_kept_is_seen.ensures.seen c.due_expiries_may_expire.ensures i.flow.now (kept_by i.store) expiry.connection expiry.numbers c.args.moment c.holds_its_state.ensures.kept.0 c.holds_its_state.ensures.kept.1
     ready.work.flow_is kept (content_in (held old)) m sizes (c.holds_its_state.ensures.tied telling i.flow.now ready.work m stands))
     c.run_goes_on.ensures.step journal refl refl
-    (subst (λ (r : Result ℕ EngineError). OnOk r ((m : Machine) → InEach (images old (moment old)) (StandsFor i.flow.now i.store.lot m) → IsDone i.flow.now moment images i.store.lot m one old new)) made
+    (subst (λ (r : Result ℕ EngineError). OnOk r ((m : Machine) → InEach (images old (moment old)) (StandsFor i.flow.now i.store.lot m) → StepIsDone i.flow.now moment images i.store.lot m one old new)) made
     (on_ok_leads c.expire-expired.result _ _ (λ done. done telling) c.expire-expired.ensures.done))
     (subst (λ (u : EngineState). IsRunning moment images u opened first start time old left out) (sym c.self.view_is) run)
 
@@ -291,7 +291,7 @@ returns-clause-expired g c is =
     let e : EngineState = record { flow = i.flow.now; store = i.store; queues = i.queues; listing = i.listing; last = i.last; journal = i.journal.items; most = i.most; checkpoint = i.checkpoint; since_reclaim = i.since_reclaim; failed = i.has_failed; tended = i.tended } in
     let f : EngineState = record e { store = c.expire-expired.new.store; queues = c.expire-expired.new.queues; journal = c.note.new.journal.items; since_reclaim = c.saturating_add-self-inside.result; tended = None } in
     let same : IsOfSameRun e f = record { flow = refl; most = refl; checkpoint = refl; too_large = refl; lot = c.expire-expired.ensures.same.0 } in
-    let ready = subst (λ (u : EngineState). IsReady tells held moment images u old) (sym c.self.view_is) c.requires.ready in
+    let ready = subst (λ (u : EngineState). EngineIsReady tells held moment images u old) (sym c.self.view_is) c.requires.ready in
     let expiry = c.in-Some.expiry in
     let due : due_expiry i.flow.now (queue_seen i.queues) c.args.moment ≡ Some (expiry.connection, expiry.numbers)
     = sym (c.in_ok-expiry.ensures i.flow.now (are_of i.flow.now (kept_by i.store) i.queues ready.queues)) ∙ ap (option_map (λ expiry. (expiry.connection, expiry.numbers))) c.in-Some.is in
@@ -316,7 +316,7 @@ returns-clause-ready g c well =
     let old = c.args.disk.now in
     let new = c.expire-expired.new.disk in
     let i = c.self.inside in
-    let ready = subst (λ (u : EngineState). IsReady tells held moment images u old) (sym c.self.view_is) c.requires.ready in
+    let ready = subst (λ (u : EngineState). EngineIsReady tells held moment images u old) (sym c.self.view_is) c.requires.ready in
     let expiry = c.in-Some.expiry in
     let one = Expire expiry.connection expiry.numbers c.args.moment in
     let noted : c.note.new.journal.items ≡ journaled c.expire-expired.result c.in_ok-step.step c.reserve.new.self.items = c.note.ensures in

@@ -2,7 +2,7 @@ use Rattle.std.proofs.Common.{◌∙◌, ap, subst}
 use Rattle.std.specs.Prelude.{All}
 use Rattle.std.specs.Option.{option_map}
 use Rattle.machine_model.specs.Due.{numbers_of}
-use Rattle.flow_queue.specs.Inside.{state_in}
+use Rattle.flow_queue.specs.Inside.{queue_in}
 use Rattle.flow_queue.specs.Picking.{Picks, numbers_picked}
 use Rattle.flow_queue.specs.Queue.{IsAtRest, offered, offered_by, picked}
 use Rattle.flow_queue.proofs.Ranks.{eligible-ranked}
@@ -31,7 +31,7 @@ returns-clause-at_rest c =
     let list = c.pick_by.new.list.items in
     let ranked = eligible-ranked queue.limits c.args.moment queue.files.items queue.order queue.by_rank.items c.self.invariant.files.apart c.self.invariant.ranked in
     let picks = subst (λ views. Picks (numbers_picked c.args.rule views) c.pick_by.result list) ranked c.pick_by.ensures.picks in
-    subst (λ q. All (IsAtRest q) list) c.self.view_is (picks-rest c.args.rule c.args.moment (state_in queue) c.pick_by.result list c.self.invariant.files.apart.numbers picks)
+    subst (λ q. All (IsAtRest q) list) c.self.view_is (picks-rest c.args.rule c.args.moment (queue_in queue) c.pick_by.result list c.self.invariant.files.apart.numbers picks)
 
 pub returns-clause-free : goal.returns-clause-free
 returns-clause-free c none =

@@ -2,7 +2,7 @@ use Rattle.std.proofs.Common.{◌+◌, ◌<◌, ◌^◌, false, length, sym, ◌
 use Rattle.flowfile_record.proofs.ByNumber.{length-with}
 use Rattle.flow_queue.specs.declared.held.Held.{Held}
 use Rattle.flow_queue.specs.Inside.{AreSound}
-use Rattle.flow_queue.specs.Queue.{IsApart, number_of}
+use Rattle.flow_queue.specs.Queue.{IsApart, held_number}
 use Rattle.flow_queue.proofs.Fields.{new-number, sum_fits, sound-put}
 use Rattle.flow_queue.proofs.Ranks.{ranked-length, ranked-put, still-ranked}
 use Rattle.flow_queue.proofs.queue.Queue.put.Goals as goal
@@ -36,5 +36,5 @@ invariant_of-self c =
     record {
       files = subst (λ fs. AreSound fs (queue.bytes + c.from.result)) (sym c.put.ensures.items) sound;
       ranked = still-ranked queue.order _ _ _ _ c.put.ensures.items c.in-Ok.ensures.items ranked;
-      room = omega (arith, c.self.invariant.room, ap length c.put.ensures.items, length-with number_of new files, c.put.ensures.room, c.in-Ok.ensures.capacity);
+      room = omega (arith, c.self.invariant.room, ap length c.put.ensures.items, length-with held_number new files, c.put.ensures.room, c.in-Ok.ensures.capacity);
     }

@@ -4,7 +4,7 @@ use Rattle.std.specs.Option.{option_map}
 use Rattle.std.proofs.lemmas.Bool.{eq-eqb, ne_eqb, lt-ltb, le-ltb}
 use Rattle.std.proofs.lemmas.List.{length-map}
 use Rattle.flow_queue.specs.Picking.{views_at, size_by}
-use Rattle.flow_queue.specs.Queue.{view_of}
+use Rattle.flow_queue.specs.Queue.{held_view}
 use Rattle.flow_queue.proofs.Bins.{walked, view-at, walked-is, walked-last, walked-more, walked-all, or-right, or-none}
 use Rattle.flow_queue.proofs.queue.bins.bin_size.Goals as goal
 use Rattle.flow_queue.proofs.queue.bins.bin_size.Goals.{then-is_filled-via-then-is_filled, then-is_filled-via-else-is_filled+then-size-max}
@@ -16,8 +16,8 @@ returns-then-is_filled-clause-bin c =
     let room = c.loop-held.room in
     let size = c.loop-held.size in
     let held = c.held-item.result in
-    let file = view_of held.now in
-    let within : i < length files = omega (arith, length-map c.args.files.now (λ held. view_of held.now), c.loop-held-test.true) in
+    let file = held_view held.now in
+    let within : i < length files = omega (arith, length-map c.args.files.now (λ held. held_view held.now), c.loop-held-test.true) in
     let stops : (nat_lt room file.size || (size == c.args.max)) ≡ true = ap (λ s. nat_lt room s || (size == c.args.max)) (sym c.size.ensures) ∙ (elim c.then-is_filled.branch [
       | then-is_filled-via-then-is_filled w ↦ ap (λ b. b || (size == c.args.max)) (lt-ltb room c.size.result w.if-is_filled.true)
       | then-is_filled-via-else-is_filled+then-size-max w ↦ or-right (nat_lt room c.size.result) (size == c.args.max) (eq-eqb size c.args.max w.if-size-max.true)
@@ -36,8 +36,8 @@ loop-held-preserved c =
     let room = c.loop-held.room in
     let size = c.loop-held.size in
     let held = c.held-item.result in
-    let file = view_of held.now in
-    let within : i < length files = omega (arith, length-map c.args.files.now (λ held. view_of held.now), c.loop-held-test.true) in
+    let file = held_view held.now in
+    let within : i < length files = omega (arith, length-map c.args.files.now (λ held. held_view held.now), c.loop-held-test.true) in
     let goes : (nat_lt room file.size || (size == c.args.max)) ≡ false = ap (λ s. nat_lt room s || (size == c.args.max)) (sym c.size.ensures)
     ∙ or-none (nat_lt room c.size.result) (size == c.args.max) (le-ltb room c.size.result c.if-is_filled.false) (ne_eqb size c.args.max c.if-size-max.false) in (
       omega (arith, c.loop-held.invariant.0),
@@ -51,6 +51,6 @@ returns-clause-bin c =
     let files = views_at c.args.files.now in
     ap (option_map (λ size. take size files))
     (c.size_if-2.ensures
-    ∙ sym (walked-all c.args.min c.args.max c.loop-held.size c.loop-held.room c.loop-held.held-index files (omega (arith, length-map c.args.files.now (λ held. view_of held.now), c.loop-held-test.false)))
+    ∙ sym (walked-all c.args.min c.args.max c.loop-held.size c.loop-held.room c.loop-held.held-index files (omega (arith, length-map c.args.files.now (λ held. held_view held.now), c.loop-held-test.false)))
     ∙ c.loop-held.invariant.1)
     ∙ walked-is c.args.min c.args.max files

@@ -1,13 +1,13 @@
 use Rattle.std.proofs.Common.{rules, arith}
 use Rattle.std.proofs.lemmas.Fn.{always_returns_same}
-use Rattle.flow_queue.specs.Queue.{view_of}
+use Rattle.flow_queue.specs.Queue.{held_view}
 use Rattle.flow_queue.proofs.Ranks.{ahead, numbers-parted, rank-from}
 use Rattle.flow_queue.proofs.queue.ranked.place_in_order.Goals as goal
 
 pub returns-clause-rank : goal.returns-clause-rank
 returns-clause-rank c =
     let order = c.args.order.now in
-    let file = view_of c.args.held.now in
+    let file = held_view c.args.held.now in
     let files = c.args.files.now.items in
     let numbers = c.args.by_rank.now.items in
     let parted = numbers-parted order file files numbers c.requires.apart c.requires.ranked in

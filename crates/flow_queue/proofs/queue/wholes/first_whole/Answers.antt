@@ -5,19 +5,19 @@ use Rattle.machine_model.specs.Due.{numbers_of}
 use Rattle.machine_model.specs.Taking.{first_some, first_whole}
 use Rattle.machine_model.specs.View.{FileView}
 use Rattle.flow_queue.specs.declared.queue.wholes.Candidate.{Candidate}
-use Rattle.flow_queue.specs.Fragments.{files_of, whole_at}
-use Rattle.flow_queue.specs.Queue.{view_of}
+use Rattle.flow_queue.specs.Fragments.{candidate_views, whole_at}
+use Rattle.flow_queue.specs.Queue.{held_view}
 use Rattle.flow_queue.proofs.Parts.{first-found, first-goes_on, nothing}
 use Rattle.flow_queue.proofs.queue.wholes.first_whole.Goals as goal
 
 -- what the files from a place on give
 from-here : (candidates : List Candidate) (i : ℕ) (candidate : Candidate) → i < length candidates → candidate ≡ get_or candidates i candidate
-    → first_whole (files_of candidates) (drop i (files_of candidates))
-    ≡ first_some (whole_at candidate (files_of candidates)) (first_whole (files_of candidates) (drop (i + 1) (files_of candidates)))
+    → first_whole (candidate_views candidates) (drop i (candidate_views candidates))
+    ≡ first_some (whole_at candidate (candidate_views candidates)) (first_whole (candidate_views candidates) (drop (i + 1) (candidate_views candidates)))
 from-here candidates i candidate lt is =
-    let files = files_of candidates in
-    let file = view_of candidate.held.now in
-    let seen = λ (other : Candidate). view_of other.held.now in
+    let files = candidate_views candidates in
+    let file = held_view candidate.held.now in
+    let seen = λ (other : Candidate). held_view other.held.now in
     let at : get_or files i file ≡ file = get_or-map seen candidates i candidate file lt ∙ ap seen (sym is) in
     at_drop_more (first_whole files) files i file (omega (arith, length-map candidates seen))
     ∙ ap (λ (other : FileView). first_whole files (other ∷ drop (i + 1) files)) at
@@ -25,7 +25,7 @@ from-here candidates i candidate lt is =
 pub returns-then-branch : goal.returns-then-branch
 returns-then-branch c =
     let candidates = c.args.candidates.now in
-    let files = files_of candidates in
+    let files = candidate_views candidates in
     let i = c.loop-candidate.candidate-index in
     let candidate = c.candidate-item.result in
     let rest = first_whole files (drop (i + 1) files) in
@@ -38,7 +38,7 @@ returns-then-branch c =
 pub loop-candidate-preserved : goal.loop-candidate-preserved
 loop-candidate-preserved c =
     let candidates = c.args.candidates.now in
-    let files = files_of candidates in
+    let files = candidate_views candidates in
     let i = c.loop-candidate.candidate-index in
     let candidate = c.candidate-item.result in
     let rest = first_whole files (drop (i + 1) files) in

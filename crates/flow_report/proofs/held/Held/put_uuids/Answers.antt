@@ -3,7 +3,7 @@ use Rattle.std.proofs.Common.{◌+◌, true, false, [], ◌∷◌, ◌++◌, dro
 use Rattle.serde_json.specs.Written.{comma_if, items_text}
 use Rattle.json.specs.Print.{quoted}
 use Rattle.flow_report.specs.Events.{file_items}
-use Rattle.flow_report.specs.Words.{uuid_text}
+use Rattle.flow_report.specs.Words.{identifier_text}
 use Rattle.flow_report.proofs.Lists.{items-more, items-end}
 use Rattle.flow_report.proofs.Writing.{puts-then, puts-failed, puts-named}
 use Rattle.flow_report.proofs.held.Held.put_uuids.Goals as goal
@@ -16,7 +16,7 @@ loop-number-preserved g c =
     let inv = c.loop-number.invariant in
     let id = c.uuid_of.result in
     record {
-      text = inv.text ++ (comma_if c.loop-number.is_later ++ quoted (uuid_text id));
+      text = inv.text ++ (comma_if c.loop-number.is_later ++ quoted (identifier_text id));
       whole = items-more inv.text c.loop-number.is_later c.args.store c.args.numbers.now c.loop-number.number-index id _ c.loop-number-test.true c.uuid_of.ensures.bits inv.whole;
       put = λ tells. puts-then _ _ _ _ _ _ _ _ _ (inv.put tells) (c.in_ok-put_item.ensures.put tells);
       faults = omega (arith, inv.faults, c.put_item.ensures.cause.never_falls);
@@ -31,7 +31,7 @@ returns-in_err-put_item-clause-put g c = λ tells. let p = err_from_is_err_and c
     let rest = items_text true (file_items c.args.store (drop (i + 1) c.args.numbers.now)) in
     puts-named _ _ _ _ _ _ _
     (items-more inv.text c.loop-number.is_later c.args.store c.args.numbers.now i id _ c.loop-number-test.true c.uuid_of.ensures.bits inv.whole)
-    (puts-failed (inv.text ++ (comma_if c.loop-number.is_later ++ quoted (uuid_text id))) rest _ _ _ _ _
+    (puts-failed (inv.text ++ (comma_if c.loop-number.is_later ++ quoted (identifier_text id))) rest _ _ _ _ _
     (puts-then _ _ _ _ _ _ _ _ _ (inv.put tells) (c.in_err-put_item.ensures.put tells))))
 
 pub returns-clause-put : goal.returns-clause-put

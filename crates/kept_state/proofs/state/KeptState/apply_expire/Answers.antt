@@ -5,7 +5,7 @@ use Rattle.flowfile_record.specs.declared.stored.ActiveFile.{ActiveFile}
 use Rattle.checkpoint_store.specs.Consistent.{IsConsistent, record_size}
 use Rattle.kept_state.specs.Applied.{left_after}
 use Rattle.kept_state.specs.Memory.{InMemory}
-use Rattle.kept_state.specs.Moves.{are_active}
+use Rattle.kept_state.specs.Moves.{are_all_active}
 use Rattle.kept_state.proofs.Going.{active_from_in}
 use Rattle.kept_state.proofs.Keeping.{expire_keeps, expire_made, expire_parts}
 use Rattle.kept_state.proofs.state.KeptState.apply_expire.Goals as goal
@@ -15,7 +15,7 @@ bytes_with-bytes-requires-clause-active c =
     let k = c.args.self.now.kept in
     let e = c.args.expire in
     let active = active_from_in k.files e.connection e.numbers (expire_parts k e c.requires.fits).1 in
-    subst (λ (ns : List ℕ). are_active k.files ns ≡ true) (sym c.as_slice.ensures) active
+    subst (λ (ns : List ℕ). are_all_active k.files ns ≡ true) (sym c.as_slice.ensures) active
 
 pub invariant_of-self : goal.invariant_of-self
 invariant_of-self c =

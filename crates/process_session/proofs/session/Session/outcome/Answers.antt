@@ -2,7 +2,7 @@ use Rattle.std.proofs.Common.{sym, subst}
 use Rattle.flowfile_record.specs.Outcome.{IsOutcome}
 use Rattle.process_session.specs.Bench.{Bench, sizes_of}
 use Rattle.process_session.specs.Inside.{bench_in}
-use Rattle.process_session.specs.Sound.{IsSound}
+use Rattle.process_session.specs.Sound.{IsSoundBench}
 use Rattle.process_session.proofs.FinishFiles.{outcome_from}
 use Rattle.process_session.proofs.FinishLaws.{is_outcome}
 use Rattle.process_session.proofs.session.Session.outcome.Goals as goal
@@ -13,5 +13,5 @@ returns-clause-outcome c = outcome_from (bench_in c.self.inside) c.args.self c.a
 pub returns-clause-sound : goal.returns-clause-sound
 returns-clause-sound c =
     let bench : Bench = c.args.self in
-    let sound : IsSound bench c.self.inside.counted = subst (λ (b : Bench). IsSound b c.self.inside.counted) c.self.view_is c.self.invariant in
+    let sound : IsSoundBench bench c.self.inside.counted = subst (λ (b : Bench). IsSoundBench b c.self.inside.counted) c.self.view_is c.self.invariant in
     subst (IsOutcome bench.relationships (sizes_of bench.sources)) (sym (returns-clause-outcome c)) (is_outcome bench c.self.inside.counted c.requires.ended sound)

@@ -1,21 +1,21 @@
 use Rattle.std.proofs.Common.{◌≡◌, ℕ, ◌+◌, ◌-◌, ◌++◌, ◌∷◌, List, [], length, take, drop, sym, ap, subst, ◌∙◌, append_assoc, arith}
 use Rattle.std.proofs.lemmas.List.{drop-drop, drop_all, take_all, append-nil, length-drop}
 use Rattle.flowfile_record.specs.declared.event.Event.{Event}
-use Rattle.prov_store.specs.Blocks.{blocks_of, IsPart, AreParts}
+use Rattle.prov_store.specs.Blocks.{blocks_of, IsEventPart, AreEventParts}
 use Rattle.prov_store.specs.declared.blocks.Part.{Part}
 use Rattle.prov_store.proofs.Parting.{blocks_up_to}
 use Rattle.prov_store.proofs.Writing.{last_number}
 use Rattle.prov_store.proofs.blocks.EventBlocks.new.Goals as goal
 
 -- one part more, behind those that there are
-parts_more : (f done : ℕ) (parts : List Part) (p : Part) (events : List Event) → ((more : List Part) → AreParts (f - 1 + done) more (drop done events) → AreParts (f - 1) (parts ++ more) events)
-    → IsPart (f - 1 + done) p (drop done events) → (more : List Part) → AreParts (f - 1 + (done + p.count)) more (drop (done + p.count) events)
-    → AreParts (f - 1) ((parts ++ p ∷ []) ++ more) events
+parts_more : (f done : ℕ) (parts : List Part) (p : Part) (events : List Event) → ((more : List Part) → AreEventParts (f - 1 + done) more (drop done events) → AreEventParts (f - 1) (parts ++ more) events)
+    → IsEventPart (f - 1 + done) p (drop done events) → (more : List Part) → AreEventParts (f - 1 + (done + p.count)) more (drop (done + p.count) events)
+    → AreEventParts (f - 1) ((parts ++ p ∷ []) ++ more) events
 parts_more f done parts p events are one more rest =
     let place : f - 1 + (done + p.count) ≡ f - 1 + done + p.count = omega arith in
     let left : drop (done + p.count) events ≡ drop p.count (drop done events) = sym (drop-drop p.count done events) in
-    subst (λ (l : List Part). AreParts (f - 1) l events) (sym (append_assoc parts (p ∷ []) more))
-    (are (p ∷ more) (one, subst (λ (l : List Event). AreParts (f - 1 + done + p.count) more l) left (subst (λ (n : ℕ). AreParts n more (drop (done + p.count) events)) place rest)))
+    subst (λ (l : List Part). AreEventParts (f - 1) l events) (sym (append_assoc parts (p ∷ []) more))
+    (are (p ∷ more) (one, subst (λ (l : List Event). AreEventParts (f - 1 + done + p.count) more l) left (subst (λ (n : ℕ). AreEventParts n more (drop (done + p.count) events)) place rest)))
 
 pub overflow_add-first : goal.overflow_add-first
 overflow_add-first c =
@@ -32,7 +32,7 @@ loop-done-preserved c =
     let left = length-drop done events in
     let len : done + count - done ≡ count = omega arith in
     let slice : take (done + count - done) (drop done events) ≡ take count (drop done events) = ap (λ (k : ℕ). take k (drop done events)) len in
-    let part : IsPart (c.args.first - 1 + done) p (drop done events) = record {
+    let part : IsEventPart (c.args.first - 1 + done) p (drop done events) = record {
       some = c.part_len-count.ensures.some;
       there = omega (arith, c.part_len-count.ensures.there, left);
       fits = c.part_len-count.ensures.fits;
@@ -44,7 +44,7 @@ loop-done-preserved c =
       bytes = c.in_ok-size.ensures.bytes ∙ ap (λ (l : List ℕ). l ++ blocks_of (take (done + count - done) (drop done events))) inv.bytes
           ∙ ap (λ (l : List Event). blocks_of (take done events) ++ blocks_of l) slice ∙ sym (blocks_up_to done count events);
       parts = λ more are.
-          subst (λ (l : List Part). AreParts (c.args.first - 1) (l ++ more) events) (sym c.in_ok-push.ensures.items)
+          subst (λ (l : List Part). AreEventParts (c.args.first - 1) (l ++ more) events) (sym c.in_ok-push.ensures.items)
           (parts_more c.args.first done c.loop-done.parts.items p events inv.parts part more are);
     }
 
@@ -57,6 +57,6 @@ invariant_of-result c =
       numbered = c.requires.numbered;
       have = c.requires.blocks;
       encoded = inv.bytes ∙ ap blocks_of (take_all c.loop-done.done events c.loop-done-test.false);
-      parted = subst (λ (l : List Part). AreParts (c.args.first - 1) l events) (append-nil c.loop-done.parts.items)
+      parted = subst (λ (l : List Part). AreEventParts (c.args.first - 1) l events) (append-nil c.loop-done.parts.items)
           (inv.parts [] (drop_all c.loop-done.done events c.loop-done-test.false));
     }

@@ -3,7 +3,7 @@ use Rattle.std.specs.Prelude.{Err}
 use Rattle.std.proofs.lemmas.Result.{err_from_is_err_and}
 use Rattle.disk_trait.specs.Files.{Files}
 use Rattle.prov_store.specs.Events.{events_file, events_of_files}
-use Rattle.prov_store.specs.Loading.{IsLoaded}
+use Rattle.prov_store.specs.Loading.{EventsAreLoaded}
 use Rattle.prov_store.specs.State.{AreLonger, EventsState, HasEvents, HasStale}
 use Rattle.flowfile_record.specs.declared.limits.TheConstants.{EVENTS_PER_FILE}
 use Rattle.prov_store.specs.declared.error.EventsError.TheVariants.{Damaged, Memory}
@@ -46,7 +46,7 @@ returns-clause-found g c =
     let d0 = c.loop-number.disk in
     let found = c.find_later.new.self in
     let end : found.end ≡ c.args.end = c.find_later.ensures.end ∙ inv.end in
-    let loaded = subst (λ (n : ℕ). IsLoaded g.D.Disk.tells (held d0) (n / EVENTS_PER_FILE + 1) found) (sym c.find_later.ensures.end) c.in_ok-find_later.ensures.loaded in
+    let loaded = subst (λ (n : ℕ). EventsAreLoaded g.D.Disk.tells (held d0) (n / EVENTS_PER_FILE + 1) found) (sym c.find_later.ensures.end) c.in_ok-find_later.ensures.loaded in
     let state : EventsState = record { end = c.args.end; offset = found.offset; counts = found.counts.counts; stale = found.stale.items } in
     record {
       end = refl;

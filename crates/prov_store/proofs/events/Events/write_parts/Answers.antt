@@ -5,7 +5,7 @@ use Rattle.std.proofs.lemmas.List.{length-drop, take_all}
 use Rattle.disk_trait.proofs.FileTables.{on_err}
 use Rattle.disk_trait.specs.Images.{next_moment}
 use Rattle.flowfile_record.specs.declared.event.Event.{Event}
-use Rattle.prov_store.specs.Blocks.{blocks_of, AreParts, AreEncoded, next_offset}
+use Rattle.prov_store.specs.Blocks.{blocks_of, AreEventParts, AreEncoded, next_offset}
 use Rattle.prov_store.specs.Growing.{Stands}
 use Rattle.prov_store.specs.State.{HasCalled, calls_later, files_for}
 use Rattle.flowfile_record.specs.declared.limits.TheConstants.{EVENTS_PER_FILE}
@@ -112,7 +112,7 @@ loop-part-preserved g c =
       reached = omega (arith, end, inv.reached);
       there = omega (arith, end, at.there);
       start = at.begins ∙ ap (λ (k : ℕ). length (blocks_of (take (k - c.args.self.now.end) events))) (sym end);
-      parts = subst (λ (k : ℕ). AreParts k (drop (c.loop-part.part-index + 1) c.deref-part-items.result.now) (drop (k - c.args.self.now.end) events)) (sym end) at.parts_left;
+      parts = subst (λ (k : ℕ). AreEventParts k (drop (c.loop-part.part-index + 1) c.deref-part-items.result.now) (drop (k - c.args.self.now.end) events)) (sym end) at.parts_left;
       behind = subst (λ (k : ℕ). k / EVENTS_PER_FILE ≡ c.args.self.now.end / EVENTS_PER_FILE → c.args.self.now.offset ≤ c.in_ok-place.place.offset) (sym end)
           (λ here. subst (λ (k : ℕ). c.args.self.now.offset ≤ k) (sym offset)
           (still_behind c.args.self.now.end c.args.self.now.offset c.loop-part.place.end c.loop-part.place.offset part.count part.size late inv.behind at.some here));

@@ -1,7 +1,7 @@
 use Rattle.std.proofs.Common.{◌≡◌, ◌-◌, ◌/◌, ◌≤◌, ◌++◌, List, length, take, drop, IsTrue}
 use Rattle.disk_trait.specs.Images.{After, Since}
 use Rattle.flowfile_record.specs.declared.event.Event.{Event}
-use Rattle.prov_store.specs.Blocks.{blocks_of, AreParts}
+use Rattle.prov_store.specs.Blocks.{blocks_of, AreEventParts}
 use Rattle.prov_store.specs.Growing.{Stands}
 use Rattle.prov_store.specs.State.{GrowsBehind, calls_later}
 use Rattle.flowfile_record.specs.declared.limits.TheConstants.{EVENTS_PER_FILE}
@@ -12,7 +12,7 @@ invariant-loop-part g l = record {
   reached : l.fn.self.end ≤ l.place.end;
   there : l.place.end - l.fn.self.end ≤ length l.fn.blocks.events;
   start : l.start ≡ length (blocks_of (take (l.place.end - l.fn.self.end) l.fn.blocks.events));
-  parts : AreParts l.place.end (drop l.part-index l.part-items) (drop (l.place.end - l.fn.self.end) l.fn.blocks.events);
+  parts : AreEventParts l.place.end (drop l.part-index l.part-items) (drop (l.place.end - l.fn.self.end) l.fn.blocks.events);
   behind : l.place.end / EVENTS_PER_FILE ≡ l.fn.self.end / EVENTS_PER_FILE → l.fn.self.offset ≤ l.place.offset;
   stands : IsTrue g.D.Disk.tells → (before : List Event) → Stands l.fn.self.end l.fn.self.offset (g.D.Disk.held l.fn.disk) before
       → Stands l.place.end l.place.offset (g.D.Disk.held l.disk) (before ++ take (l.place.end - l.fn.self.end) l.fn.blocks.events);

@@ -1,7 +1,7 @@
 use Rattle.std.proofs.Common.{◌≡◌, ◌+◌, ◌*◌, ◌++◌, ◌∷◌, [], IsTrue, List, length, drop, refl, ap, ◌∙◌, arith}
 use Rattle.std.specs.Prelude.{Ok, Err}
 use Rattle.std.proofs.lemmas.Result.{err_from_is_err_and}
-use Rattle.prov_store.specs.Events.{count_in, first_in, covered_size}
+use Rattle.prov_store.specs.Events.{count_in, first_event, covered_size}
 use Rattle.prov_store.specs.declared.error.EventsError.TheVariants.{Damaged, Memory}
 use Rattle.prov_store.specs.declared.events.Stale.{Stale}
 use Rattle.prov_store.specs.declared.load.Loading.{Loading}
@@ -25,7 +25,7 @@ returns-in_err-size-2-clause-damaged g c damage is told more =
     let same : c.in_err-size-2.field-0.0 ≡ Damaged damage = cc (p.1, p.2, is) in
     let files = g.D.Disk.held c.args.disk.now in
     let many : c.min-many.result ≡ count_in c.args.self.now.end c.args.number = omega (arith, c.min-many.ensures) in
-    let first : c.args.number * EVENTS_PER_FILE + 1 ≡ first_in c.args.number = omega arith in
+    let first : c.args.number * EVENTS_PER_FILE + 1 ≡ first_event c.args.number = omega arith in
     first_damaged c.args.number more c.args.self.now.end files c.requires.loaded.events damage (c.requires.loaded.says told)
     (file_read c.args.self.now.end c.args.number c.min-many.result (c.args.number * EVENTS_PER_FILE + 1) c.file_named-file.result (g.D.Disk.held c.size.new.self) files (Err damage)
     c.size.ensures.stays.files c.file_named-file.ensures many first (c.in_err-size-2.ensures.damaged damage (ap Err same) told))
@@ -38,7 +38,7 @@ returns-in_ok-reserve-clause-loaded g c =
     let counted = c.in_ok-size-2.ensures.counted in
     let size = c.in_ok-size-2.size in
     let many : c.min-many.result ≡ count_in old.end k = omega (arith, c.min-many.ensures) in
-    let first : k * EVENTS_PER_FILE + 1 ≡ first_in k = omega arith in
+    let first : k * EVENTS_PER_FILE + 1 ≡ first_event k = omega arith in
     let offset : IsTrue g.D.Disk.tells → size ≡ covered_size old.end k files = λ told. size_read old.end k c.min-many.result size c.file_named-file.result (g.D.Disk.held c.size.new.self) files c.size.ensures.stays.files c.file_named-file.ensures many (counted.read.reaches told) in
     let new : Loading = record { end = old.end; offset = size; counts = c.count_events.new.counts; stale = c.push_reserved.new.self; buffer = c.count_events.new.buffer } in
     more_loaded g.D.Disk.tells files k old new counted.events c.requires.loaded c.requires.number (counted.read.count ∙ many) counted.counted counted.long refl offset
@@ -55,7 +55,7 @@ returns-else-size-start-clause-loaded g c =
     let counted = c.in_ok-size-2.ensures.counted in
     let size = c.in_ok-size-2.size in
     let many : c.min-many.result ≡ count_in old.end k = omega (arith, c.min-many.ensures) in
-    let first : k * EVENTS_PER_FILE + 1 ≡ first_in k = omega arith in
+    let first : k * EVENTS_PER_FILE + 1 ≡ first_event k = omega arith in
     let offset : IsTrue g.D.Disk.tells → size ≡ covered_size old.end k files = λ told. size_read old.end k c.min-many.result size c.file_named-file.result (g.D.Disk.held c.size.new.self) files c.size.ensures.stays.files c.file_named-file.ensures many (counted.read.reaches told) in
     let new : Loading = record { end = old.end; offset = size; counts = c.count_events.new.counts; stale = old.stale; buffer = c.count_events.new.buffer } in
     more_loaded g.D.Disk.tells files k old new counted.events c.requires.loaded c.requires.number (counted.read.count ∙ many) counted.counted counted.long refl offset

@@ -4,7 +4,7 @@ use Rattle.std.specs.List.{range_with_len}
 use Rattle.std.proofs.lemmas.List.{map-append}
 use Rattle.std.proofs.lemmas.Result.{err_from_is_err_and}
 use Rattle.flowfile_record.specs.declared.event.Event.{Event}
-use Rattle.prov_store.specs.Events.{first_in}
+use Rattle.prov_store.specs.Events.{first_event}
 use Rattle.flowfile_record.specs.declared.limits.TheConstants.{EVENTS_PER_FILE}
 use Rattle.prov_store.specs.declared.error.EventsError.TheVariants.{Damaged}
 use Rattle.prov_store.specs.declared.read.Cursor.{Cursor}
@@ -17,8 +17,8 @@ returns-in_err-cursor-clause-undamaged g c damage is told here says =
     let self = c.args.self.now in
     let k = c.args.number in
     let n = c.saturating_sub.result in
-    let m = min self.last (EVENTS_PER_FILE * k + EVENTS_PER_FILE) + 1 - (first_in k + n) in
-    let skip : n ≡ self.first - first_in k = omega (arith, c.saturating_sub.ensures) in
+    let m = min self.last (EVENTS_PER_FILE * k + EVENTS_PER_FILE) + 1 - (first_event k + n) in
+    let skip : n ≡ self.first - first_event k = omega (arith, c.saturating_sub.ensures) in
     let fi = found_in self.end self.first self.last k n m files here says c.requires.may.counted c.requires.may.some c.requires.may.there c.requires.from c.requires.to skip refl in
     let p = err_from_is_err_and c.from_residual-in_err-cursor.result c.from_residual-in_err-cursor.ensures.1 in
     let same : c.in_err-cursor.field-0.0 ≡ Damaged damage = cc (p.1, p.2, is) in
@@ -32,9 +32,9 @@ returns-in_err-read_events-clause-undamaged g c damage is told here says =
     let k = c.args.number in
     let n = c.saturating_sub.result in
     let m = c.min-last.result + 1 - c.in_ok-cursor.cursor.number in
-    let skip : n ≡ self.first - first_in k = omega (arith, c.saturating_sub.ensures) in
+    let skip : n ≡ self.first - first_event k = omega (arith, c.saturating_sub.ensures) in
     let number : c.in_ok-cursor.cursor.number ≡ k * EVENTS_PER_FILE + 1 + n = ap (λ (c : Cursor). c.number) c.in_ok-cursor.ensures.skipped.behind in
-    let many : m ≡ min self.last (EVENTS_PER_FILE * k + EVENTS_PER_FILE) + 1 - (first_in k + n) = omega (arith, c.min-last.ensures, number) in
+    let many : m ≡ min self.last (EVENTS_PER_FILE * k + EVENTS_PER_FILE) + 1 - (first_event k + n) = omega (arith, c.min-last.ensures, number) in
     let held : g.D.Disk.held c.skip_events.new.disk ≡ files = c.skip_events.ensures.stays.files ∙ c.size.ensures.stays.files in
     let fi = found_in self.end self.first self.last k n m files here says c.requires.may.counted c.requires.may.some c.requires.may.there c.requires.from c.requires.to skip many in
     let all = there_in_file self.end self.first self.last k n m (k * EVENTS_PER_FILE + 1) c.file_named-file.result c.in_ok-size.field-0 g.D.Disk.tells files (g.D.Disk.held c.size.new.self)
@@ -51,9 +51,9 @@ returns-clause-found g c told here is =
     let k = c.args.number in
     let n = c.saturating_sub.result in
     let m = c.min-last.result + 1 - c.in_ok-cursor.cursor.number in
-    let skip : n ≡ self.first - first_in k = omega (arith, c.saturating_sub.ensures) in
+    let skip : n ≡ self.first - first_event k = omega (arith, c.saturating_sub.ensures) in
     let number : c.in_ok-cursor.cursor.number ≡ k * EVENTS_PER_FILE + 1 + n = ap (λ (c : Cursor). c.number) c.in_ok-cursor.ensures.skipped.behind in
-    let many : m ≡ min self.last (EVENTS_PER_FILE * k + EVENTS_PER_FILE) + 1 - (first_in k + n) = omega (arith, c.min-last.ensures, number) in
+    let many : m ≡ min self.last (EVENTS_PER_FILE * k + EVENTS_PER_FILE) + 1 - (first_event k + n) = omega (arith, c.min-last.ensures, number) in
     let held : g.D.Disk.held c.skip_events.new.disk ≡ files = c.skip_events.ensures.stays.files ∙ c.size.ensures.stays.files in
     let fi = found_in self.end self.first self.last k n m files here is c.requires.may.counted c.requires.may.some c.requires.may.there c.requires.from c.requires.to skip many in
     let all = there_in_file self.end self.first self.last k n m (k * EVENTS_PER_FILE + 1) c.file_named-file.result c.in_ok-size.field-0 g.D.Disk.tells files (g.D.Disk.held c.size.new.self)
@@ -69,9 +69,9 @@ returns-clause-numbered g c =
     let n = c.saturating_sub.result in
     let m = c.min-last.result + 1 - c.in_ok-cursor.cursor.number in
     let number : c.in_ok-cursor.cursor.number ≡ k * EVENTS_PER_FILE + 1 + n = ap (λ (c : Cursor). c.number) c.in_ok-cursor.ensures.skipped.behind in
-    let first : c.in_ok-cursor.cursor.number ≡ max self.first (first_in k) = omega (arith, number, c.saturating_sub.ensures) in
-    let many : m ≡ min self.last (first_in (k + 1) - 1) + 1 - max self.first (first_in k) = omega (arith, c.min-last.ensures, first) in
+    let first : c.in_ok-cursor.cursor.number ≡ max self.first (first_event k) = omega (arith, number, c.saturating_sub.ensures) in
+    let many : m ≡ min self.last (first_event (k + 1) - 1) + 1 - max self.first (first_event k) = omega (arith, c.min-last.ensures, first) in
     let read = c.in_ok-read_events.ensures.read in
     ap (map (λ (e : Event). e.number)) read.items ∙ map-append (λ (e : Event). e.number) self.found.items read.events
     ∙ ap (λ (l : List ℕ). map (λ (e : Event). e.number) self.found.items ++ l)
-    (read.numbered ∙ ap (λ (i : ℕ). range_with_len i m) first ∙ ap (range_with_len (max self.first (first_in k))) many)
+    (read.numbered ∙ ap (λ (i : ℕ). range_with_len i m) first ∙ ap (range_with_len (max self.first (first_event k))) many)

@@ -3,7 +3,7 @@ use Rattle.std.specs.Prelude.{Err, map, min}
 use Rattle.std.proofs.lemmas.Result.{err_from_is_err_and}
 use Rattle.flowfile_record.specs.declared.event.Event.{Event}
 use Rattle.disk_trait.specs.Files.{Files}
-use Rattle.prov_store.specs.Events.{events_of_file, first_in}
+use Rattle.prov_store.specs.Events.{events_of_file, first_event}
 use Rattle.prov_store.specs.declared.error.EventsError.TheVariants.{Damaged}
 use Rattle.prov_store.specs.Scanning.{numbers_between}
 use Rattle.flowfile_record.specs.declared.limits.TheConstants.{EVENTS_PER_FILE}
@@ -71,5 +71,5 @@ returns-clause-numbered g c =
     let inv = c.loop-number.invariant in
     let self = c.args.self.now in
     let reach = c.loop-number.auto.number-end (omega (arith, c.requires.may.some)) in
-    let end : min self.last (first_in c.loop-number.number - 1) ≡ self.last = omega (arith, c.loop-number-test.false, reach, c.requires.may.counted, c.requires.may.some) in
+    let end : min self.last (first_event c.loop-number.number - 1) ≡ self.last = omega (arith, c.loop-number-test.false, reach, c.requires.may.counted, c.requires.may.some) in
     inv.numbered ∙ ap (numbers_between self.first) end

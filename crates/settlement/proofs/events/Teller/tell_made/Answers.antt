@@ -1,4 +1,4 @@
-use Rattle.settlement.specs.Telling.{row_of, told_by}
+use Rattle.settlement.specs.Telling.{row_drafts, told_by}
 use Rattle.settlement.specs.declared.rows.Row.TheVariants as row
 use Rattle.settlement.proofs.AddedEvents.{adds-both}
 use Rattle.settlement.proofs.events.Teller.tell_made.Goals as goal
@@ -8,7 +8,7 @@ returns c =
     let told = told_by c.args.self.now in
     let first = c.args.self.now.first in
     let start = c.args.events.now.items in
-    let two = adds-both first start c.tell_row.new.events.items c.tell_row-2.new.events.items (row_of told row.Created) (row_of told row.Received) c.in_ok-tell_row.ensures c.in_ok-tell_row-2.ensures in
-    let three = adds-both first start c.tell_row-2.new.events.items c.tell_row-3.new.events.items _ (row_of told row.Forked) two c.in_ok-tell_row-3.ensures in
-    let four = adds-both first start c.tell_row-3.new.events.items c.tell_row-4.new.events.items _ (row_of told row.Joined) three c.in_ok-tell_row-4.ensures in
-    adds-both first start c.tell_row-4.new.events.items c.tell_row-5.new.events.items _ (row_of told row.Cloned) four c.in_ok-tell_row-5.ensures
+    let two = adds-both first start c.tell_row.new.events.items c.tell_row-2.new.events.items (row_drafts told row.Created) (row_drafts told row.Received) c.in_ok-tell_row.ensures c.in_ok-tell_row-2.ensures in
+    let three = adds-both first start c.tell_row-2.new.events.items c.tell_row-3.new.events.items _ (row_drafts told row.Forked) two c.in_ok-tell_row-3.ensures in
+    let four = adds-both first start c.tell_row-3.new.events.items c.tell_row-4.new.events.items _ (row_drafts told row.Joined) three c.in_ok-tell_row-4.ensures in
+    adds-both first start c.tell_row-4.new.events.items c.tell_row-5.new.events.items _ (row_drafts told row.Cloned) four c.in_ok-tell_row-5.ensures

@@ -3,14 +3,14 @@ use Rattle.std.specs.Prelude.{Some}
 use Rattle.flowfile_record.specs.Stored.{kept_of}
 use Rattle.flowfile_wal.specs.Steps.{LogState}
 use Rattle.flowfile_wal.proofs.Beginnings.{begun_in}
-use Rattle.store_core.specs.Store.{StoreState, state_in, IsKeptOn}
+use Rattle.store_core.specs.Store.{StoreState, store_in, IsKeptOn}
 use Rattle.store_core.proofs.Checkpointing.{MayCheckpoint, passed_next, renewed, kept_unless, images_taken, states_taken, alone_taken, images_dropped, states_dropped, alone_dropped, kept_dropped}
 use Rattle.store_core.proofs.store.Store.checkpoint.Goals as goal
 
 pub take_over-requires-clause-passed : goal.take_over-requires-clause-passed
 take_over-requires-clause-passed g c κs within =
     let i = c.self.inside in
-    let s = state_in i.state i.log i.entries i.contents i.opened.items i.events i.lot i.has_failed in
+    let s = store_in i.state i.log i.entries i.contents i.opened.items i.events i.lot i.has_failed in
     let now = c.args.self.now in
     let moment = g.D.Disk.moment in
     let images = g.D.Disk.images in
@@ -29,7 +29,7 @@ take_over-requires-clause-passed g c κs within =
 pub returns-in-Err-clause-meaning : goal.returns-in-Err-clause-meaning
 returns-in-Err-clause-meaning g c unfailed =
     let i = c.self.inside in
-    let s = state_in i.state i.log i.entries i.contents i.opened.items i.events i.lot i.has_failed in
+    let s = store_in i.state i.log i.entries i.contents i.opened.items i.events i.lot i.has_failed in
     let now = c.args.self.now in
     let moment = g.D.Disk.moment in
     let images = g.D.Disk.images in
@@ -49,7 +49,7 @@ returns-in-Err-clause-meaning g c unfailed =
 pub returns-in-Err-clause-alone : goal.returns-in-Err-clause-alone
 returns-in-Err-clause-alone g c =
     let i = c.self.inside in
-    let s = state_in i.state i.log i.entries i.contents i.opened.items i.events i.lot i.has_failed in
+    let s = store_in i.state i.log i.entries i.contents i.opened.items i.events i.lot i.has_failed in
     let now = c.args.self.now in
     let moment = g.D.Disk.moment in
     let images = g.D.Disk.images in
@@ -66,14 +66,14 @@ returns-in-Err-clause-alone g c =
 pub returns-in-Err-clause-kept : goal.returns-in-Err-clause-kept
 returns-in-Err-clause-kept g c =
     let i = c.self.inside in
-    let s = state_in i.state i.log i.entries i.contents i.opened.items i.events i.lot i.has_failed in
+    let s = store_in i.state i.log i.entries i.contents i.opened.items i.events i.lot i.has_failed in
     let same : c.eq-self-inside.result ≡ false → c.take_over.new.disk ≡ c.args.disk.now = λ f. search rules in
     kept_unless g.D.Disk.tells g.D.Disk.held g.D.Disk.moment g.D.Disk.images s c.args.self.now c.eq-self-inside.result c.args.disk.now c.take_over.new.disk c.self.view_is c.if-self.false same c.requires.kept
 
 pub begun-requires-after_bounds : goal.begun-requires-after_bounds
 begun-requires-after_bounds g c κs within =
     let i = c.self.inside in
-    let s = state_in i.state i.log i.entries i.contents i.opened.items i.events i.lot i.has_failed in
+    let s = store_in i.state i.log i.entries i.contents i.opened.items i.events i.lot i.has_failed in
     let now = c.args.self.now in
     let moment = g.D.Disk.moment in
     let images = g.D.Disk.images in
@@ -92,7 +92,7 @@ begun-requires-after_bounds g c κs within =
 pub returns-in_default-drop_log-clause-meaning : goal.returns-in_default-drop_log-clause-meaning
 returns-in_default-drop_log-clause-meaning g c unfailed =
     let i = c.self.inside in
-    let s = state_in i.state i.log i.entries i.contents i.opened.items i.events i.lot i.has_failed in
+    let s = store_in i.state i.log i.entries i.contents i.opened.items i.events i.lot i.has_failed in
     let now = c.args.self.now in
     let moment = g.D.Disk.moment in
     let images = g.D.Disk.images in
@@ -112,7 +112,7 @@ returns-in_default-drop_log-clause-meaning g c unfailed =
 pub returns-in_default-drop_log-clause-alone : goal.returns-in_default-drop_log-clause-alone
 returns-in_default-drop_log-clause-alone g c =
     let i = c.self.inside in
-    let s = state_in i.state i.log i.entries i.contents i.opened.items i.events i.lot i.has_failed in
+    let s = store_in i.state i.log i.entries i.contents i.opened.items i.events i.lot i.has_failed in
     let now = c.args.self.now in
     let moment = g.D.Disk.moment in
     let images = g.D.Disk.images in
@@ -129,7 +129,7 @@ returns-in_default-drop_log-clause-alone g c =
 pub returns-clause-meaning : goal.returns-clause-meaning
 returns-clause-meaning g c unfailed =
     let i = c.self.inside in
-    let s = state_in i.state i.log i.entries i.contents i.opened.items i.events i.lot i.has_failed in
+    let s = store_in i.state i.log i.entries i.contents i.opened.items i.events i.lot i.has_failed in
     let now = c.args.self.now in
     let moment = g.D.Disk.moment in
     let images = g.D.Disk.images in
@@ -149,7 +149,7 @@ returns-clause-meaning g c unfailed =
 pub returns-clause-alone : goal.returns-clause-alone
 returns-clause-alone g c =
     let i = c.self.inside in
-    let s = state_in i.state i.log i.entries i.contents i.opened.items i.events i.lot i.has_failed in
+    let s = store_in i.state i.log i.entries i.contents i.opened.items i.events i.lot i.has_failed in
     let now = c.args.self.now in
     let moment = g.D.Disk.moment in
     let images = g.D.Disk.images in
@@ -166,7 +166,7 @@ returns-clause-alone g c =
 pub returns-clause-kept : goal.returns-clause-kept
 returns-clause-kept g c =
     let i = c.self.inside in
-    let s = state_in i.state i.log i.entries i.contents i.opened.items i.events i.lot i.has_failed in
+    let s = store_in i.state i.log i.entries i.contents i.opened.items i.events i.lot i.has_failed in
     let now = c.args.self.now in
     let moment = g.D.Disk.moment in
     let images = g.D.Disk.images in

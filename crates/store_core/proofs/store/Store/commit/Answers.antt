@@ -12,13 +12,13 @@ use Rattle.content_repo.specs.Claims.{content_in}
 use Rattle.content_repo.specs.Slots.{count_of, held_in, references_to}
 use Rattle.flowfile_wal.specs.Steps.{LogState, IsFrame, IsReadyIn}
 use Rattle.kept_state.specs.Changes.{no_files, placed_in, record_of}
-use Rattle.kept_state.specs.Fits.{fits}
+use Rattle.kept_state.specs.Fits.{entry_suits}
 use Rattle.machine_model.specs.Changing.{state_after}
 use Rattle.store_core.specs.Committed.{PreparedChange}
 use Rattle.store_core.specs.Flow.{flow_in}
 use Rattle.store_core.specs.Placing.{contents_of, MayPlace, PlacesAll, StaysStored}
 use Rattle.store_core.specs.State.{stands_for}
-use Rattle.store_core.specs.Store.{StoreState, state_in, kept_by, IsWorking}
+use Rattle.store_core.specs.Store.{StoreState, store_in, kept_by, IsWorking}
 use Rattle.store_core.proofs.Agreeing.{of_state}
 use Rattle.store_core.proofs.Commits.{may_place, recorded_first, entry_acts, entry_room, entry_frame}
 use Rattle.store_core.proofs.Outcomes.{has_placed, has_change, placed_images, placed_states, placed_alone, placed_claims, numbered_of, has_logged, may_give_up, logged_images, logged_alone, logged_claims, logged_states, acknowledged_state as state_of_acknowledged, acknowledged_kept, acknowledged_claims, acknowledged_works, claims_grown, events_counted, kept_shared}
@@ -28,7 +28,7 @@ use Rattle.store_core.proofs.store.Store.commit.Goals as goal
 pub write_ahead-requires-clause-recorded : goal.write_ahead-requires-clause-recorded
 write_ahead-requires-clause-recorded g c κs within =
     let i = c.self.inside in
-    let s = state_in i.state i.log i.entries i.contents i.opened.items i.events i.lot i.has_failed in
+    let s = store_in i.state i.log i.entries i.contents i.opened.items i.events i.lot i.has_failed in
     let now = c.args.self.now in
     let view : s ≡ now = c.self.view_is in
     let change : PreparedChange = record { entry = c.prepared.inside.entry; settled = c.prepared.inside.settled.now; events = c.prepared.inside.events } in
@@ -40,7 +40,7 @@ write_ahead-requires-clause-recorded g c κs within =
 pub write_ahead-requires-clause-may : goal.write_ahead-requires-clause-may
 write_ahead-requires-clause-may g c κs within =
     let i = c.self.inside in
-    let s = state_in i.state i.log i.entries i.contents i.opened.items i.events i.lot i.has_failed in
+    let s = store_in i.state i.log i.entries i.contents i.opened.items i.events i.lot i.has_failed in
     let now = c.args.self.now in
     let view : s ≡ now = c.self.view_is in
     let change : PreparedChange = record { entry = c.prepared.inside.entry; settled = c.prepared.inside.settled.now; events = c.prepared.inside.events } in
@@ -56,7 +56,7 @@ write_ahead-requires-clause-may g c κs within =
 pub apply-requires-clause-fits : goal.apply-requires-clause-fits
 apply-requires-clause-fits g c =
     let i = c.self.inside in
-    let s = state_in i.state i.log i.entries i.contents i.opened.items i.events i.lot i.has_failed in
+    let s = store_in i.state i.log i.entries i.contents i.opened.items i.events i.lot i.has_failed in
     let now = c.args.self.now in
     let view : s ≡ now = c.self.view_is in
     let change : PreparedChange = record { entry = c.prepared.inside.entry; settled = c.prepared.inside.settled.now; events = c.prepared.inside.events } in
@@ -70,12 +70,12 @@ apply-requires-clause-fits g c =
     let held = g.D.Disk.held in
     let tells = g.D.Disk.tells in
     let has = has_placed tells held moment images s now change p e old mid view p_view (c.self.invariant.works c.if-self.false) c.if-self.false c.stored-stored.ensures.consistent c.stored-stored.ensures.no_batches c.requires.kept c.requires.prepared c.requires.contents c.requires.digests c.write_ahead.ensures.same c.write_ahead.ensures.images c.write_ahead.ensures.held in
-    ap (fits no_files i.state.kept) c.into_frame-entry.ensures.entry ∙ ap (λ (t : StoreState). fits no_files (kept_by t) e) view ∙ (entry_acts now p e has.consistent has.prepared has.same).fit
+    ap (entry_suits no_files i.state.kept) c.into_frame-entry.ensures.entry ∙ ap (λ (t : StoreState). entry_suits no_files (kept_by t) e) view ∙ (entry_acts now p e has.consistent has.prepared has.same).fit
 
 pub apply-requires-2-clause-fits : goal.apply-requires-2-clause-fits
 apply-requires-2-clause-fits g c =
     let i = c.self.inside in
-    let s = state_in i.state i.log i.entries i.contents i.opened.items i.events i.lot i.has_failed in
+    let s = store_in i.state i.log i.entries i.contents i.opened.items i.events i.lot i.has_failed in
     let now = c.args.self.now in
     let view : s ≡ now = c.self.view_is in
     let change : PreparedChange = record { entry = c.prepared.inside.entry; settled = c.prepared.inside.settled.now; events = c.prepared.inside.events } in
@@ -89,12 +89,12 @@ apply-requires-2-clause-fits g c =
     let held = g.D.Disk.held in
     let tells = g.D.Disk.tells in
     let has = has_placed tells held moment images s now change p e old mid view p_view (c.self.invariant.works c.if-self.false) c.if-self.false c.stored-stored.ensures.consistent c.stored-stored.ensures.no_batches c.requires.kept c.requires.prepared c.requires.contents c.requires.digests c.write_ahead.ensures.same c.write_ahead.ensures.images c.write_ahead.ensures.held in
-    ap (fits no_files i.state.kept) c.into_frame-entry-2.ensures.entry ∙ ap (λ (t : StoreState). fits no_files (kept_by t) e) view ∙ (entry_acts now p e has.consistent has.prepared has.same).fit
+    ap (entry_suits no_files i.state.kept) c.into_frame-entry-2.ensures.entry ∙ ap (λ (t : StoreState). entry_suits no_files (kept_by t) e) view ∙ (entry_acts now p e has.consistent has.prepared has.same).fit
 
 pub apply-requires-clause-room : goal.apply-requires-clause-room
 apply-requires-clause-room g c =
     let i = c.self.inside in
-    let s = state_in i.state i.log i.entries i.contents i.opened.items i.events i.lot i.has_failed in
+    let s = store_in i.state i.log i.entries i.contents i.opened.items i.events i.lot i.has_failed in
     let now = c.args.self.now in
     let view : s ≡ now = c.self.view_is in
     let change : PreparedChange = record { entry = c.prepared.inside.entry; settled = c.prepared.inside.settled.now; events = c.prepared.inside.events } in
@@ -114,7 +114,7 @@ apply-requires-clause-room g c =
 pub apply-requires-2-clause-room : goal.apply-requires-2-clause-room
 apply-requires-2-clause-room g c =
     let i = c.self.inside in
-    let s = state_in i.state i.log i.entries i.contents i.opened.items i.events i.lot i.has_failed in
+    let s = store_in i.state i.log i.entries i.contents i.opened.items i.events i.lot i.has_failed in
     let now = c.args.self.now in
     let view : s ≡ now = c.self.view_is in
     let change : PreparedChange = record { entry = c.prepared.inside.entry; settled = c.prepared.inside.settled.now; events = c.prepared.inside.events } in
@@ -134,7 +134,7 @@ apply-requires-2-clause-room g c =
 pub give_up-requires : goal.give_up-requires
 give_up-requires g c =
     let i = c.self.inside in
-    let s = state_in i.state i.log i.entries i.contents i.opened.items i.events i.lot i.has_failed in
+    let s = store_in i.state i.log i.entries i.contents i.opened.items i.events i.lot i.has_failed in
     let now = c.args.self.now in
     let view : s ≡ now = c.self.view_is in
     let change : PreparedChange = record { entry = c.prepared.inside.entry; settled = c.prepared.inside.settled.now; events = c.prepared.inside.events } in
@@ -162,7 +162,7 @@ give_up-requires g c =
 pub append-requires-clause-block : goal.append-requires-clause-block
 append-requires-clause-block g c κs within =
     let i = c.self.inside in
-    let s = state_in i.state i.log i.entries i.contents i.opened.items i.events i.lot i.has_failed in
+    let s = store_in i.state i.log i.entries i.contents i.opened.items i.events i.lot i.has_failed in
     let now = c.args.self.now in
     let view : s ≡ now = c.self.view_is in
     let change : PreparedChange = record { entry = c.prepared.inside.entry; settled = c.prepared.inside.settled.now; events = c.prepared.inside.events } in
@@ -182,7 +182,7 @@ append-requires-clause-block g c κs within =
 pub append-requires-clause-ready : goal.append-requires-clause-ready
 append-requires-clause-ready g c κs within =
     let i = c.self.inside in
-    let s = state_in i.state i.log i.entries i.contents i.opened.items i.events i.lot i.has_failed in
+    let s = store_in i.state i.log i.entries i.contents i.opened.items i.events i.lot i.has_failed in
     let now = c.args.self.now in
     let view : s ≡ now = c.self.view_is in
     let change : PreparedChange = record { entry = c.prepared.inside.entry; settled = c.prepared.inside.settled.now; events = c.prepared.inside.events } in
@@ -201,7 +201,7 @@ append-requires-clause-ready g c κs within =
 pub invariant_of-self-2 : goal.invariant_of-self-2
 invariant_of-self-2 g c =
     let i = c.self.inside in
-    let s = state_in i.state i.log i.entries i.contents i.opened.items i.events i.lot i.has_failed in
+    let s = store_in i.state i.log i.entries i.contents i.opened.items i.events i.lot i.has_failed in
     let now = c.args.self.now in
     let view : s ≡ now = c.self.view_is in
     let change : PreparedChange = record { entry = c.prepared.inside.entry; settled = c.prepared.inside.settled.now; events = c.prepared.inside.events } in
@@ -218,7 +218,7 @@ invariant_of-self-2 g c =
     let slots = c.write_ahead.new.contents in
     let placed : PlacesAll tells (held mid) change.settled.placed s.slots slots e = subst (λ (l : List Placed). PlacesAll tells (held mid) l s.slots slots e) c.as_slice.ensures c.in-Ok.ensures.placed in
     let framed : IsFrame e c.as_slice-3.result.now = entry_frame now p e c.as_slice-3.result.now has.consistent has.prepared has.same c.into_frame-entry-2.ensures.encoded (c.as_slice-3.ensures.value ∙ c.into_frame-entry-2.ensures.frame) in
-    let new = state_in c.apply-2.new.self c.append.new.self c.saturating_add-self-inside.result c.give_up.new.contents i.opened.items c.write_ahead.new.events i.lot i.has_failed in
+    let new = store_in c.apply-2.new.self c.append.new.self c.saturating_add-self-inside.result c.give_up.new.contents i.opened.items c.write_ahead.new.events i.lot i.has_failed in
     let end = c.append.new.disk in
     let laws = g.met.D.Disk g.world.𝓛 g.world.𝓜 g.world.𝓡 ((λ s x. x), (λ x. x), (λ x. x), λ x. x) in
     let number = numbered_of i.log.number c.self.invariant.current in
@@ -242,7 +242,7 @@ invariant_of-self-2 g c =
 pub returns-in_default-clause-changed : goal.returns-in_default-clause-changed
 returns-in_default-clause-changed g c works =
     let i = c.self.inside in
-    let s = state_in i.state i.log i.entries i.contents i.opened.items i.events i.lot i.has_failed in
+    let s = store_in i.state i.log i.entries i.contents i.opened.items i.events i.lot i.has_failed in
     let now = c.args.self.now in
     let view : s ≡ now = c.self.view_is in
     let change : PreparedChange = record { entry = c.prepared.inside.entry; settled = c.prepared.inside.settled.now; events = c.prepared.inside.events } in
@@ -256,7 +256,7 @@ returns-in_default-clause-changed g c works =
     let held = g.D.Disk.held in
     let tells = g.D.Disk.tells in
     let has = has_placed tells held moment images s now change p e old mid view p_view (c.self.invariant.works c.if-self.false) c.if-self.false c.stored-stored.ensures.consistent c.stored-stored.ensures.no_batches c.requires.kept c.requires.prepared c.requires.contents c.requires.digests c.write_ahead.ensures.same c.write_ahead.ensures.images c.write_ahead.ensures.held in
-    let new = state_in c.apply.new.self i.log i.entries c.write_ahead.new.contents i.opened.items c.write_ahead.new.events i.lot true in
+    let new = store_in c.apply.new.self i.log i.entries c.write_ahead.new.contents i.opened.items c.write_ahead.new.events i.lot true in
     record {
       change = has_change s now new change p c.write_ahead.new.entry c.into_frame-entry.result.0 view p_view c.write_ahead.ensures.same (subst (λ (l : List Placed). AllZip StaysStored l (placed_in e)) c.as_slice.ensures c.write_ahead.ensures.stays) c.into_frame-entry.ensures.entry c.apply.ensures.kept refl refl refl;
       holds = placed_images tells held moment images now p e old mid new has;
@@ -266,7 +266,7 @@ returns-in_default-clause-changed g c works =
 pub returns-in_default-clause-touched : goal.returns-in_default-clause-touched
 returns-in_default-clause-touched g c =
     let i = c.self.inside in
-    let s = state_in i.state i.log i.entries i.contents i.opened.items i.events i.lot i.has_failed in
+    let s = store_in i.state i.log i.entries i.contents i.opened.items i.events i.lot i.has_failed in
     let now = c.args.self.now in
     let view : s ≡ now = c.self.view_is in
     let change : PreparedChange = record { entry = c.prepared.inside.entry; settled = c.prepared.inside.settled.now; events = c.prepared.inside.events } in
@@ -285,7 +285,7 @@ returns-in_default-clause-touched g c =
 pub returns-in_default-append-clause-changed : goal.returns-in_default-append-clause-changed
 returns-in_default-append-clause-changed g c works =
     let i = c.self.inside in
-    let s = state_in i.state i.log i.entries i.contents i.opened.items i.events i.lot i.has_failed in
+    let s = store_in i.state i.log i.entries i.contents i.opened.items i.events i.lot i.has_failed in
     let now = c.args.self.now in
     let view : s ≡ now = c.self.view_is in
     let change : PreparedChange = record { entry = c.prepared.inside.entry; settled = c.prepared.inside.settled.now; events = c.prepared.inside.events } in
@@ -302,7 +302,7 @@ returns-in_default-append-clause-changed g c works =
     let slots = c.write_ahead.new.contents in
     let placed : PlacesAll tells (held mid) change.settled.placed s.slots slots e = subst (λ (l : List Placed). PlacesAll tells (held mid) l s.slots slots e) c.as_slice.ensures c.in-Ok.ensures.placed in
     let framed : IsFrame e c.as_slice-3.result.now = entry_frame now p e c.as_slice-3.result.now has.consistent has.prepared has.same c.into_frame-entry-2.ensures.encoded (c.as_slice-3.ensures.value ∙ c.into_frame-entry-2.ensures.frame) in
-    let new = state_in c.apply-2.new.self c.append.new.self i.entries c.give_up.new.contents i.opened.items c.write_ahead.new.events i.lot true in
+    let new = store_in c.apply-2.new.self c.append.new.self i.entries c.give_up.new.contents i.opened.items c.write_ahead.new.events i.lot true in
     let end = c.append.new.disk in
     let laws = g.met.D.Disk g.world.𝓛 g.world.𝓜 g.world.𝓡 ((λ s x. x), (λ x. x), (λ x. x), λ x. x) in
     let number = numbered_of i.log.number c.self.invariant.current in
@@ -316,7 +316,7 @@ returns-in_default-append-clause-changed g c works =
 pub returns-in_default-append-clause-touched : goal.returns-in_default-append-clause-touched
 returns-in_default-append-clause-touched g c =
     let i = c.self.inside in
-    let s = state_in i.state i.log i.entries i.contents i.opened.items i.events i.lot i.has_failed in
+    let s = store_in i.state i.log i.entries i.contents i.opened.items i.events i.lot i.has_failed in
     let now = c.args.self.now in
     let view : s ≡ now = c.self.view_is in
     let change : PreparedChange = record { entry = c.prepared.inside.entry; settled = c.prepared.inside.settled.now; events = c.prepared.inside.events } in
@@ -333,7 +333,7 @@ returns-in_default-append-clause-touched g c =
     let slots = c.write_ahead.new.contents in
     let placed : PlacesAll tells (held mid) change.settled.placed s.slots slots e = subst (λ (l : List Placed). PlacesAll tells (held mid) l s.slots slots e) c.as_slice.ensures c.in-Ok.ensures.placed in
     let framed : IsFrame e c.as_slice-3.result.now = entry_frame now p e c.as_slice-3.result.now has.consistent has.prepared has.same c.into_frame-entry-2.ensures.encoded (c.as_slice-3.ensures.value ∙ c.into_frame-entry-2.ensures.frame) in
-    let new = state_in c.apply-2.new.self c.append.new.self i.entries c.give_up.new.contents i.opened.items c.write_ahead.new.events i.lot true in
+    let new = store_in c.apply-2.new.self c.append.new.self i.entries c.give_up.new.contents i.opened.items c.write_ahead.new.events i.lot true in
     let end = c.append.new.disk in
     let laws = g.met.D.Disk g.world.𝓛 g.world.𝓜 g.world.𝓡 ((λ s x. x), (λ x. x), (λ x. x), λ x. x) in
     let number = numbered_of i.log.number c.self.invariant.current in
@@ -343,7 +343,7 @@ returns-in_default-append-clause-touched g c =
 pub returns-clause-changed : goal.returns-clause-changed
 returns-clause-changed g c works =
     let i = c.self.inside in
-    let s = state_in i.state i.log i.entries i.contents i.opened.items i.events i.lot i.has_failed in
+    let s = store_in i.state i.log i.entries i.contents i.opened.items i.events i.lot i.has_failed in
     let now = c.args.self.now in
     let view : s ≡ now = c.self.view_is in
     let change : PreparedChange = record { entry = c.prepared.inside.entry; settled = c.prepared.inside.settled.now; events = c.prepared.inside.events } in
@@ -360,7 +360,7 @@ returns-clause-changed g c works =
     let slots = c.write_ahead.new.contents in
     let placed : PlacesAll tells (held mid) change.settled.placed s.slots slots e = subst (λ (l : List Placed). PlacesAll tells (held mid) l s.slots slots e) c.as_slice.ensures c.in-Ok.ensures.placed in
     let framed : IsFrame e c.as_slice-3.result.now = entry_frame now p e c.as_slice-3.result.now has.consistent has.prepared has.same c.into_frame-entry-2.ensures.encoded (c.as_slice-3.ensures.value ∙ c.into_frame-entry-2.ensures.frame) in
-    let new = state_in c.apply-2.new.self c.append.new.self c.saturating_add-self-inside.result c.give_up.new.contents i.opened.items c.write_ahead.new.events i.lot i.has_failed in
+    let new = store_in c.apply-2.new.self c.append.new.self c.saturating_add-self-inside.result c.give_up.new.contents i.opened.items c.write_ahead.new.events i.lot i.has_failed in
     let end = c.append.new.disk in
     let laws = g.met.D.Disk g.world.𝓛 g.world.𝓜 g.world.𝓡 ((λ s x. x), (λ x. x), (λ x. x), λ x. x) in
     let number = numbered_of i.log.number c.self.invariant.current in
@@ -374,7 +374,7 @@ returns-clause-changed g c works =
 pub returns-clause-touched : goal.returns-clause-touched
 returns-clause-touched g c =
     let i = c.self.inside in
-    let s = state_in i.state i.log i.entries i.contents i.opened.items i.events i.lot i.has_failed in
+    let s = store_in i.state i.log i.entries i.contents i.opened.items i.events i.lot i.has_failed in
     let now = c.args.self.now in
     let view : s ≡ now = c.self.view_is in
     let change : PreparedChange = record { entry = c.prepared.inside.entry; settled = c.prepared.inside.settled.now; events = c.prepared.inside.events } in
@@ -391,7 +391,7 @@ returns-clause-touched g c =
     let slots = c.write_ahead.new.contents in
     let placed : PlacesAll tells (held mid) change.settled.placed s.slots slots e = subst (λ (l : List Placed). PlacesAll tells (held mid) l s.slots slots e) c.as_slice.ensures c.in-Ok.ensures.placed in
     let framed : IsFrame e c.as_slice-3.result.now = entry_frame now p e c.as_slice-3.result.now has.consistent has.prepared has.same c.into_frame-entry-2.ensures.encoded (c.as_slice-3.ensures.value ∙ c.into_frame-entry-2.ensures.frame) in
-    let new = state_in c.apply-2.new.self c.append.new.self c.saturating_add-self-inside.result c.give_up.new.contents i.opened.items c.write_ahead.new.events i.lot i.has_failed in
+    let new = store_in c.apply-2.new.self c.append.new.self c.saturating_add-self-inside.result c.give_up.new.contents i.opened.items c.write_ahead.new.events i.lot i.has_failed in
     let end = c.append.new.disk in
     let laws = g.met.D.Disk g.world.𝓛 g.world.𝓜 g.world.𝓡 ((λ s x. x), (λ x. x), (λ x. x), λ x. x) in
     let number = numbered_of i.log.number c.self.invariant.current in
@@ -405,7 +405,7 @@ returns-clause-touched g c =
 pub returns-clause-kept : goal.returns-clause-kept
 returns-clause-kept g c =
     let i = c.self.inside in
-    let s = state_in i.state i.log i.entries i.contents i.opened.items i.events i.lot i.has_failed in
+    let s = store_in i.state i.log i.entries i.contents i.opened.items i.events i.lot i.has_failed in
     let now = c.args.self.now in
     let view : s ≡ now = c.self.view_is in
     let change : PreparedChange = record { entry = c.prepared.inside.entry; settled = c.prepared.inside.settled.now; events = c.prepared.inside.events } in
@@ -422,7 +422,7 @@ returns-clause-kept g c =
     let slots = c.write_ahead.new.contents in
     let placed : PlacesAll tells (held mid) change.settled.placed s.slots slots e = subst (λ (l : List Placed). PlacesAll tells (held mid) l s.slots slots e) c.as_slice.ensures c.in-Ok.ensures.placed in
     let framed : IsFrame e c.as_slice-3.result.now = entry_frame now p e c.as_slice-3.result.now has.consistent has.prepared has.same c.into_frame-entry-2.ensures.encoded (c.as_slice-3.ensures.value ∙ c.into_frame-entry-2.ensures.frame) in
-    let new = state_in c.apply-2.new.self c.append.new.self c.saturating_add-self-inside.result c.give_up.new.contents i.opened.items c.write_ahead.new.events i.lot i.has_failed in
+    let new = store_in c.apply-2.new.self c.append.new.self c.saturating_add-self-inside.result c.give_up.new.contents i.opened.items c.write_ahead.new.events i.lot i.has_failed in
     let end = c.append.new.disk in
     let laws = g.met.D.Disk g.world.𝓛 g.world.𝓜 g.world.𝓡 ((λ s x. x), (λ x. x), (λ x. x), λ x. x) in
     let number = numbered_of i.log.number c.self.invariant.current in
@@ -433,7 +433,7 @@ returns-clause-kept g c =
 pub returns-clause-acknowledged : goal.returns-clause-acknowledged
 returns-clause-acknowledged g c =
     let i = c.self.inside in
-    let s = state_in i.state i.log i.entries i.contents i.opened.items i.events i.lot i.has_failed in
+    let s = store_in i.state i.log i.entries i.contents i.opened.items i.events i.lot i.has_failed in
     let now = c.args.self.now in
     let view : s ≡ now = c.self.view_is in
     let change : PreparedChange = record { entry = c.prepared.inside.entry; settled = c.prepared.inside.settled.now; events = c.prepared.inside.events } in
@@ -450,7 +450,7 @@ returns-clause-acknowledged g c =
     let slots = c.write_ahead.new.contents in
     let placed : PlacesAll tells (held mid) change.settled.placed s.slots slots e = subst (λ (l : List Placed). PlacesAll tells (held mid) l s.slots slots e) c.as_slice.ensures c.in-Ok.ensures.placed in
     let framed : IsFrame e c.as_slice-3.result.now = entry_frame now p e c.as_slice-3.result.now has.consistent has.prepared has.same c.into_frame-entry-2.ensures.encoded (c.as_slice-3.ensures.value ∙ c.into_frame-entry-2.ensures.frame) in
-    let new = state_in c.apply-2.new.self c.append.new.self c.saturating_add-self-inside.result c.give_up.new.contents i.opened.items c.write_ahead.new.events i.lot i.has_failed in
+    let new = store_in c.apply-2.new.self c.append.new.self c.saturating_add-self-inside.result c.give_up.new.contents i.opened.items c.write_ahead.new.events i.lot i.has_failed in
     let end = c.append.new.disk in
     let laws = g.met.D.Disk g.world.𝓛 g.world.𝓜 g.world.𝓡 ((λ s x. x), (λ x. x), (λ x. x), λ x. x) in
     let number = numbered_of i.log.number c.self.invariant.current in

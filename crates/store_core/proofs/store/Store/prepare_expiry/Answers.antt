@@ -6,14 +6,14 @@ use Rattle.kept_state.specs.Changes.{expiry_entry}
 use Rattle.kept_state.specs.Limits.{numbers_limit}
 use Rattle.kept_state.proofs.Expiring.{expiry_settles}
 use Rattle.store_core.specs.Change.{MayExpire, kept_with}
-use Rattle.store_core.specs.Store.{StoreState, state_in, kept_by}
+use Rattle.store_core.specs.Store.{StoreState, store_in, kept_by}
 use Rattle.store_core.proofs.Expiring.{expiry_prepared, expiry_within}
 use Rattle.store_core.proofs.store.Store.prepare_expiry.Goals as goal
 
 pub numbers_limit-requires : goal.numbers_limit-requires
 numbers_limit-requires c =
     let i = c.self.inside in
-    let s = state_in i.state i.log i.entries i.contents i.opened.items i.events i.lot i.has_failed in
+    let s = store_in i.state i.log i.entries i.contents i.opened.items i.events i.lot i.has_failed in
     let x = c.args.expiry.now in
     let may = subst (λ (t : StoreState). MayExpire (kept_by t) x) (sym c.self.view_is) c.requires in
     expiry_settles (kept_by s) x.connection x.settled c.stored.ensures.consistent may.expires
@@ -21,7 +21,7 @@ numbers_limit-requires c =
 pub returns-clause-prepared : goal.returns-clause-prepared
 returns-clause-prepared c =
     let i = c.self.inside in
-    let s = state_in i.state i.log i.entries i.contents i.opened.items i.events i.lot i.has_failed in
+    let s = store_in i.state i.log i.entries i.contents i.opened.items i.events i.lot i.has_failed in
     let x = c.args.expiry.now in
     let view : s ≡ c.args.self.now = c.self.view_is in
     let was = subst (λ (t : StoreState). IsConsistent (kept_by t)) view c.stored.ensures.consistent in
@@ -36,7 +36,7 @@ returns-clause-prepared c =
 pub returns-clause-within : goal.returns-clause-within
 returns-clause-within c =
     let i = c.self.inside in
-    let s = state_in i.state i.log i.entries i.contents i.opened.items i.events i.lot i.has_failed in
+    let s = store_in i.state i.log i.entries i.contents i.opened.items i.events i.lot i.has_failed in
     let x = c.args.expiry.now in
     let view : s ≡ c.args.self.now = c.self.view_is in
     let was = subst (λ (t : StoreState). IsConsistent (kept_by t)) view c.stored.ensures.consistent in

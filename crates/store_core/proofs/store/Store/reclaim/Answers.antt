@@ -2,7 +2,7 @@ use Rattle.std.proofs.Common.{sym, subst}
 use Rattle.content_repo.specs.Claims.{AreEmptied}
 use Rattle.content_repo.specs.Slots.{IsReclaimed}
 use Rattle.store_core.specs.Calls.{KeepsMeaning}
-use Rattle.store_core.specs.Store.{StoreState, state_in, IsKeptOn}
+use Rattle.store_core.specs.Store.{StoreState, store_in, IsKeptOn}
 use Rattle.store_core.proofs.Closing.{states_reclaimed}
 use Rattle.store_core.proofs.Reclaiming.{since_reclaimed, kept_reclaimed, sound_reclaimed}
 use Rattle.store_core.proofs.store.Store.reclaim.Goals as goal
@@ -10,13 +10,13 @@ use Rattle.store_core.proofs.store.Store.reclaim.Goals as goal
 pub invariant_of-self : goal.invariant_of-self
 invariant_of-self g c =
     let i = c.self.inside in
-    let s = state_in i.state i.log i.entries i.contents i.opened.items i.events i.lot i.has_failed in
+    let s = store_in i.state i.log i.entries i.contents i.opened.items i.events i.lot i.has_failed in
     sound_reclaimed s c.reclaim.new.self c.in-Ok.reclaimed c.self.invariant c.if-self.false c.in-Ok.ensures.reclaimed
 
 pub returns-in_default-clause-meaning : goal.returns-in_default-clause-meaning
 returns-in_default-clause-meaning g c works =
     let i = c.self.inside in
-    let s = state_in i.state i.log i.entries i.contents i.opened.items i.events i.lot i.has_failed in
+    let s = store_in i.state i.log i.entries i.contents i.opened.items i.events i.lot i.has_failed in
     let moment = g.D.Disk.moment in
     let images = g.D.Disk.images in
     let old = c.args.disk.now in
@@ -31,7 +31,7 @@ returns-in_default-clause-meaning g c works =
 pub returns-clause-meaning : goal.returns-clause-meaning
 returns-clause-meaning g c works =
     let i = c.self.inside in
-    let s = state_in i.state i.log i.entries i.contents i.opened.items i.events i.lot i.has_failed in
+    let s = store_in i.state i.log i.entries i.contents i.opened.items i.events i.lot i.has_failed in
     let moment = g.D.Disk.moment in
     let images = g.D.Disk.images in
     let old = c.args.disk.now in
@@ -46,7 +46,7 @@ returns-clause-meaning g c works =
 pub returns-clause-kept : goal.returns-clause-kept
 returns-clause-kept g c =
     let i = c.self.inside in
-    let s = state_in i.state i.log i.entries i.contents i.opened.items i.events i.lot i.has_failed in
+    let s = store_in i.state i.log i.entries i.contents i.opened.items i.events i.lot i.has_failed in
     let moment = g.D.Disk.moment in
     let images = g.D.Disk.images in
     let kept = subst (λ (t : StoreState). IsKeptOn g.D.Disk.tells g.D.Disk.held moment images t c.args.disk.now) (sym c.self.view_is) c.requires in
