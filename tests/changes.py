@@ -17,7 +17,7 @@ import stat
 import subprocess
 
 import store_format
-from support import (DONE, INBOX, MARK, MARKER, OUTBOX, THE_TEXT, Report, find_program, names, need, new_folder,
+from support import (DAMAGED, DONE, INBOX, MARK, MARKER, OUTBOX, THE_TEXT, Report, find_program, names, need, new_folder,
                      none_aside, options, read_files, run, stopped_in, work_folder, write_files)
 
 CONTENT_MAX = 16_777_216
@@ -97,6 +97,19 @@ class Cases:
                 need(status == INBOX, f"status {status}")
                 need(names(folder / "in") == left, f"in holds {names(folder / 'in')}")
                 need(names(folder / "out") == [], f"out holds {names(folder / 'out')}")
+
+    def other_content(self):
+        """A claim has other bytes than were written to it: the reading before the put finds that."""
+        def change(folder):
+            with open(folder / "store" / "claim-0", "r+b") as file:
+                file.write(b"X")
+
+        with work_folder(self.parent) as folder:
+            write_files(folder / "in", FILES)
+            # By then the content is acknowledged.
+            status, _ = stopped_in(self.program, folder, "in/a", "rename", 1, change)
+            need(status == DAMAGED, f"status {status}")
+            need(names(folder / "out") == [], f"out holds {names(folder / 'out')}")
 
     def other_outbox(self):
         """Another folder takes the outbox's place between two puts: the second one is synced there."""
@@ -194,8 +207,15 @@ class Cases:
             aside.mkdir()
             write_files(aside, {"mine": b"mine"})
 
+        def put_folders_there(aside):
+            # A file system may give a new one the inode of one that went.
+            for _ in range(4):
+                aside.mkdir()
+                aside.rmdir()
+            aside.mkdir()
+
         for make in (lambda aside: aside.write_bytes(b"mine"), lambda aside: os.symlink(".", aside), os.mkfifo,
-                     os.mkdir, put_folder_there):
+                     os.mkdir, put_folder_there, put_folders_there):
             def replace_it(aside, make=make):
                 shutil.rmtree(aside)
                 make(aside)
@@ -223,7 +243,8 @@ class Cases:
             with work_folder(self.parent) as folder:
                 write_files(folder / "in", FILES)
                 (folder / "out").mkdir()
-                status, _ = stopped_in(self.program, folder, "out", "statx", 3, move)
+                # Behind the sync of what it wrote. The marker's sync is the eighth, and the first put makes two.
+                status, _ = stopped_in(self.program, folder, None, "fsync", 11, move)
                 need(status == OUTBOX, f"status {status}")
                 need(names(folder / "old") == [ASIDE, "a"], f"old holds {names(folder / 'old')}")
                 need(len(names(folder / "old" / ASIDE)) == 2, f"aside there is {names(folder / 'old' / ASIDE)}")
@@ -351,6 +372,7 @@ def main():
             ("it is removed between the readings: 6, nothing taken", cases.removed),
             ("a link, a pipe or a folder takes its place: 6, nothing taken", cases.replaced_by_another_kind),
             ("it goes, becomes a pipe or too large behind the listing: 6, nothing taken", cases.behind_the_listing),
+            ("a content has other bytes than were written: 4, nothing put", cases.other_content),
             ("another folder takes the outbox's place between two puts: that one is synced", cases.other_outbox),
             ("the outbox is moved away between two puts: 7, and later delivered", cases.no_outbox),
             ("each look at a file of the inbox, the outbox or its folder aside is refused alone", cases.refused_looks),

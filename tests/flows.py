@@ -27,10 +27,12 @@ TEXT_MAX = 4_194_304
 
 # ---- flows
 
-# The own patterns of processors, and how many bytes of memory a run may take for each of them, itself included.
+# The own patterns of processors. How many bytes of memory a run may take for each of them: in all, where it holds them;
+# and beside what it takes without them, where it lets those of each processor go.
 MANY = [{f"p{one:02}": f"name=([a-z]+);x={place:03}{one:02}" for one in range(64)} for place in range(40)]
 PATTERNS = sum(map(len, MANY))
 MOST_OF_A_PATTERN = 30_000
+MOST_OF_ONE_LET_GO = 3_000
 
 
 def ring(penalty=0, more=(), **fields):
@@ -459,20 +461,30 @@ class Cases:
         return f"{len(texts)} texts"
 
     def many_patterns(self):
-        """A text of many patterns of which one can't be read: 3, in little time and memory, wherever that stands."""
-        peaks = []
-        for place in (0, len(MANY) - 1):
-            finders = [processor(f"f{number}", "ExtractText", dict(own), ["matched", "unmatched"])
-                       for number, own in enumerate(MANY)]
-            finders[place]["properties"]["p00"] = "("
-            with self.folder(flow([source("get"), *finders, let_go("put", "fail")],
-                                  [queue("c1", "get", "put")])) as folder:
-                ended = self.run(folder, REFUSED)
-                need(ended.said == b"flow refused: rule 8 at /processors/%d/properties/p00\n" % (place + 1),
-                     f"it printed {ended.said!r}")
-                need(ended.peak < MOST_OF_A_PATTERN * PATTERNS, f"it takes {ended.peak:,} bytes")
-                peaks.append(ended.peak)
-        return f"{PATTERNS} patterns, {max(peaks) / 1e6:.0f} MB"
+        """Texts of many patterns that are refused: 3, in little time and memory. Where a pattern can't be read, those
+        of the processors before it are held until then. Behind it, and where another rule is broken, only those of one
+        processor at a time are."""
+        bare = self.peak_of_patterns([{"p00": "("}, *({} for _ in MANY[1:])], 8, "/processors/1/properties/p00")
+        held, gone = MOST_OF_A_PATTERN * PATTERNS, bare + MOST_OF_ONE_LET_GO * PATTERNS
+        last = len(MANY) - 1
+        peaks = [self.peak_of_patterns(MANY, 11, "/connections/0/more", more=1)]
+        need(peaks[0] < gone, f"{peaks[0]:,} bytes with an unknown field, {bare:,} without patterns")
+        for place, name, most in ((0, "p00", gone), (0, "p63", gone), (last, "p00", held), (last, "p63", held)):
+            own = [dict(texts) for texts in MANY]
+            own[place][name] = "("
+            peaks.append(self.peak_of_patterns(own, 8, f"/processors/{place + 1}/properties/{name}"))
+            need(peaks[-1] < most, f"{peaks[-1]:,} bytes with {name} of processor {place}, {bare:,} without patterns")
+        return f"{PATTERNS} patterns, {' '.join(f'{peak / 1e6:.1f}' for peak in (bare, *peaks))} MB"
+
+    def peak_of_patterns(self, own, rule, place, **fields):
+        """The most memory, in bytes, that a text of these own patterns takes until it is refused."""
+        finders = [processor(f"f{number}", "ExtractText", texts, ["matched", "unmatched"])
+                   for number, texts in enumerate(own)]
+        with self.folder(flow([source("get"), *finders, let_go("put", "fail")],
+                              [queue("c1", "get", "put", **fields)])) as folder:
+            ended = self.run(folder, REFUSED)
+            need(ended.said == f"flow refused: rule {rule} at {place}\n".encode(), f"it printed {ended.said!r}")
+            return ended.peak
 
     def which_is_told(self):
         """Of several causes the words come first, then the text, its rules, the store, the inbox."""

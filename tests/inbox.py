@@ -7,8 +7,11 @@ bytes: a flow delivers each file under a name of its own, so all deliveries can 
 file arrives, at least once; a change that falls between the last reading and the removal is told by status 6; what can't
 be removed isn't taken.
 
+A file that was written to lately is waited for, by a listing or a reading; who goes on writing to it keeps it in `in`.
+
 Then versions are handed in by rename beside runs without end, so that each is known to be taken or to be still there; and
-writers append to files in `in`, which nobody should: how many of those arrive cut is counted, and no case fails by it.
+writers append to files in `in`, which nobody should: none of those arrives cut but one whose writer paused for as long as
+a run waits.
 """
 
 import contextlib
@@ -24,8 +27,8 @@ import subprocess
 import threading
 import time
 
-from support import (DONE, INBOX, Report, find_program, in_memory, names, need, new_folder, options, parse_seeded,
-                     read_files, run, stopped_in, work_folder, write_files)
+from support import (DONE, INBOX, Report, age, find_program, in_memory, names, need, need_status, new_folder, options,
+                     parse_seeded, read_files, run, stopped_in, traced, work_folder, write_files)
 
 # Each file gets its identifier as its name.
 FLOW = json.dumps({
@@ -50,6 +53,10 @@ ASIDE = ".flow-taken-0-a"
 PATHS = ["in", "in/a", f"in/{ASIDE}"]
 
 AT_FDCWD, NOREPLACE, EXCHANGE = -100, 1, 2
+
+# For how many seconds nobody has to have written to a file before it is taken. The times of files have ticks, of ten
+# milliseconds at most.
+SETTLE, TICK = 0.2, 0.01
 
 
 class Stop:
@@ -369,6 +376,73 @@ class Cases:
             need(NEWER in delivered(folder), "what waited isn't delivered")
             need(names(folder / "in") == sorted([*near, ".flow-taken-0-d"]), f"in holds {names(folder / 'in')}")
 
+    # Files that were written to lately.
+
+    def sleeps(self, prepare, wanted):
+        """How often a run sleeps, with what is made of `in` once that was opened for the listing."""
+        with self.folder() as folder:
+            status, calls = stopped_in(self.program, folder, None, "openat", self.opened,
+                                       lambda folder: prepare(folder / "in"),
+                                       more=["-e", "trace=openat,nanosleep,clock_nanosleep"])
+            need(status == DONE, f"status {status}")
+            need(sorted(delivered(folder)) == sorted(wanted), f"{delivered(folder)} were delivered")
+            return sum(call.endswith("nanosleep") for call in calls)
+
+    def lets_settle(self):
+        """A run waits once, for all files that were just written, and takes them. It waits for no other file."""
+        def write_three(inbox):
+            for name in ("a", "c", "d"):
+                (inbox / name).write_bytes(MORE)
+
+        def hand_in_three(inbox):
+            write_three(inbox.parent)
+            time.sleep(4 * TICK)
+            for name in ("a", "c", "d"):
+                os.rename(inbox.parent / name, inbox / name)
+
+        def date_in_the_future(inbox):
+            write_three(inbox)
+            for name in ("a", "c", "d"):
+                os.utime(inbox / name, (time.time() + 3600, time.time() + 3600))
+
+        with self.folder() as folder:
+            opened = re.findall(r'openat\([^"]*"([^"]*?)/?"', traced(self.program, folder, "openat")[2])
+            self.opened = 1 + opened.index("in")
+        three = [MORE, MORE, MORE, OTHER]
+        for name, prepare, wanted, sleeps in (
+                ("old files", lambda inbox: None, [FIRST, OTHER], 0), ("files just written", write_three, three, 1),
+                ("files handed in by a rename", hand_in_three, three, 0),
+                ("files dated in the future", date_in_the_future, three, 0)):
+            found = self.sleeps(prepare, wanted)
+            need(found == sleeps, f"for {name} a run sleeps {found} times")
+
+    def stays_while_it_is_written(self):
+        """A run leaves a file that is being written, and takes what is old; the next one waits for its end."""
+        with self.folder() as folder:
+            with written_on(folder / "in" / "a"):
+                ended = run(self.program, folder)
+                need_status(ended, DONE)
+                need(delivered(folder) == [OTHER], f"{delivered(folder)} were delivered")
+                need(b"\ninbox 0\n" in ended.said, f"it said {ended.said!r}")
+            whole = (folder / "in" / "a").read_bytes()
+            need(run(self.program, folder).status == DONE, "the next run doesn't end with 0")
+            need(sorted(delivered(folder)) == sorted([OTHER, whole]), "the next run doesn't deliver it whole")
+
+    def written_behind_the_listing(self):
+        """Who begins to write to a file behind the look of a run's listing, or between its readings, is found by the next
+        reading: 6, nothing taken of it."""
+        for call in ("statx", "pread64"):
+            with self.folder() as folder, contextlib.ExitStack() as writing:
+                status, _ = stopped_in(self.program, folder, "in/a", call, 1,
+                                       lambda folder, writing=writing: writing.enter_context(
+                                           written_on(folder / "in" / "a")))
+                need(status == INBOX and FIRST not in [each[:len(FIRST)] for each in delivered(folder)],
+                     f"{call}: status {status}, {delivered(folder)} were delivered")
+                writing.close()
+                whole = (folder / "in" / "a").read_bytes()
+                self.to_the_end(folder, 1)
+                need(sorted(delivered(folder)) == sorted([OTHER, whole]), f"{call}: it isn't delivered whole, and once")
+
     # Beside runs without end.
 
     @contextlib.contextmanager
@@ -413,12 +487,12 @@ class Cases:
                     f"{len(found)} runs, {found.count(INBOX)} with 6")
 
     def written_beside(self):
-        """Writers append to files in `in` for a second each. A file whose writer still writes when it is removed is cut."""
+        """Writers append to files in `in` for a second each. None arrives cut but one whose writer paused for so long."""
         with self.folder({}, on_disk=True) as folder:
-            texts = {}
+            texts, pauses = {}, {}
             with self.runs_beside(folder) as found:
                 for first in range(0, self.writers, 10):
-                    threads = [threading.Thread(target=append_for_a_second, args=(folder, number, texts))
+                    threads = [threading.Thread(target=append_for_a_second, args=(folder, number, texts, pauses))
                                for number in range(first, min(first + 10, self.writers))]
                     for thread in threads:
                         thread.start()
@@ -426,10 +500,14 @@ class Cases:
                         thread.join()
             self.to_the_end(folder)
             got = set(delivered(folder))
-            cut = sum(text not in got for text in texts.values())
+            cut = [number for number, text in texts.items() if text not in got]
             strange = [bytes_ for bytes_ in got if not any(text.startswith(bytes_) for text in texts.values())]
             need(not strange, f"{len(strange)} deliveries are no beginning of a file")
-            return f"{len(texts)} writers: {len(texts) - cut} arrived whole, {cut} cut; {found.count(INBOX)} runs with 6"
+            steady = [number for number in cut if pauses[number] < SETTLE - TICK]
+            need(not steady, f"{len(cut)} of {len(texts)} arrived cut, {len(steady)} of them with no pause")
+            paused = sum(pause >= SETTLE - TICK for pause in pauses.values())
+            return (f"{len(texts)} writers, {paused} of which paused: {len(texts) - len(cut)} arrived whole, {len(cut)} cut; "
+                    f"{len(found)} runs, {found.count(INBOX)} with 6")
 
 
 def run_quietly(program, folder):
@@ -444,16 +522,42 @@ def wait_until(holds, seconds):
         time.sleep(0.001)
 
 
-def append_for_a_second(folder, number, texts):
-    text = b""
+def append_for_a_second(folder, number, texts, pauses):
+    """Notes what it wrote, and for how long it paused at most: from before one write to behind the next."""
+    text, longest = b"", 0.0
+    last = time.monotonic()
+    end = last + 1
     with open(folder / "in" / f"w{number}", "ab", buffering=0) as file:
-        end = time.monotonic() + 1
-        while time.monotonic() < end:
+        while last < end:
             piece = f"{number}: a piece of it\n".encode()
+            begun = time.monotonic()
             file.write(piece)
             text += piece
-            time.sleep(0.001)
-    texts[number] = text
+            longest, last = max(longest, time.monotonic() - last), begun
+            time.sleep(random.choice((0.001, 0.01, 0.03)))
+    texts[number], pauses[number] = text, longest
+
+
+@contextlib.contextmanager
+def written_on(path):
+    """Appends to a file in short steps. The first piece is written before this goes on."""
+    ending, begun = threading.Event(), threading.Event()
+
+    def append():
+        with open(path, "ab", buffering=0) as file:
+            while not ending.is_set():
+                file.write(MORE)
+                begun.set()
+                time.sleep(0.005)
+
+    writer = threading.Thread(target=append)
+    writer.start()
+    begun.wait()
+    try:
+        yield
+    finally:
+        ending.set()
+        writer.join()
 
 
 def delivered(folder):
@@ -470,6 +574,7 @@ def exchange_in(folder, bytes_):
     """Hands in a file under a name, and gives the bytes of what stood there, if anything did."""
     path, name = folder / "hand" / "new", folder / "in" / "a"
     path.write_bytes(bytes_)
+    age(path)
     while True:
         if rename(path, name, EXCHANGE):
             replaced = path.read_bytes()
@@ -536,6 +641,9 @@ def main():
             ("a reading is refused once: 6, and it isn't tried again", cases.refused_reading),
             ("the longest names", cases.long_names),
             ("names like those of files aside", cases.names_aside),
+            ("just written: a run waits for all of them once, and for no other file", cases.lets_settle),
+            ("being written: it stays, and the next run takes it whole", cases.stays_while_it_is_written),
+            ("written to from behind the listing, or between readings: 6, nothing taken", cases.written_behind_the_listing),
             ("handed over by rename beside runs: each version is accounted for", cases.handed_over),
             ("written to beside runs", cases.written_beside)):
         if given.only in text:

@@ -18,7 +18,7 @@ import shutil
 import subprocess
 
 import store_format
-from support import (DONE, Report, Wrong, find_program, in_memory, names, need, new_folder, options, parse_seeded,
+from support import (DONE, Report, Wrong, age, find_program, in_memory, names, need, new_folder, options, parse_seeded,
                      put_flow, read_files, run, unmarked_aside, write_files)
 
 FILES = {"a.txt": b"hi", "b": b"", "größe": bytes(range(256)) * 9}
@@ -244,6 +244,7 @@ def lay(folder, path, done):
         else:
             with open(where, "wb") as file:
                 file.write(drawn_file(node))
+            age(where)
 
 
 # The trial.

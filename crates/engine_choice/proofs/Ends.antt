@@ -19,7 +19,7 @@ use Rattle.machine_model.specs.State.{State, World}
 use Rattle.machine_model.specs.Taking.{picks}
 use Rattle.machine_model.specs.Stepping.{may_get}
 use Rattle.machine_model.specs.View.{FileView, QueueView, is_penalised}
-use Rattle.engine_queues.specs.Choosing.{first_pick}
+use Rattle.engine_queues.specs.Picking.{first_pick}
 use Rattle.engine_queues.specs.Laws.{BlockedIsSeen, QuietIsSeen, SeesTheSame, wants_by}
 use Rattle.engine_choice.specs.declared.choice.Ending.{Ending}
 use Rattle.engine_choice.specs.declared.choice.Ending.TheVariants.{Blocked, Quiet, Rest}

@@ -1,10 +1,7 @@
 pub mod Ends
 pub mod Found
-pub mod Left
-pub mod Moved
 pub mod Penalties
 pub mod Seen
 pub mod Sessions
-pub mod Sources
 pub mod Takings
 pub mod Turns

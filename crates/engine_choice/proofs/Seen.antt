@@ -9,7 +9,7 @@ use Rattle.machine_model.specs.Due.{at_place, numbers_of}
 use Rattle.machine_model.specs.Kinds.{take_rule_of}
 use Rattle.machine_model.specs.Taking.{picks}
 use Rattle.machine_model.specs.View.{QueueView}
-use Rattle.engine_queues.specs.Choosing.{first_pick, picked_from}
+use Rattle.engine_queues.specs.Picking.{first_pick, picked_from}
 use Rattle.engine_queues.specs.Laws.{SeesTheSame}
 use Rattle.engine_choice.specs.Choice.{choice_at, choice_of, in_turn, is_ready, taking_by, taking_of}
 use Rattle.engine_choice.specs.Laws.{ChoicesAreSeen}

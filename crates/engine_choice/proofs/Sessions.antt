@@ -25,7 +25,7 @@ use Rattle.machine_model.specs.Stepping.{given_in, is_there, may_generate, may_g
 use Rattle.machine_model.specs.Taking.{picks}
 use Rattle.machine_model.specs.Valid.{IsValid}
 use Rattle.machine_model.specs.View.{FileView, QueueView}
-use Rattle.engine_queues.specs.Choosing.{first_pick, picked_from}
+use Rattle.engine_queues.specs.Picking.{first_pick, picked_from}
 use Rattle.engine_queues.specs.Laws.{SeesTheSame}
 use Rattle.engine_choice.specs.declared.choice.Choice.{Choice}
 use Rattle.engine_choice.specs.declared.choice.Taking.{Taking}

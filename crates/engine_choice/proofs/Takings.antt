@@ -10,7 +10,7 @@ use Rattle.machine_model.specs.declared.pattern.Pattern.{Pattern}
 use Rattle.engine_choice.specs.declared.choice.Taking.{Taking}
 use Rattle.engine_choice.specs.declared.choice.Taking.TheVariants.{Files, Generate, Receive}
 use Rattle.engine_choice.specs.Choice.{taking_by}
-use Rattle.engine_choice.specs.Listing.{first_passed}
+use Rattle.engine_queues.specs.Listing.{first_passed}
 
 -- the item of a list that is read at a place
 pub item-at : (processors : List Processor) (place : ℕ) (p : Processor) (read : List Processor) (at : ℕ) (d : Processor)

@@ -14,8 +14,8 @@ use Rattle.machine_model.specs.Quiet.{is_held_back, holds_back_any}
 use Rattle.machine_model.specs.State.{World}
 use Rattle.machine_model.specs.View.{QueueView}
 use Rattle.flow_queue.specs.Queue.{QueueState, next_penalty_end}
-use Rattle.engine_queues.specs.Choosing.{AreOf, first_pick}
-use Rattle.engine_choice.specs.Listing.{Left}
+use Rattle.engine_queues.specs.Picking.{AreOf, first_pick}
+use Rattle.engine_queues.specs.Listing.{Left}
 use Rattle.engine_choice.specs.declared.choice.Choice.{Choice}
 use Rattle.engine_choice.specs.declared.choice.Ending.{Ending}
 use Rattle.engine_choice.specs.declared.choice.Ending.TheVariants.{Rest, Blocked, Quiet}

@@ -6,8 +6,8 @@ ghost use Rattle.engine_choice.specs.declared.choice.Taking.TheVariants.{Files, 
 ghost use Rattle.engine_choice.specs.Choice.{MayChoose, taking_of, place_within, choice_of, next_choice, takers, ending_of};
 ghost use Rattle.engine_choice.specs.First.{IsFirstGiven};
 
-use crate::{Choice, Ending, Listing, Taking};
-use engine_queues::{Picked, Queues};
+use crate::{Choice, Ending, Taking};
+use engine_queues::{Listing, Picked, Queues};
 use flowfile_record::Name;
 use machine_model::{Flow, Kind};
 use std::alloc::{AllocError, Global};

@@ -4,9 +4,7 @@
 mod choice;
 mod choosing;
 mod laws;
-mod listing;
 
 pub use choice::{Choice, Ending, Taking};
 pub use choosing::{choose, ending};
 pub use laws::{choices_are_seen, choices_are_sessions, ends_are_machine_ends};
-pub use listing::Listing;

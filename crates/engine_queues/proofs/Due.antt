@@ -17,7 +17,7 @@ use Rattle.machine_model.specs.Taking.{picks}
 use Rattle.machine_model.specs.View.{QueueView, FileView}
 use Rattle.flow_queue.specs.Queue.{QueueState, queue_as_seen, picked, picked_numbers}
 use Rattle.engine_queues.specs.Queues.{queue_seen}
-use Rattle.engine_queues.specs.Choosing.{IsOf, AreOf, picked_from, first_pick}
+use Rattle.engine_queues.specs.Picking.{IsOf, AreOf, picked_from, first_pick}
 use Rattle.engine_queues.proofs.First.{none-owes, first-owes, none-found, first-found, any-found, any-same, any-some}
 
 pub seen-at : (queues : List QueueState) (place : ℕ) (queue : QueueState) → slice_get queues place ≡ Some queue → queue_seen queues place ≡ queue_as_seen queue

@@ -13,3 +13,6 @@ pub mod QuietSeen
 pub mod Reserving
 pub mod Settled
 pub mod Shown
+pub mod Left
+pub mod Moved
+pub mod Sources

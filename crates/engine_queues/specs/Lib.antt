@@ -1,6 +1,8 @@
-pub mod Choosing
 pub mod Laws
+pub mod Listing
+pub mod ListingInside
 pub mod Opening
+pub mod Picking
 pub mod Queues
 pub mod Settling
 pub mod Views

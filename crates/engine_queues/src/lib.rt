@@ -1,12 +1,14 @@
-//! The queues of a flow in memory, one for each of its connections.
+//! What an engine decides by: the queues of a flow in memory, one for each of its connections, and the names of the inbox.
 #![tactic(auto)]
 
-mod choosing;
 mod laws;
+mod listing;
 mod opening;
+mod picking;
 mod queues;
 mod settling;
 
-pub use choosing::{Expiry, Picked, picks_are_given};
 pub use laws::{quiet_and_blocked_are_seen, what_is_kept_is_seen};
+pub use listing::Listing;
+pub use picking::{Expiry, Picked, picks_are_given};
 pub use queues::Queues;

@@ -37,7 +37,7 @@ use Rattle.processor_api.specs.Acts.{KeepsGiven}
 use Rattle.settlement.specs.Contents.{IsBodyWithin, source_bytes}
 use Rattle.settlement.specs.Handed.{AreReadSources, content_sizes}
 use Rattle.store_core.specs.State.{state_with}
-use Rattle.engine_core.specs.Committing.{MayCommit}
+use Rattle.engine_change.specs.Committing.{MayCommit}
 use Rattle.engine_session.specs.Handing.{AreReadOf, MayEndSession, files_fit_a_content, taken_with_contents}
 use Rattle.engine_session.specs.Laws.{AreThere}
 use Rattle.engine_session.specs.Working.{IsWorkOf}

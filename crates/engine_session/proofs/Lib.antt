@@ -1,5 +1,10 @@
 pub mod Ends
 pub mod Handed
+pub mod EachKind
 pub mod Lookups
 pub mod Machines
+pub mod Names
+pub mod Outbox
+pub mod Sends
+pub mod SessionSteps
 pub mod Stepping

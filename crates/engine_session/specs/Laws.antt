@@ -23,7 +23,7 @@ use Rattle.record_codec.specs.ActiveFile.{active}
 use Rattle.settlement.specs.Handed.{AreReadSources}
 use Rattle.store_core.specs.Flow.{flow_in}
 use Rattle.store_core.specs.State.{state_with}
-use Rattle.engine_core.specs.Committing.{AreEventsUpTo, identity_of}
+use Rattle.engine_change.specs.Committing.{AreEventsUpTo, identity_of}
 use Rattle.engine_session.specs.Handing.{AreTaken, live_files, taken_with_contents}
 
 -- ---- what a session takes

@@ -20,7 +20,7 @@ use Rattle.processor_api.specs.Acts.{KeepsGiven}
 use Rattle.settlement.specs.Handed.{AreReadSources, ended_session}
 use Rattle.settlement.specs.declared.handed.Ended.{Ended}
 use Rattle.store_core.specs.State.{state_with}
-use Rattle.engine_core.specs.Committing.{AreEventsUpTo, LeavesState}
+use Rattle.engine_change.specs.Committing.{AreEventsUpTo, LeavesState}
 
 abbrev pub machine_in : State → World → Machine
 machine_in state world = record { state = state; world = world }

@@ -1,5 +1,5 @@
 -- What a processor of a flow may be handed, and what it owes.
-use Rattle.std.specs.Prelude.{◌≡◌, ℕ, ◌||◌, Bool, List, length, map, IsTrue, Some, slice_get}
+use Rattle.std.specs.Prelude.{◌≡◌, ℕ, ◌||◌, Bool, List, length, map, Some, slice_get}
 use Rattle.flowfile_record.specs.Outcome.{IsOutcome}
 use Rattle.flowfile_record.specs.declared.worked.Outcome.{Outcome}
 use Rattle.machine_model.specs.declared.flow.Flow.{Flow}
@@ -38,7 +38,6 @@ is_built kind =
 pub record MayWork (flow : Flow) (place : ℕ) (taken : List Taken) (given : Given) : Type 0 where
   pub processor : Processor
   pub found : slice_get flow.processors place ≡ Some processor
-  pub built : IsTrue (is_built processor.kind)
   pub handed : MayBeHandedTo processor.kind taken given
 
 -- The outcome is the one that the machine gives, one of a session with the kind's relationships over the contents that

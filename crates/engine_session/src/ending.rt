@@ -4,7 +4,7 @@ ghost use Rattle.flowfile_record.specs.Stored.{Kept};
 ghost use Rattle.machine_model.specs.declared.flow.Flow.{Flow as TheFlow};
 ghost use Rattle.machine_model.specs.declared.given.Given.{Given as TheGiven};
 ghost use Rattle.processor_api.specs.Acts.{KeepsGiven};
-ghost use Rattle.engine_core.specs.Committing.{MayCommit};
+ghost use Rattle.engine_change.specs.Committing.{MayCommit};
 ghost use Rattle.engine_session.specs.Handing.{MayEndSession};
 
 use flowfile_record::{FileList, Outcome};
@@ -13,7 +13,7 @@ use settlement::Ended;
 
 /// A session that has ended: the processor of this place worked on files of this connection, which it was handed as
 /// they stood there, and did this. It may be settled over what is kept.
-pub fn end_session(
+pub(crate) fn end_session(
     processor: u16,
     connection: u16,
     taken: FileList,

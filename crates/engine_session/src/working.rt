@@ -18,7 +18,7 @@ use std::alloc::{AllocError, Global};
 
 /// What the processor at a place of a flow makes of these files, and what stays of them. The bytes that it is given
 /// may be taken out.
-pub fn work(
+pub(crate) fn work_at(
     alloc: Global,
     flow: &Flow,
     processor: u16,
@@ -42,11 +42,11 @@ fn work_as(
     taken: TakenList,
     given: &mut Given,
 ) -> Result<(Outcome, SourceList), AllocError>
-    requires built { IsTrue (is_built kind.now) }
     requires handed { MayBeHandedTo kind.now taken given.old }
     ensures work { IfOk result (IsWorkOf kind.now taken given.old) }
     ensures given { KeepsGiven given.old given.new }
 {
+    each_kind_is_built(kind);
     if let Some(get_file) = GetFile::of(kind) {
         return work_on(alloc, &get_file, 1, taken, given);
     }
@@ -63,6 +63,13 @@ fn work_as(
         return work_on_texts(alloc, kind, taken, given);
     }
     work_on_attributes(alloc, kind, taken, given)
+}
+
+// It does nothing: there are processors of each kind.
+fn each_kind_is_built(kind: &Kind)
+    ensures { IsTrue (is_built kind.now) }
+{
+    let _ = kind;
 }
 
 /// Whether a processor of this kind works on a content, or goes by it.

@@ -141,6 +141,14 @@ behind_accepted R bytes top ms flow each found is =
     let Settles : Option (Rule × Path) → Type 0 = λ o. MatchOption o (Accepts bytes top (Ok flow)) (λ x. Refuses x (Ok flow)) in
     (ms, each, subst Settles (sym found) is)
 
+pub behind_refused : (R : Type 0) (bytes : List ℕ) (top : Data) (ms : List Made) (b : Rule × Path) (e : FlowError)
+    → AreMade R (list_items_at Processors top) ms → first_behind top ms ≡ Some b → IsError b e → IsAnswerBehind R bytes top (Err e)
+behind_refused R bytes top ms b error.Memory each found is = tt
+behind_refused R bytes top ms b (error.Rule rule place) each found is =
+    let Settles : Option (Rule × Path) → Type 0 =
+    λ o. MatchOption o (Accepts bytes top (Err (error.Rule rule place))) (λ x. Refuses x (Err (error.Rule rule place))) in
+    (ms, each, subst Settles (sym found) is)
+
 pub flow_made : (R : Type 0) (bytes : List ℕ) (top : Data) (ms : List Made) (flow : Flow)
     → AreMade R (list_items_at Processors top) ms → first_behind top ms ≡ None → flow.processors ≡ filter_map processor_in ms
     → flow.connections ≡ map (connection_of top) (list_items_at Connections top) → flow.digest ≡ sha256 bytes → IsFlowOf bytes top flow

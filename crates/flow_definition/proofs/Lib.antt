@@ -3,6 +3,7 @@ pub mod Commas
 pub mod Digits
 pub mod Ends
 pub mod Given
+pub mod Judged
 pub mod Linked
 pub mod Lists
 pub mod Names

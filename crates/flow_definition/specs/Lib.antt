@@ -1,5 +1,6 @@
 pub mod Building
 pub mod Fields
+pub mod Judged
 pub mod Listed
 pub mod Looks
 pub mod Made

@@ -1,9 +1,9 @@
 //! Making the processors of a text: building their patterns and reading their expressions.
-ghost use Rattle.std.specs.Prelude.{◌≡◌, ◌==◌, ◌≤◌, map, option_map, Some, IfOk};
+ghost use Rattle.std.specs.Prelude.{◌≡◌, ◌≤◌, ◌&&◌, [], ◌∷◌, ◌++◌, map, option_map, Some, IfOk, OnOk};
 ghost use Rattle.serde_json.specs.View.{view};
 ghost use Rattle.flow_definition.specs.Looks.{type_of};
-ghost use Rattle.flow_definition.specs.Made.{IsMade, AreMade, IsMadeKind, told_all, told_kind, told_made, rule_of, refused_part, refused_by, first_refused, processor_in};
-ghost use Rattle.std.specs.List.{filter_map};
+ghost use Rattle.flow_definition.specs.Judged.{AreJudged, IsRefusedAs, is_processor_made, part_at, refused_property, first_refused_in, kept_with_made, refused_processors};
+ghost use Rattle.flow_definition.specs.Made.{IsMade, IsMadeKind, told_kind, told_made, rule_of};
 ghost use Rattle.flow_definition.specs.Reading.{IsKindOf, IsProcessorOf, replace_strategy_in};
 ghost use Rattle.flow_definition.specs.Patterns.{HasRisen, told_by_builder};
 ghost use Rattle.flow_definition.specs.Places.{part_path, place_path};
@@ -69,17 +69,100 @@ impl Refusal {
         }
     }
 
-    fn part(&self) -> Part<'_>
-        ensures { part_path result ≡ refused_part self.now }
+    /// The name of the property, unless it is the type.
+    fn property(&self) -> Option<&str>
+        ensures { option_map (λ name. name.now) result ≡ refused_property self.now }
     {
         match self {
-            Refusal::NoType => Part::Field(Field::TypeName),
-            Refusal::Unread(property) => Part::Property(property.name()),
-            Refusal::TooBig(property) => Part::Property(property.name()),
-            Refusal::NoExpression(property) => Part::Property(property.name()),
-            Refusal::NoOwnExpression(name) => Part::Property(name.as_str()),
-            Refusal::NoOwnPatterns(attempts) => Part::Property(name_refused(attempts.as_slice())),
+            Refusal::NoType => None,
+            Refusal::Unread(property) => Some(property.name()),
+            Refusal::TooBig(property) => Some(property.name()),
+            Refusal::NoExpression(property) => Some(property.name()),
+            Refusal::NoOwnExpression(name) => Some(name.as_str()),
+            Refusal::NoOwnPatterns(attempts) => Some(name_refused(attempts.as_slice())),
         }
+    }
+}
+
+/// A processor that isn't made. It holds no pattern.
+#[derive(Drop)]
+pub(crate) struct RefusedProcessor {
+    /// In the text's list.
+    place: usize,
+    rule: Rule,
+    /// The name of the property that breaks the rule, unless it is the type.
+    property: Option<Text>,
+}
+
+impl RefusedProcessor {
+    fn new(alloc: Global, place: usize, refusal: &Refusal) -> Result<RefusedProcessor, AllocError>
+        ensures { IfOk result (IsRefusedAs place refusal.now) }
+    {
+        let property = match refusal.property() {
+            Some(name) => Some(Text::from_str(alloc, name)?),
+            None => None,
+        };
+        Ok(RefusedProcessor {
+            place,
+            rule: refusal.rule(),
+            property,
+        })
+    }
+
+    fn part(&self) -> Part<'_>
+        ensures { part_path result ≡ part_at self.now.property }
+    {
+        match &self.property {
+            Some(name) => Part::Property(name.as_str()),
+            None => Part::Field(Field::TypeName),
+        }
+    }
+}
+
+/// The processors of a text, as they are judged one after the other.
+#[derive(Drop)]
+pub(crate) struct JudgedProcessors {
+    pub(crate) refused: Vec<RefusedProcessor>,
+    /// All that are made, as long as the text may be accepted; then none.
+    pub(crate) processors: Vec<Processor>,
+    may_be_accepted: bool,
+}
+
+impl JudgedProcessors {
+    fn new(alloc: Global, may_be_accepted: bool) -> JudgedProcessors
+        ensures refused { result.refused.items ≡ [] }
+        ensures processors { result.processors.items ≡ [] }
+        ensures accepted { result.may_be_accepted ≡ may_be_accepted }
+    {
+        JudgedProcessors {
+            refused: Vec::new(alloc),
+            processors: Vec::new(alloc),
+            may_be_accepted,
+        }
+    }
+
+    /// Takes what became of the processor at a place.
+    fn push(&mut self, alloc: Global, place: usize, made: Made) -> Result<(), AllocError>
+        ensures refused { OnOk result
+            (self.new.refused.items ≡ self.old.refused.items ++ refused_processors place (made ∷ [])) }
+        ensures processors { OnOk result
+            (self.new.processors.items ≡ kept_with_made self.old.may_be_accepted self.old.processors.items made) }
+        ensures accepted { OnOk result (self.new.may_be_accepted ≡ self.old.may_be_accepted && is_processor_made made) }
+    {
+        match made {
+            Made::Processor(processor) => {
+                if self.may_be_accepted {
+                    self.processors.push(processor)?;
+                }
+            }
+            Made::Refused(refusal) => {
+                self.may_be_accepted = false;
+                self.processors.clear();
+                self.refused
+                    .push(RefusedProcessor::new(alloc, place, &refusal)?)?;
+            }
+        }
+        Ok(())
     }
 }
 
@@ -90,23 +173,24 @@ pub(crate) enum MadeKind {
     Refused(Refusal),
 }
 
-/// The processors of a text, made one after the other.
+/// Judges the processors of a text one after the other. Once one is refused, or where the text can't be accepted for
+/// another rule, each is let go as soon as it is judged.
 pub(crate) fn make_all<P: Patterns>(
     alloc: Global,
     items: &[Value],
+    may_be_accepted: bool,
     patterns: &mut P,
-) -> Result<Vec<Made>, AllocError>
-    ensures made { IfOk result (λ list.
-        AreMade (HasRisen (P.faults patterns.old) (P.faults patterns.new)) (map view items.now) list.items) }
+) -> Result<JudgedProcessors, AllocError>
+    ensures judged { IfOk result (AreJudged (told_by_builder P.faults P.refused patterns.old)
+        (told_by_builder P.faults P.refused patterns.new) may_be_accepted (map view items.now)) }
     ensures count { P.faults patterns.old ≤ P.faults patterns.new }
-    ensures told { IfOk result (λ list. told_by_builder P.faults P.refused patterns.new
-        ≡ told_all (told_by_builder P.faults P.refused patterns.old) (map view items.now) list.items) }
 {
-    let mut list = Vec::new(alloc);
-    'items: for item in items {
-        list.push(make(alloc, item, patterns)?)?;
+    let mut judged = JudgedProcessors::new(alloc, may_be_accepted);
+    'items: for (place, item) in items.iter().enumerate() {
+        let made = make(alloc, item, patterns)?;
+        judged.push(alloc, place, made)?;
     }
-    Ok(list)
+    Ok(judged)
 }
 
 fn make<P: Patterns>(alloc: Global, processor: &Value, patterns: &mut P) -> Result<Made, AllocError>
@@ -351,47 +435,16 @@ fn make_content_router<P: Patterns>(
 }
 
 /// The first processor that was refused by a rule, and where.
-pub(crate) fn first_refused(rule: Rule, list: &[Made]) -> Option<Place<'_>>
-    ensures { option_map place_path result ≡ first_refused rule 0 list.now }
+pub(crate) fn first_refused(rule: Rule, list: &[RefusedProcessor]) -> Option<Place<'_>>
+    ensures { option_map place_path result ≡ first_refused_in rule list.now }
 {
-    'made: for (place, made) in list.iter().enumerate() {
-        if let Some(part) = refused_by(rule, made) {
+    'list: for refused in list {
+        if refused.rule.number() == rule.number() {
             return Some(Place {
-                item: Some((Field::Processors, place)),
-                part,
+                item: Some((Field::Processors, refused.place)),
+                part: refused.part(),
             });
         }
     }
     None
-}
-
-fn refused_by(rule: Rule, made: &Made) -> Option<Part<'_>>
-    ensures { option_map part_path result ≡ refused_by rule made.now }
-{
-    match made {
-        Made::Processor(_) => None,
-        Made::Refused(refusal) => {
-            if refusal.rule().number() == rule.number() {
-                Some(refusal.part())
-            } else {
-                None
-            }
-        }
-    }
-}
-
-/// The processors that were made.
-pub(crate) fn processors_of(alloc: Global, list: Vec<Made>) -> Result<Vec<Processor>, AllocError>
-    ensures { IfOk result (λ processors. processors.items ≡ filter_map processor_in list.items) }
-{
-    list.into_iter().filter_map(processor_in).collect(alloc)
-}
-
-fn processor_in(made: Made) -> Option<Processor>
-    ensures { result ≡ processor_in made }
-{
-    match made {
-        Made::Processor(processor) => Some(processor),
-        Made::Refused(_) => None,
-    }
 }

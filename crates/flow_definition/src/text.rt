@@ -5,16 +5,17 @@ ghost use Rattle.disk_trait.specs.Faults.{CountsFaults};
 ghost use Rattle.machine_model.specs.Sound.{IsSound};
 ghost use Rattle.serde_json.specs.View.{view};
 ghost use Rattle.sha2.specs.Sha256.{sha256};
+ghost use Rattle.flow_definition.specs.Judged.{refused_in, first_told};
 ghost use Rattle.flow_definition.specs.Patterns.{HasRisen, told_by_builder};
 ghost use Rattle.flow_definition.specs.Places.{broken_path};
-ghost use Rattle.flow_definition.specs.Verdict.{IsAnswer, IsAnswerOf, IsAnswerBehind, IsPatternTooBig, IsTold, IsToldIn, IsError, broken_before, object_in, refused, first_behind};
+ghost use Rattle.flow_definition.specs.Verdict.{IsAnswer, IsAnswerOf, IsAnswerBehind, IsPatternTooBig, IsTold, IsToldIn, IsError, broken_before, object_in};
 ghost use Rattle.flow_definition.specs.Walk.{first_broken, first_rules, last_rules};
 
 use crate::error::FlowError;
 use crate::field::Field;
 use crate::limits::TEXT_MAX;
 use crate::look::items_at;
-use crate::made::{Made, first_refused, make_all, processors_of};
+use crate::made::{RefusedProcessor, first_refused, make_all};
 use crate::patterns::Patterns;
 use crate::place::{Broken, Part, Place};
 use crate::pointer::pointer_of;
@@ -130,14 +131,19 @@ fn read_behind<P: Patterns>(
     ensures told { IsToldIn (told_by_builder P.faults P.refused patterns.old)
         (told_by_builder P.faults P.refused patterns.new) (view top.now) result }
 {
-    let made = make_all(alloc, items_at(top, Field::Processors), patterns)?;
-    match first_behind(top, made.as_slice()) {
+    let last = first_of(last_rules(), top);
+    let judged = make_all(
+        alloc,
+        items_at(top, Field::Processors),
+        last.is_none(),
+        patterns,
+    )?;
+    match first_behind(last, judged.refused.as_slice()) {
         Some(broken) => Err(error_of(alloc, broken)),
         None => {
-            let processors = processors_of(alloc, made)?;
             let connections = connections_of(alloc, top)?;
             Ok(Flow {
-                processors: Sequence::from(processors),
+                processors: Sequence::from(judged.processors),
                 connections: Sequence::from(connections),
                 digest: digest_of(bytes),
             })
@@ -151,17 +157,14 @@ fn digest_of(bytes: &[u8]) -> [u8; 32]
     Sha256::digest(bytes)
 }
 
-/// The first rule that is broken behind the first rules.
-fn first_behind<'a>(top: &'a Value, made: &'a [Made]) -> Option<Broken<'a>>
-    ensures { option_map broken_path result ≡ first_behind (view top.now) made.now }
+/// The first rule that is broken behind the first rules, of the last ones and those that processors are refused by.
+fn first_behind<'a>(last: Option<Broken<'a>>, list: &'a [RefusedProcessor]) -> Option<Broken<'a>>
+    ensures { option_map broken_path result ≡ first_told (option_map broken_path last.entry) list.now }
 {
-    let last = either(
-        first_of(last_rules(), top),
-        refused(Rule::PatternTooBig, made),
-    );
-    let expressions = either(refused(Rule::BadExpression, made), last);
-    let patterns = either(refused(Rule::BadPattern, made), expressions);
-    either(refused(Rule::UnknownType, made), patterns)
+    let too_big = either(last, refused(Rule::PatternTooBig, list));
+    let expressions = either(refused(Rule::BadExpression, list), too_big);
+    let patterns = either(refused(Rule::BadPattern, list), expressions);
+    either(refused(Rule::UnknownType, list), patterns)
 }
 
 fn either<'a>(first: Option<Broken<'a>>, second: Option<Broken<'a>>) -> Option<Broken<'a>>
@@ -174,10 +177,10 @@ fn either<'a>(first: Option<Broken<'a>>, second: Option<Broken<'a>>) -> Option<B
     }
 }
 
-fn refused(rule: Rule, made: &[Made]) -> Option<Broken<'_>>
-    ensures { option_map broken_path result ≡ refused rule made.now }
+fn refused(rule: Rule, list: &[RefusedProcessor]) -> Option<Broken<'_>>
+    ensures { option_map broken_path result ≡ refused_in rule list.now }
 {
-    match first_refused(rule, made) {
+    match first_refused(rule, list) {
         Some(place) => Some(Broken { rule, place }),
         None => None,
     }

@@ -12,8 +12,8 @@ use Rattle.machine_model.specs.Acting.{received_attributes, name_in, act, put, p
 use Rattle.machine_model.specs.Stepping.{given_in, same_bool, as_taken}
 use Rattle.machine_examples.specs.Small.{hi, machine, no_file, no_kin, nothing, with_a, both, processor, wide, get_to_put, a_txt, a_file, state_of, at_moment}
 use Rattle.machine_examples.specs.Puts.{FailsToPut, ReplacePutsOver, IgnoreLeaves, FailLeaves}
-use Rattle.machine_examples.specs.Refusals.{RefusesAnswer}
-use Rattle.machine_examples.proofs.TriedNames.{a_txt-name}
+use Rattle.machine_examples.specs.Refusals.{NamelessIsNotThere, RefusesAnswer}
+use Rattle.machine_examples.proofs.TriedNames.{a_txt-name, no-name}
 use Rattle.machine_examples.proofs.TriedWorlds.{no-kin-more, put-over}
 use Rattle.machine_examples.proofs.TriedParts.{same_attributes-self, session-gives, session-refused}
 
@@ -69,3 +69,6 @@ refuses =
     session-gives (get_to_put Fail wide) (machine queued with_a) 1 (1 ∷ []) 2000 (told true 2000) (told true 2000) (processor (codes "put") (PutFile Fail) both) (a_file 1 1 ∷ [])
     (put_unless_there Fail true (as_taken queued (a_file 1 1)) a_txt) refl refl (answered with_a true 2000 Fail) (made Fail)
     ∙ rw (same_attributes-self (received_attributes a_txt), no-kin-more no_kin) refl
+
+pub nameless-not-there : NamelessIsNotThere
+nameless-not-there = ap (λ (name : Option (List ℕ)). option_map_or (λ (name : List ℕ). is_some (with_a.outbox name)) name false) no-name

@@ -75,6 +75,26 @@ blank =
 abbrev pub nowhere : Flow
 nowhere = flow_of (getting ∷ putting both ∷ []) (connection (codes "c1") 0 2 wide ∷ [])
 
+-- more sessions at once than a processor may have
+abbrev pub crowded : Flow
+crowded =
+    flow_of (record getting { tasks = 17 } ∷ putting both ∷ []) (connection (codes "c1") 0 1 wide ∷ [])
+
+-- by a relationship that its source doesn't have
+abbrev pub strange : Flow
+strange =
+    flow_of (getting ∷ putting both ∷ [])
+    (connection (codes "c1") 0 1 wide
+    ∷ record (connection (codes "c2") 0 1 wide) { relationships = codes "failure" ∷ [] } ∷ [])
+
+-- success leads to nine connections
+abbrev pub fanned : Flow
+fanned =
+    flow_of (getting ∷ putting both ∷ [])
+    (connection (codes "c1") 0 1 wide ∷ connection (codes "c2") 0 1 wide ∷ connection (codes "c3") 0 1 wide
+    ∷ connection (codes "c4") 0 1 wide ∷ connection (codes "c5") 0 1 wide ∷ connection (codes "c6") 0 1 wide
+    ∷ connection (codes "c7") 0 1 wide ∷ connection (codes "c8") 0 1 wide ∷ connection (codes "c9") 0 1 wide ∷ [])
+
 -- ---- texts and patterns
 
 -- one embedded expression alone is no text that is joined

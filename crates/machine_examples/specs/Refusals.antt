@@ -1,5 +1,6 @@
 -- Tried: steps that aren't defined.
-use Rattle.std.specs.Prelude.{◌≡◌, ℕ, Bool, List, [], ◌∷◌, Option, Some, None, codes}
+use Rattle.std.specs.Prelude.{◌≡◌, ℕ, Bool, false, List, [], ◌∷◌, length, Option, Some, None, codes}
+use Rattle.std.specs.FinMap.{empty}
 use Rattle.expr_lang.specs.declared.syntax.Expr.{Expr}
 use Rattle.machine_model.specs.declared.flow.Flow.{Flow}
 use Rattle.machine_model.specs.declared.flow.QueueLimits.{QueueLimits}
@@ -8,10 +9,11 @@ use Rattle.machine_model.specs.declared.journal.Step.TheVariants.{Expire, SwapOu
 use Rattle.machine_model.specs.declared.kind.Conflict.TheVariants.{Replace}
 use Rattle.machine_model.specs.declared.kind.Kind.TheVariants.{GenerateFlowFile}
 use Rattle.machine_model.specs.State.{QueuedFile, State, World}
-use Rattle.machine_model.specs.declared.kind.TakeRule.TheVariants.{One, Bin}
-use Rattle.machine_model.specs.Stepping.{step, taken_files}
+use Rattle.machine_model.specs.declared.kind.TakeRule.TheVariants.{One, Bin, Defragment}
+use Rattle.machine_model.specs.Stepping.{admits, given_at, is_there, step, taken_files}
+use Rattle.machine_model.specs.View.{FileView}
 use Rattle.machine_examples.specs.Told.{through, merge}
-use Rattle.machine_examples.specs.Small.{hi, success, processor, wide, get_to_put, a_txt, a_file, state_of, at_moment, session, machine, nothing, inbox_of}
+use Rattle.machine_examples.specs.Small.{hi, success, processor, wide, get_to_put, a_txt, a_file, state_of, at_moment, session, machine, nothing, inbox_of, with_a}
 
 abbrev pub StepIsRefused : Flow → State → World → Step → Type 0
 StepIsRefused flow state world entry = step flow (machine state world) entry ≡ None
@@ -134,6 +136,20 @@ RefusesAnswer world there =
     StepIsRefused (get_to_put Replace wide) (state_of ((a_file 1 1 ∷ []) ∷ []) 2 2 (0 ∷ 0 ∷ [])) world
     (session 1 (1 ∷ []) 1000 (record (at_moment 1000) { there = there }))
 
+-- bytes that are given beside a name
+abbrev pub BytesAreNotGiven : Type 0
+BytesAreNotGiven =
+    RefusesToGet (inbox_of a_txt hi)
+    (session 0 [] 1000 (record (at_moment 1000) { file = Some a_txt; bytes = Some hi }))
+
+-- the moment is that of the step
+abbrev pub MomentIsOfTheStep : Type 0
+MomentIsOfTheStep = given_at 2000 (at_moment 1000) ≡ Some (at_moment 2000)
+
+-- of a file without a name the outbox has nothing, whatever it has
+abbrev pub NamelessIsNotThere : Type 0
+NamelessIsNotThere = is_there with_a (record (a_file 1 1) { attributes = empty } ∷ []) ≡ false
+
 -- a generator of two files has made one
 abbrev pub RefusesIndex : (made index : ℕ) → Type 0
 RefusesIndex made index =
@@ -157,3 +173,10 @@ TakesToMerge numbers taken =
     taken_files (through merge (codes "merged"))
     (state_of ((a_file 1 1 ∷ a_file 2 2 ∷ a_file 3 3 ∷ []) ∷ [] ∷ []) 4 4 (0 ∷ 0 ∷ 0 ∷ [])) 1 (Bin 1 2) numbers 1000
     ≡ taken
+
+-- of fragments at least one is taken, and at most as many as any session takes
+abbrev pub NoFragmentsAreTaken : Type 0
+NoFragmentsAreTaken = admits Defragment [] [] ≡ false
+
+abbrev pub FragmentsAreTaken : (count : ℕ) → Bool → Type 0
+FragmentsAreTaken count answer = (files : List FileView) → length files ≡ count → admits Defragment [] files ≡ answer

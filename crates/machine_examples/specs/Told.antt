@@ -17,7 +17,7 @@ use Rattle.machine_model.specs.declared.kind.MergeStrategy.TheVariants.{BinPacki
 use Rattle.machine_model.specs.State.{QueuedFile, State}
 use Rattle.machine_model.specs.Acting.{received_attributes}
 use Rattle.machine_model.specs.Making.{passed_on, made_file}
-use Rattle.machine_model.specs.Placing.{EndedSession}
+use Rattle.machine_model.specs.Placing.{EndedSession, entered_by}
 use Rattle.machine_model.specs.Settling.{settle}
 use Rattle.machine_examples.specs.Small.{hi, both, processor, connection, wide, get_to_put, a_txt, a_file, waiting, state_of, kin_of, at_moment, told}
 
@@ -180,3 +180,18 @@ abbrev pub RoutedTells : Type 0
 RoutedTells =
     Tells (record { files = record (passed_on 0 attributes false 0) { routed = Some 0 } ∷ []; sent = None })
     (told 1 2000 kind.Route (codes "put") 1 (codes "success") hi ∷ drop_of 2 (codes "success") hi ∷ [])
+
+-- its attributes, then where it is routed, then that it is sent, then that it leaves
+abbrev pub AllTellInTurn : Type 0
+AllTellInTurn =
+    Tells (record {
+      files = record (passed_on 0 other false 0) { routed = Some 0 } ∷ [];
+      sent = Some (record { place = 0; name = a_txt });
+    })
+    (told 1 2000 kind.AttributesModified (codes "put") 1 [] hi ∷ told 2 2000 kind.Route (codes "put") 1 (codes "success") hi
+    ∷ told 3 2000 kind.Send (codes "put") 1 a_txt hi
+    ∷ drop_of 4 (codes "success") hi ∷ [])
+
+-- the data of a child with a content of its own entered when its parent's did
+abbrev pub ForkedEnteredAsParent : Type 0
+ForkedEnteredAsParent = entered_by 2000 [] (900 ∷ []) (origin.Forked 0) ≡ 900

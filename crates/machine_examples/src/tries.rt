@@ -17,17 +17,17 @@ ghost use Rattle.machine_examples.specs.Clones.{EachGoesItsWay, ReceivedSays, Ge
 ghost use Rattle.machine_examples.specs.Ends.{NarrowIs, FilteredIsLeft, FoundIsWanted, SwappingIsQuiet, SwappingBlocks, ButForSwapsIsQuiet, ButForSwapsBlocks, QuietIs, left_a, taken_a, penalised, BlockedIs, RingIsQuiet, ringed};
 ghost use Rattle.machine_examples.specs.Expiries.{ExpiredIs, OneExpires, NoneExpiresAtOnce, TwoExpire, BatchGoes, BatchMustWait, BatchComesBack, GoesAndComesBack, SwapsDueAre, late, late_in_batch};
 ghost use Rattle.machine_examples.specs.Families.{IsAncestorOf, IsNoAncestorOf, IsDescendantOf, IsNoDescendantOf, Tells, TellsNot, cloned, joined, stranger};
-ghost use Rattle.machine_examples.specs.Flows.{GeneratingIsSound, RingIsSound, IsUnsound, MarkedIsSound, ContainedIsNot, ListIs, AloneIsNotJoined, UnmarkedIsUnsound, ExactIsMarked, unconnected, terminated, into_source, doubled, tight, turned, blank, nowhere};
+ghost use Rattle.machine_examples.specs.Flows.{GeneratingIsSound, RingIsSound, IsUnsound, MarkedIsSound, ContainedIsNot, ListIs, AloneIsNotJoined, UnmarkedIsUnsound, ExactIsMarked, unconnected, terminated, into_source, doubled, tight, turned, blank, nowhere, crowded, strange, fanned};
 ghost use Rattle.machine_examples.specs.Orders.{PrioritiesTell, EligibleAre, FullIs, first, second, third, penalised as under_penalty, swapped, since};
 ghost use Rattle.machine_examples.specs.Sizes.{FullIsReceived, TooLongIsNotReceived, TooLongIsLeft};
 ghost use Rattle.machine_examples.specs.Texts.{DigitIsExtracted, XIsSecond, NoDigitIsUnmatched, LongNameIsUnmatched, NoTextIsUnmatched, ValueIs, NoTextIsRoutedToUnmatched, SecondFinds, LiteralReplaces, NoTextFails, TemplateReplaces};
-ghost use Rattle.machine_examples.specs.Told.{SplitTells, JoinTells, WritingTells, SettingTells, BothTellOne, RemovedTellsNone, UnchangedTellsNone, RoutedTells, through, split, merge};
+ghost use Rattle.machine_examples.specs.Told.{SplitTells, JoinTells, WritingTells, SettingTells, BothTellOne, RemovedTellsNone, UnchangedTellsNone, RoutedTells, AllTellInTurn, ForkedEnteredAsParent, through, split, merge};
 ghost use Rattle.prioritizer.specs.declared.prioritizer.Prioritizer.TheVariants.{FirstInFirstOut, NewestFlowFileFirst, OldestFlowFileFirst};
 ghost use Rattle.machine_examples.specs.Picks.{WholeGoesBesideAPart, EarlierOfTwoWholes, FirstOfDoubled, TwiceIsNoWhole, CountsTellWholes, NoCountIsNone, NoIdentifierIsNone, PicksOf, FullPicks, no_bytes, part, FragmentIs, TwoAreNoWhole, ThreeAreAWhole, LoneGoesBesideTwo, EarlierWholeGoes, EarlierLoneGoes, one, two, three};
 ghost use Rattle.machine_examples.specs.Outboxes.{PutReads};
 ghost use Rattle.machine_examples.specs.Puts.{PutsNamed, NamelessFails, BadNameFails, ReplacePutsOver, IgnoreLeaves, FailLeaves, sent, passed, failed};
 ghost use Rattle.machine_examples.specs.Returns.{ReturnsUntil, latest};
-ghost use Rattle.machine_examples.specs.Refusals.{SwappedDoesNotExpire, SwappedDoesNotGo, ExpiredIsNotTaken, NoneIsTakenTwice, PenalisedIsNotTaken, SwappedIsNotTaken, StrangeIsNotTaken, TwoAreNotPut, NoneIsNotPut, NoSuchProcessor, NoSuchConnection, FreshDoesNotExpire, OneOfTwoIsFresh, NothingDoesNotExpire, NoneExpiresTwice, OtherBatchDoesNotGo, TwoDoNotGo, FewDoNotGo, HigherBatchDoesNotCome, StrangeBatchDoesNotCome, BatchWaitsWhileTwoAreActive, GoneIsNotReceived, MissingIsNotReceived, NamelessIsNotReceived, SourceTakesNone, RefusesAnswer, RefusesIndex, TakesToPut, TakesToMerge, penalised as penalty};
+ghost use Rattle.machine_examples.specs.Refusals.{SwappedDoesNotExpire, SwappedDoesNotGo, ExpiredIsNotTaken, NoneIsTakenTwice, PenalisedIsNotTaken, SwappedIsNotTaken, StrangeIsNotTaken, TwoAreNotPut, NoneIsNotPut, NoSuchProcessor, NoSuchConnection, FreshDoesNotExpire, OneOfTwoIsFresh, NothingDoesNotExpire, NoneExpiresTwice, OtherBatchDoesNotGo, TwoDoNotGo, FewDoNotGo, HigherBatchDoesNotCome, StrangeBatchDoesNotCome, BatchWaitsWhileTwoAreActive, GoneIsNotReceived, MissingIsNotReceived, NamelessIsNotReceived, SourceTakesNone, RefusesAnswer, RefusesIndex, BytesAreNotGiven, MomentIsOfTheStep, NamelessIsNotThere, NoFragmentsAreTaken, FragmentsAreTaken, TakesToPut, TakesToMerge, penalised as penalty};
 ghost use Rattle.machine_examples.specs.Run.{IsReceived, IsSent, IsDelivered};
 
 /// What is received and sent, from the inbox to the outbox.
@@ -60,6 +60,9 @@ pub fn sessions_are_refused()
     ensures given_same_index { RefusesIndex 1 1 }
     ensures given_skipped_index { RefusesIndex 1 3 }
     ensures given_past_count { RefusesIndex 2 3 }
+    ensures given_bytes { BytesAreNotGiven }
+    ensures given_moment { MomentIsOfTheStep }
+    ensures given_nameless_there { NamelessIsNotThere }
 {}
 
 /// What a session may take: a fresh file, one whose penalty is over, and any of those that wait. A bin takes
@@ -74,6 +77,9 @@ pub fn takes_are_allowed()
     ensures bin_none { TakesToMerge [] None }
     ensures bin_first { TakesToMerge (1 ∷ 2 ∷ []) (Some (a_file 1 1 ∷ a_file 2 2 ∷ [])) }
     ensures bin_skipping { TakesToMerge (1 ∷ 3 ∷ []) (Some (a_file 1 1 ∷ a_file 3 3 ∷ [])) }
+    ensures fragments_none { NoFragmentsAreTaken }
+    ensures fragments_most { FragmentsAreTaken 1000 true }
+    ensures fragments_more { FragmentsAreTaken 1001 false }
 {}
 
 /// What a queue's own steps may not do.
@@ -291,6 +297,8 @@ pub fn events_are_told()
     ensures change_removed { RemovedTellsNone }
     ensures change_unchanged { UnchangedTellsNone }
     ensures change_routed { RoutedTells }
+    ensures change_in_turn { AllTellInTurn }
+    ensures forked_entered { ForkedEnteredAsParent }
 {}
 
 /// What is made of a content that is read as text: `(\d)(x)?` finds in `a7` a digit and no x, and nothing in `ab`; of a
@@ -355,6 +363,9 @@ pub fn flows_are_unsound()
     ensures turned { IsUnsound turned }
     ensures blank { IsUnsound blank }
     ensures nowhere { IsUnsound nowhere }
+    ensures crowded { IsUnsound crowded }
+    ensures strange { IsUnsound strange }
+    ensures fanned { IsUnsound fanned }
     ensures alone { AloneIsNotJoined }
     ensures unmarked { UnmarkedIsUnsound }
     ensures exact { ExactIsMarked }
@@ -410,6 +421,7 @@ pub fn batches_are_told()
     ensures odd { OddGoes }
     ensures two_go { StepGives (queued six 7) (SwapOut 0 (6 ∷ 5 ∷ []) 7) (Some (queued two_gone 8)) }
     ensures one_goes_not { StepGives (queued six 7) (SwapOut 0 (6 ∷ []) 7) None }
+    ensures twice_goes_not { StepGives (queued six 7) (SwapOut 0 (6 ∷ 6 ∷ []) 7) None }
     ensures views { BatchesAre two_batches (batch 2 2 4 ∷ batch 3 3 6 ∷ []) }
     ensures lower_comes { StepGives (queued two_batches 7) (SwapIn 0 2) (Some (queued lower_back 7)) }
     ensures higher_waits { StepGives (queued two_batches 7) (SwapIn 0 3) None }

@@ -24,7 +24,7 @@ use Rattle.machine_model.specs.declared.flow.Flow.{Flow}
 use Rattle.machine_model.specs.declared.limits.TheConstants.{ID_MAX}
 use Rattle.machine_model.specs.Kinds.{is_among}
 use Rattle.machine_model.specs.Sound.{IsSound, are_distinct_texts, are_sound_limits, has_relationships, is_id, is_id_byte, is_sound_connection, may_be_target, within}
-use Rattle.engine_core.specs.Committing.{identity_of}
+use Rattle.engine_change.specs.Committing.{identity_of}
 
 -- ---- ids
 

@@ -4,10 +4,10 @@ use Rattle.disk_trait.specs.declared.damage.Damage.{Damage as TheDamage}
 use Rattle.kept_state.specs.declared.limit.Limit.{Limit as TheLimit}
 use Rattle.store_core.specs.declared.error.StoreError.{StoreError}
 use Rattle.flow_definition.specs.declared.rule.Rule.{Rule}
-use Rattle.flow_run.specs.declared.ended.Ended.{Ended}
-use Rattle.flow_run.specs.declared.ended.Ended.TheVariants as ending
-use Rattle.flow_run.specs.declared.ended.Fault.{Fault}
-use Rattle.flow_run.specs.declared.ended.Fault.TheVariants as fault
+use Rattle.run_law.specs.declared.ended.Ended.{Ended}
+use Rattle.run_law.specs.declared.ended.Ended.TheVariants as ending
+use Rattle.run_law.specs.declared.ended.Fault.{Fault}
+use Rattle.run_law.specs.declared.ended.Fault.TheVariants as fault
 use Rattle.run_top.specs.Opening.{IsOfStore}
 use Rattle.run_top.specs.Run.{IsOfRun}
 use Rattle.run_top.specs.Status.{answer_of_end, answer_of_fault, answer_of_opening}

@@ -8,7 +8,7 @@ use Rattle.serde_json.specs.Data.{Data}
 use Rattle.machine_model.specs.State.{State}
 use Rattle.machine_model.specs.declared.flow.Flow.{Flow}
 use Rattle.store_core.specs.Opened.{IsOfOther}
-use Rattle.engine_core.specs.Committing.{identity_of}
+use Rattle.engine_change.specs.Committing.{identity_of}
 use Rattle.flow_definition.specs.declared.error.FlowError.TheVariants as error
 use Rattle.flow_definition.specs.declared.field.Field.TheVariants.{Processors}
 use Rattle.flow_definition.specs.declared.limits.TheConstants.{TEXT_MAX}
@@ -33,7 +33,7 @@ use Rattle.run_top.specs.Run.{AnswerHasCause}
 use Rattle.run_top.specs.Text.{BreaksRule, IsFlowIn, IsOfText, IsReadFlow, TextIsRefused}
 use Rattle.run_top.specs.declared.answer.Answer.{Answer}
 use Rattle.run_top.specs.declared.answer.Answer.TheVariants.{Done, Usage, Refused, OtherFlow, Damaged, Disk, Inbox, Outbox, Source, Sink, Blocked, Limit, Memory, Absent}
-use Rattle.run_top.proofs.Built.{of_flow}
+use Rattle.run_top.proofs.OneStore.{of_flow}
 
 -- ---- devices
 

@@ -21,7 +21,7 @@ use Rattle.store_core.specs.State.{queue_of, state_with}
 use Rattle.store_core.proofs.Agreeing.{stands_by_kept, state_of_sound}
 use Rattle.store_core.proofs.EventsStay.{no_event}
 use Rattle.store_core.proofs.Making.{kept_unmade}
-use Rattle.engine_core.specs.Committing.{identity_of}
+use Rattle.engine_change.specs.Committing.{identity_of}
 use Rattle.run_top.specs.Opening.{IsOfFlow}
 use Rattle.run_top.specs.Trial.{no_disk_files}
 

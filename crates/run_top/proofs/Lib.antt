@@ -2,7 +2,7 @@ pub mod Anew
 pub mod Answers
 pub mod Asked
 pub mod Broken
-pub mod Built
+pub mod OneStore
 pub mod Complete
 pub mod Empty
 pub mod Lines

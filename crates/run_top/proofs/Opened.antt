@@ -11,7 +11,7 @@ use Rattle.store_core.specs.Flow.{Flow}
 use Rattle.store_core.specs.Opened.{IsOfOther, IsShut}
 use Rattle.store_core.specs.State.{stands_for}
 use Rattle.store_core.specs.declared.error.StoreError.{StoreError}
-use Rattle.engine_core.specs.Committing.{identity_of}
+use Rattle.engine_change.specs.Committing.{identity_of}
 use Rattle.run_top.specs.Opening.{IsLeftUnwritten, IsOfFlow, IsShutAnswer, IsToldBy, IsUnopened}
 use Rattle.run_top.specs.Run.{IsNotOpened}
 use Rattle.run_top.specs.Status.{answer_of_opening}

@@ -12,18 +12,18 @@ use Rattle.machine_model.specs.State.{Machine, State}
 use Rattle.store_core.specs.Calls.{IsUnwritten, SinceSync}
 use Rattle.store_core.specs.Flow as store
 use Rattle.store_core.specs.Opened.{SameMeaning}
-use Rattle.engine_core.specs.Committing.{identity_of}
-use Rattle.flow_run.specs.Ending.{EndsOnFaults, EndsShort, IsQuietOrBlocked, IsLimitMet}
-use Rattle.flow_run.specs.Laws.{FailedOpeningsEnd}
-use Rattle.flow_run.specs.Puts.{Outgoing, Start}
-use Rattle.flow_run.specs.Run.{HasRun, machine_at}
-use Rattle.flow_run.specs.Turns.{AreMadeAt}
-use Rattle.flow_run.specs.Work.{IsEndedByLimit, IsReadDamaged}
-use Rattle.flow_run.specs.declared.ended.Ended.{Ended}
-use Rattle.flow_run.specs.declared.ended.Ended.TheVariants as ending
-use Rattle.flow_run.specs.declared.ended.Fault.TheVariants as fault
-use Rattle.flow_engine.specs.Closing.{Shows}
-use Rattle.flow_engine.specs.declared.run.Ran.{Ran}
+use Rattle.engine_change.specs.Committing.{identity_of}
+use Rattle.run_law.specs.Ending.{EndsOnFaults, EndsShort, IsQuietOrBlocked, IsLimitMet}
+use Rattle.run_law.specs.Laws.{FailedOpeningsEnd}
+use Rattle.run_law.specs.Puts.{Outgoing, Start}
+use Rattle.run_law.specs.Run.{HasRun, machine_at}
+use Rattle.run_law.specs.Turns.{AreMadeAt}
+use Rattle.run_law.specs.Work.{IsEndedByLimit, IsReadDamaged}
+use Rattle.run_law.specs.declared.ended.Ended.{Ended}
+use Rattle.run_law.specs.declared.ended.Ended.TheVariants as ending
+use Rattle.run_law.specs.declared.ended.Fault.TheVariants as fault
+use Rattle.engine_steps.specs.Closing.{Shows}
+use Rattle.flow_scheduler.specs.declared.run.Ran.{Ran}
 use Rattle.store_core.specs.Touched.{Revives}
 use Rattle.flowfile_wal.specs.Current.{current_number}
 use Rattle.run_top.specs.Opening.{IsLeftUnwritten, IsOfFlow, IsOfStore, IsShutAnswer, IsToldBy, IsUnopened, Opens}

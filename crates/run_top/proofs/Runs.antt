@@ -6,16 +6,16 @@ use Rattle.flowfile_record.specs.NamedFile.{NamedFile}
 use Rattle.machine_model.specs.declared.flow.Flow.{Flow}
 use Rattle.machine_model.specs.State.{Machine, State}
 use Rattle.store_core.specs.Opened.{IsShut}
-use Rattle.engine_core.specs.Committing.{identity_of}
+use Rattle.engine_change.specs.Committing.{identity_of}
 use Rattle.flow_words.specs.declared.command.RunOptions.{RunOptions}
-use Rattle.flow_run.specs.Ending.{IsFault}
-use Rattle.flow_run.specs.Puts.{Start, outgoing}
-use Rattle.flow_run.specs.Run.{machine_at}
-use Rattle.flow_run.specs.declared.ended.Ended.{Ended}
-use Rattle.flow_run.specs.declared.ended.Ended.TheVariants as ending
-use Rattle.flow_engine.specs.Closing.{Shows}
-use Rattle.flow_engine.specs.declared.close.Closed.{Closed}
-use Rattle.flow_engine.specs.declared.run.Ran.{Ran}
+use Rattle.run_law.specs.Ending.{IsFault}
+use Rattle.run_law.specs.Puts.{Start, outgoing}
+use Rattle.run_law.specs.Run.{machine_at}
+use Rattle.run_law.specs.declared.ended.Ended.{Ended}
+use Rattle.run_law.specs.declared.ended.Ended.TheVariants as ending
+use Rattle.engine_steps.specs.Closing.{Shows}
+use Rattle.engine_steps.specs.declared.close.Closed.{Closed}
+use Rattle.flow_scheduler.specs.declared.run.Ran.{Ran}
 use Rattle.run_top.specs.Opening.{IsOfFlow}
 use Rattle.run_top.specs.Printing.{IsLine, AnswerIsPrinted, IsRefusingAnswer, closing_text, end_text, refusal_line}
 use Rattle.run_top.specs.Run.{RunCountsFaults, AnswerHasCause, HasEnded, HasFailed, HasShownEnd, RunHasWritten, IsLeftShut, IsNotOpened, IsShownAs, IsToldAs, Runs}

@@ -1,10 +1,10 @@
 -- How long the log is where a run ends with nothing left to do, or with all of it held back.
 use Rattle.std.proofs.Common.{◌≡◌, ◌⊎◌, inl, inr, ⊎_elim, ℕ, refl, subst}
 use Rattle.disk_trait.specs.Files.{Files}
-use Rattle.flow_run.specs.Ending as flow_run
-use Rattle.flow_run.specs.declared.ended.Ended.{Ended}
-use Rattle.flow_run.specs.declared.ended.Ended.TheVariants as ending
-use Rattle.flow_run.specs.declared.ended.Fault.TheVariants as fault
+use Rattle.run_law.specs.Ending as run_law
+use Rattle.run_law.specs.declared.ended.Ended.{Ended}
+use Rattle.run_law.specs.declared.ended.Ended.TheVariants as ending
+use Rattle.run_law.specs.declared.ended.Fault.TheVariants as fault
 use Rattle.run_top.specs.Opening.{IsOfStore}
 use Rattle.run_top.specs.Run.{LeavesShortLog}
 use Rattle.run_top.specs.Status.{answer_of_end}
@@ -37,7 +37,7 @@ module _ {D : Type 0} (moment : D → ℕ) (images : D → ℕ → Files → Typ
   pub not_begun : (answer : Answer) → IsOfStore answer → LeavesShortLog answer moment images checkpoint new
   not_begun answer store rest = absurd (no_opening answer store rest)
 
-  pub has_ended : (ended : Ended) → flow_run.EndsShort moment images checkpoint ended new → LeavesShortLog (answer_of_end ended) moment images checkpoint new
+  pub has_ended : (ended : Ended) → run_law.EndsShort moment images checkpoint ended new → LeavesShortLog (answer_of_end ended) moment images checkpoint new
   has_ended ended short rest = short (rests ended rest)
 
   pub not_shown : (answer : Answer) → answer ≡ Sink → LeavesShortLog answer moment images checkpoint new

@@ -20,12 +20,12 @@ use Rattle.store_core.specs.Opened.{SameMeaning}
 use Rattle.store_core.specs.State.{stands_for, state_with}
 use Rattle.store_core.specs.Store.{StoreState, kept_by, FilesHold}
 use Rattle.store_core.specs.Valid.{HeldFilesStandForKept, KeptIsValid}
-use Rattle.engine_core.specs.Committing.{identity_of}
-use Rattle.flow_run.specs.Going.{IsRunningAt}
-use Rattle.flow_run.specs.Laws.{OpenedRunsBegin}
-use Rattle.flow_run.specs.Puts.{Start}
-use Rattle.flow_run.specs.Run.{machine_at}
-use Rattle.flow_run.specs.Work.{IsAtWork}
+use Rattle.engine_change.specs.Committing.{identity_of}
+use Rattle.run_law.specs.Going.{IsRunningAt}
+use Rattle.run_law.specs.Laws.{OpenedRunsBegin}
+use Rattle.run_law.specs.Puts.{Start}
+use Rattle.run_law.specs.Run.{machine_at}
+use Rattle.run_law.specs.Work.{IsAtWork}
 
 ok_is : {a b : State} → ◌≡◌ {A = Result State Damage} (Ok a) (Ok b) → a ≡ b
 ok_is is = cc

@@ -20,13 +20,13 @@ use Rattle.prov_store.specs.State.{counts_of}
 use Rattle.store_core.specs.Flow as store
 use Rattle.store_core.specs.State.{queue_of, queued_active}
 use Rattle.store_core.proofs.Sound.{unmap}
-use Rattle.engine_core.specs.Expiring.{StandsForItsBytes}
+use Rattle.engine_change.specs.Expiring.{StandsForItsBytes}
 use Rattle.flow_report.specs.Summary.{connection_batches, connection_bytes, connections_text, count_text, connection_files, kinds, summary}
 use Rattle.flow_report.specs.Texts.{connection_text, line_of}
 use Rattle.flow_query.proofs.Counted.{length-queue}
-use Rattle.flow_run.specs.declared.ended.Ended.{Ended}
-use Rattle.flow_engine.specs.Closing.{Shows}
-use Rattle.flow_engine.specs.declared.close.Closed.{Closed}
+use Rattle.run_law.specs.declared.ended.Ended.{Ended}
+use Rattle.engine_steps.specs.Closing.{Shows}
+use Rattle.engine_steps.specs.declared.close.Closed.{Closed}
 use Rattle.run_top.specs.Printing.{closing_text, count_of_kind, end_line, end_text, machine_summary, queue_line}
 
 -- ---- the bytes of a queue

@@ -14,12 +14,12 @@ use Rattle.machine_model.specs.Valid.{new_state}
 use Rattle.machine_model.specs.declared.flow.Flow.{Flow}
 use Rattle.flow_words.specs.declared.command.TheConstants.{DEFAULT_CHECKPOINT, DEFAULT_COMMITS}
 use Rattle.trial_flow.specs.Trial.{IsTrialFlow}
-use Rattle.flow_run.specs.Ending.{IsFault}
-use Rattle.flow_run.specs.Puts.{Outgoing, Start}
-use Rattle.flow_run.specs.Run.{machine_at}
-use Rattle.flow_run.specs.declared.ended.Ended.{Ended}
-use Rattle.flow_run.specs.declared.ended.Ended.TheVariants as ending
-use Rattle.flow_engine.specs.declared.run.Ran.{Ran}
+use Rattle.run_law.specs.Ending.{IsFault}
+use Rattle.run_law.specs.Puts.{Outgoing, Start}
+use Rattle.run_law.specs.Run.{machine_at}
+use Rattle.run_law.specs.declared.ended.Ended.{Ended}
+use Rattle.run_law.specs.declared.ended.Ended.TheVariants as ending
+use Rattle.flow_scheduler.specs.declared.run.Ran.{Ran}
 use Rattle.run_top.specs.Opening.{IsOfFlow, IsOfStore}
 use Rattle.run_top.specs.Printing.{IsLine, AnswerIsPrinted, IsRefusingAnswer, closing_text, refusal_line}
 use Rattle.run_top.specs.Run.{HasEnded, IsShownAs}

@@ -8,7 +8,7 @@ use Rattle.flowfile_wal.specs.Current.{current_number}
 use Rattle.store_core.specs.Calls.{SinceSync}
 use Rattle.store_core.specs.Touched.{OnlyShortens, Revives, log_opened}
 use Rattle.store_core.proofs.Cutting.{shortened_in_turn}
-use Rattle.flow_run.specs.Work.{WritesFrom, WritesLog}
+use Rattle.run_law.specs.Work.{WritesFrom, WritesLog}
 use Rattle.run_top.specs.Run.{MayWrite, WritesAlone}
 
 revived_shortens : (files c : Files) → Revives (current_number files) files c → OnlyShortens (MayWrite files) files c

@@ -10,7 +10,7 @@ use Rattle.store_core.specs.Flow as store
 use Rattle.store_core.specs.Kept.{kept_in}
 use Rattle.store_core.specs.Opened.{IsOfOther, SameMeaning}
 use Rattle.store_core.specs.State.{stands_for}
-use Rattle.engine_core.specs.Committing.{identity_of}
+use Rattle.engine_change.specs.Committing.{identity_of}
 use Rattle.run_top.specs.declared.answer.Answer.{Answer}
 use Rattle.run_top.specs.declared.answer.Answer.TheVariants.{OtherFlow, Damaged, Disk, Memory}
 

@@ -16,9 +16,9 @@ use Rattle.flow_definition.specs.Numbers.{rule_number}
 use Rattle.flow_report.specs.Summary.{count_text, kinds, summary}
 use Rattle.flow_report.specs.Texts.{connection_text, damage_text, line_of, text_of}
 use Rattle.flow_report.specs.declared.line.Line.TheVariants as line
-use Rattle.flow_run.specs.declared.ended.Ended.{Ended}
-use Rattle.flow_run.specs.declared.ended.Ended.TheVariants as ending
-use Rattle.flow_engine.specs.declared.close.Closed.{Closed}
+use Rattle.run_law.specs.declared.ended.Ended.{Ended}
+use Rattle.run_law.specs.declared.ended.Ended.TheVariants as ending
+use Rattle.engine_steps.specs.declared.close.Closed.{Closed}
 use Rattle.flow_query.specs.Parts.{HasFront}
 use Rattle.run_top.specs.declared.answer.Answer.{Answer}
 use Rattle.run_top.specs.declared.answer.Answer.TheVariants.{Done, Usage, Refused, OtherFlow, Damaged, Disk, Inbox, Outbox, Source, Sink, Blocked, Limit, Memory}

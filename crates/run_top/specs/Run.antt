@@ -15,20 +15,20 @@ use Rattle.store_core.specs.Calls.{SinceSync, IsUnwritten}
 use Rattle.store_core.specs.Flow as store
 use Rattle.store_core.specs.Opened.{IsShut, SameMeaning}
 use Rattle.store_core.specs.Touched.{IsOfLog, OnlyShortens, log_opened}
-use Rattle.engine_core.specs.Committing.{identity_of}
+use Rattle.engine_change.specs.Committing.{identity_of}
 use Rattle.flow_definition.specs.Patterns.{Told}
 use Rattle.flow_definition.specs.declared.rule.Rule.{Rule}
 use Rattle.flow_words.specs.declared.command.RunOptions.{RunOptions}
-use Rattle.flow_run.specs.Ending.{IsQuietOrBlocked, IsFault, IsLimitMet}
-use Rattle.flow_run.specs.Puts.{Outgoing, Start, outgoing}
-use Rattle.flow_run.specs.Run.{HasRun, machine_at}
-use Rattle.flow_run.specs.Turns.{AreMadeAt}
-use Rattle.flow_run.specs.Work.{IsReadDamaged, IsShortOn, MayWriteFrom}
-use Rattle.flow_run.specs.declared.ended.Ended.{Ended}
-use Rattle.flow_run.specs.declared.ended.Ended.TheVariants as ending
-use Rattle.flow_run.specs.declared.ended.Fault.{Fault}
-use Rattle.flow_engine.specs.Closing.{Shows}
-use Rattle.flow_engine.specs.declared.run.Ran.{Ran}
+use Rattle.run_law.specs.Ending.{IsQuietOrBlocked, IsFault, IsLimitMet}
+use Rattle.run_law.specs.Puts.{Outgoing, Start, outgoing}
+use Rattle.run_law.specs.Run.{HasRun, machine_at}
+use Rattle.run_law.specs.Turns.{AreMadeAt}
+use Rattle.run_law.specs.Work.{IsReadDamaged, IsShortOn, MayWriteFrom}
+use Rattle.run_law.specs.declared.ended.Ended.{Ended}
+use Rattle.run_law.specs.declared.ended.Ended.TheVariants as ending
+use Rattle.run_law.specs.declared.ended.Fault.{Fault}
+use Rattle.engine_steps.specs.Closing.{Shows}
+use Rattle.flow_scheduler.specs.declared.run.Ran.{Ran}
 use Rattle.run_top.specs.Opening.{IsOfFlow, IsShutAnswer, IsToldBy}
 use Rattle.run_top.specs.Printing.{IsLine, AnswerIsPrinted, IsRefusingAnswer, end_text, refusal_line}
 use Rattle.run_top.specs.Status.{answer_of_end, answer_of_fault}

@@ -1,10 +1,10 @@
 -- What a command comes to, and its status.
 use Rattle.std.specs.Prelude.{ℕ, Result, Ok, Err}
-use Rattle.flow_engine.specs.declared.run.Ran.{Ran}
-use Rattle.flow_run.specs.declared.ended.Ended.{Ended}
-use Rattle.flow_run.specs.declared.ended.Ended.TheVariants as ending
-use Rattle.flow_run.specs.declared.ended.Fault.{Fault}
-use Rattle.flow_run.specs.declared.ended.Fault.TheVariants as fault
+use Rattle.flow_scheduler.specs.declared.run.Ran.{Ran}
+use Rattle.run_law.specs.declared.ended.Ended.{Ended}
+use Rattle.run_law.specs.declared.ended.Ended.TheVariants as ending
+use Rattle.run_law.specs.declared.ended.Fault.{Fault}
+use Rattle.run_law.specs.declared.ended.Fault.TheVariants as fault
 use Rattle.store_core.specs.declared.error.StoreError.{StoreError}
 use Rattle.store_core.specs.declared.error.StoreError.TheVariants as store
 use Rattle.run_top.specs.declared.answer.Answer.{Answer}

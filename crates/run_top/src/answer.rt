@@ -9,8 +9,8 @@ use crate::status::{
 };
 use disk_trait::Damage;
 use flow_definition::Rule;
-use flow_run::{Ended, Fault};
 use flowfile_record::Text;
+use run_law::{Ended, Fault};
 use std::alloc::AllocError;
 use store_core::{Limit, StoreError};
 

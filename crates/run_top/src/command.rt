@@ -6,12 +6,11 @@ ghost use Rattle.machine_model.specs.Sound.{IsSound};
 ghost use Rattle.machine_model.specs.State.{State};
 ghost use Rattle.machine_model.specs.declared.flow.Flow.{Flow as TheFlow};
 ghost use Rattle.store_core.specs.Opened.{IsShut};
-ghost use Rattle.engine_core.specs.Committing.{identity_of};
+ghost use Rattle.engine_change.specs.Committing.{identity_of};
 ghost use Rattle.flow_definition.specs.Patterns.{told_by_builder};
-ghost use Rattle.flow_run.specs.Ending.{IsFault};
-ghost use Rattle.flow_run.specs.Puts.{outgoing};
-ghost use Rattle.flow_run.specs.Run.{machine_at};
-ghost use Rattle.flow_engine.specs.Engine.{AreBuilt};
+ghost use Rattle.run_law.specs.Ending.{IsFault};
+ghost use Rattle.run_law.specs.Puts.{outgoing};
+ghost use Rattle.run_law.specs.Run.{machine_at};
 ghost use Rattle.run_top.specs.Complete.{IsEndOrMemory, StandsStill};
 ghost use Rattle.run_top.specs.Opening.{IsOfFlow, IsOfStore};
 ghost use Rattle.run_top.specs.Printing.{IsLine, refusal_line};
@@ -28,11 +27,11 @@ use crate::printing::{refuse, show};
 use crate::text::read;
 use disk_trait::Disk;
 use flow_definition::Patterns;
-use flow_engine::{Ran, run_flow};
-use flow_run::{failed_openings_end_a_run, run_begins};
+use flow_scheduler::{Ran, run_flow};
 use flow_words::{COMMITS_MAX, Command, RunOptions, WordsError, read_words};
 use machine_model::Flow;
 use prov_store::events_up_to_the_last_are_in_a_row;
+use run_law::{failed_openings_end_a_run, run_begins};
 use std::alloc::Global;
 use store_core::what_is_kept_is_a_state;
 use world_io::{Clock, Gate, Inbox, Outbox, Sink, Source};
@@ -232,7 +231,6 @@ fn run_read<D: Disk, I: Inbox, O: Outbox, S: Sink, C: Clock, G: Gate>(
     gate: &G,
 ) -> Answer
     requires sound { IsSound flow.now }
-    requires built { AreBuilt flow.now }
     requires digest { IsDigest flow.now.digest }
     requires most { options.max_commits ≤ COMMITS_MAX }
     ensures runs { Runs flow.now result C.given (C.time clock.old) (C.time clock.new) lot options
@@ -273,7 +271,6 @@ pub(crate) fn run_over<D: Disk, I: Inbox, O: Outbox, C: Clock, G: Gate>(
     gate: &G,
 ) -> Result<Ran, Answer>
     requires sound { IsSound flow.now }
-    requires built { AreBuilt flow.now }
     requires digest { IsDigest flow.now.digest }
     requires most { most < 2 ^ 64 - 1 }
     ensures ran { IfOk result (λ ran. IsTrue D.tells → IsTrue I.tells → IsTrue O.tells

@@ -8,13 +8,13 @@ ghost use Rattle.machine_model.specs.Sound.{IsSound};
 ghost use Rattle.store_core.specs.Calls.{SinceSync};
 ghost use Rattle.store_core.specs.Opened.{IsShut};
 ghost use Rattle.store_core.specs.Touched.{Revives, log_opened};
-ghost use Rattle.engine_core.specs.Committing.{identity_of};
-ghost use Rattle.flow_run.specs.Work.{IsAtWork};
+ghost use Rattle.engine_change.specs.Committing.{identity_of};
+ghost use Rattle.run_law.specs.Work.{IsAtWork};
 ghost use Rattle.run_top.specs.Opening.{IsLeftUnwritten, IsOfStore, IsToldBy, IsUnopened, Opens};
 
 use crate::Answer;
 use disk_trait::Disk;
-use engine_core::connection_ids;
+use engine_change::connection_ids;
 use machine_model::Flow;
 use std::alloc::Global;
 use store_core::{FlowIdentity, Store};

@@ -3,7 +3,7 @@ ghost use Rattle.std.specs.Prelude.{◌≡◌, ◌≤◌, IfErr, IfOk, IfSome, I
 ghost use Rattle.disk_trait.specs.Faults.{CountsFaults};
 ghost use Rattle.flow_report.specs.Texts.{text_of};
 ghost use Rattle.flow_report.specs.Writing.{Writes};
-ghost use Rattle.flow_run.specs.Ending.{IsFault};
+ghost use Rattle.run_law.specs.Ending.{IsFault};
 ghost use Rattle.run_top.specs.Opening.{IsOfStore};
 ghost use Rattle.run_top.specs.Printing.{IsLine, AnswerIsPrinted, IsRefusingAnswer, closing_text, connection_at, end_line, limit_word, refusal_line, refused_line};
 ghost use Rattle.run_top.specs.Run.{IsShownAs, IsToldAs};
@@ -12,10 +12,11 @@ ghost use Rattle.run_top.specs.Status.{status_of};
 use crate::Answer;
 use crate::answer::answer_of_end;
 use disk_trait::Failed;
-use flow_engine::{Closed, Ran};
+use engine_steps::Closed;
 use flow_report::{Line, write_line, write_summary};
-use flow_run::Ended;
+use flow_scheduler::Ran;
 use machine_model::Flow;
+use run_law::Ended;
 use store_core::Which;
 use world_io::Sink;
 

@@ -2,7 +2,6 @@
 ghost use Rattle.std.specs.Prelude.{◌-◌, ◌^◌, ◌<◌, IfOk};
 ghost use Rattle.flowfile_record.specs.Encoding.{IsDigest};
 ghost use Rattle.machine_model.specs.Sound.{IsSound};
-ghost use Rattle.flow_engine.specs.Engine.{AreBuilt};
 
 use super::*;
 use crate::command::run_over;
@@ -10,11 +9,11 @@ use crate::opening::open;
 use crate::text::read;
 use disk_trait::{Disk, MemoryDisk, Pick};
 use flow_definition::Builder;
-use flow_run::Ended;
 use flow_words::{DEFAULT_CHECKPOINT, DEFAULT_COMMITS};
 use flowfile_record::{Event, EventKind};
 use machine_model::Flow;
 use prov_store::Events;
+use run_law::Ended;
 use sha2::{Digest, Sha256};
 use std::alloc::Global;
 use std::sync::atomic::{AtomicU64, Ordering};
@@ -221,7 +220,6 @@ const CHECKPOINT_CALLS: u64 = 10;
 // The flow that makes so many files.
 fn beat(alloc: Global, files: u64) -> Result<Flow, Fail>
     ensures sound { IfOk result IsSound }
-    ensures built { IfOk result AreBuilt }
     ensures digest { IfOk result (λ flow. IsDigest flow.digest) }
 {
     let [head, tail] = BEAT;
@@ -272,7 +270,6 @@ fn goes_on<G: Gate>(
     gate: &G,
 ) -> Result<(Ended, u64), Fail>
     requires sound { IsSound flow.now }
-    requires built { AreBuilt flow.now }
     requires digest { IsDigest flow.now.digest }
     requires most { most < 2 ^ 64 - 1 }
 {

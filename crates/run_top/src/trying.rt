@@ -2,8 +2,7 @@
 ghost use Rattle.std.specs.Prelude.{◌≡◌, ◌≤◌, IfErr, IfOk, MatchOption};
 ghost use Rattle.flowfile_record.specs.Encoding.{IsDigest};
 ghost use Rattle.machine_model.specs.Sound.{IsSound};
-ghost use Rattle.flow_run.specs.Ending.{IsFault};
-ghost use Rattle.flow_engine.specs.Engine.{AreBuilt};
+ghost use Rattle.run_law.specs.Ending.{IsFault};
 ghost use Rattle.run_top.specs.Status.{status_of};
 ghost use Rattle.run_top.specs.Trial.{IsTried, RanInMemory, unless_fault, with_memory};
 ghost use Rattle.run_top.specs.declared.answer.Answer.{Answer as TheAnswer};
@@ -12,10 +11,10 @@ use crate::Answer;
 use crate::command::run_over;
 use crate::printing::{refuse, show};
 use disk_trait::MemoryDisk;
-use flow_engine::Ran;
-use flow_run::Ended;
+use flow_scheduler::Ran;
 use flow_words::{DEFAULT_CHECKPOINT, DEFAULT_COMMITS, TRIAL_MAX};
 use machine_model::Flow;
+use run_law::Ended;
 use std::alloc::Global;
 use trial_flow::trial_flow;
 use world_io::{Gate, MemoryClock, MemoryInbox, MemoryOutbox, Sink};
@@ -52,7 +51,6 @@ fn try_out<S: Sink, G: Gate>(alloc: Global, count: u64, lot: u64, sink: &mut S, 
 // Runs a flow over devices in memory.
 fn run_in_memory<G: Gate>(alloc: Global, flow: &Flow, lot: u64, gate: &G) -> Result<Ran, Answer>
     requires sound { IsSound flow.now }
-    requires built { AreBuilt flow.now }
     requires digest { IsDigest flow.now.digest }
     ensures ran { IfOk result (RanInMemory flow.now lot) }
     ensures closed { IfOk result (λ ran. MatchOption ran.closed (IsFault ran.ended)

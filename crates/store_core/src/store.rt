@@ -207,8 +207,7 @@ impl Store {
         ensures alone { Since D.moment D.images disk.old disk.new
             (After (IdleShortened self.old.slots) (D.images disk.old (D.moment disk.old))) }
         ensures kept { IsKeptOn D.tells D.held D.moment D.images self.new disk.new }
-        ensures state { (kept_by self.new ≡ kept_by self.old) × (self.new.opened ≡ self.old.opened)
-            × (self.new.lot ≡ self.old.lot) × (self.new.log.number ≡ self.old.log.number) }
+        ensures rest { self.new ≡ record self.old { slots = self.new.slots; failed = self.new.failed } }
         ensures refusal { StopsOnFault result self.old self.new D.faults disk.old disk.new }
     {
         if self.has_failed {
@@ -234,7 +233,8 @@ impl Store {
         // What stands in the claims is needed.
         ensures tidy { OnOk result (IsTrue D.tells → IsTidy (kept_by self.new) (D.held disk.new)) }
         ensures kept { IsKeptOn D.tells D.held D.moment D.images self.new disk.new }
-        ensures state { (kept_by self.new ≡ kept_by self.old) × (self.new.lot ≡ self.old.lot) }
+        ensures rest { self.new ≡ record self.old
+            { slots = self.new.slots; opened = self.new.opened; failed = self.new.failed } }
         ensures refusal { StopsOnFault result self.old self.new D.faults disk.old disk.new }
     {
         if self.has_failed {

@@ -1,7 +1,7 @@
 //! Folders aside in an outbox, in which a file stands before it gets its name.
 use crate::folder::{Entry, Place, entry_at};
 use crate::numbered::{is_no_text, read_number};
-use crate::open_file::{FileId, OpenFile, create_file, for_reading, open_named};
+use crate::open_file::{FileId, OpenFile, OpenFolder, create_file, for_reading, open_named};
 use std::alloc::Global;
 use std::fs::{self, File, TryLockError};
 use std::io::{self, ErrorKind};
@@ -24,7 +24,10 @@ const MARK: &[u8] = b"A flow keeps a file here until it is whole.\n";
 #[derive(Drop)]
 pub(crate) struct Aside {
     path: String,
-    id: FileId,
+    /// Itself: as long as it is open no other folder has its id.
+    own: OpenFolder,
+    /// The outbox in which it stands.
+    outbox: OpenFolder,
     marker: OpenFile,
 }
 
@@ -57,9 +60,14 @@ impl Aside {
     /// Whether it is what stands under its path.
     pub(crate) fn still_stands<R: Files>(&self, rt: &R) -> io::Result<bool> {
         match entry_at(rt, self.path())? {
-            Entry::Folder(found) => Ok(FileId::of(&found) == self.id),
+            Entry::Folder(found) => Ok(self.own.is(&found)),
             Entry::Nothing | Entry::File(_) | Entry::Other => Ok(false),
         }
+    }
+
+    /// Syncs which entries stand in the outbox in which it stands.
+    pub(crate) fn sync_outbox(&self) -> io::Result<()> {
+        self.outbox.sync()
     }
 
     /// Removes it where it still stands and has nothing of anybody else's in it. Else it stays, as behind a stop.
@@ -85,8 +93,13 @@ fn is_made<R: Files>(rt: &R, path: &str) -> io::Result<bool> {
 
 /// The folder that was just made at a path, with a marker.
 fn with_marker<R: Files<File = File>>(place: &Place<'_, R>, path: String) -> io::Result<Aside> {
-    match make_marker(place, path.as_str()) {
-        Ok((id, marker)) => Ok(Aside { path, id, marker }),
+    match open_and_mark(place, path.as_str()) {
+        Ok((own, outbox, marker)) => Ok(Aside {
+            path,
+            own,
+            outbox,
+            marker,
+        }),
         Err(error) => {
             // Where it isn't empty any more it stays.
             let _ = fs::remove_dir(place.rt, path.as_str());
@@ -95,17 +108,39 @@ fn with_marker<R: Files<File = File>>(place: &Place<'_, R>, path: String) -> io:
     }
 }
 
-fn make_marker<R: Files<File = File>>(
+fn open_and_mark<R: Files<File = File>>(
     place: &Place<'_, R>,
     folder: &str,
-) -> io::Result<(FileId, OpenFile)> {
+) -> io::Result<(OpenFolder, OpenFolder, OpenFile)> {
+    let outbox = OpenFolder::at(place.rt, place.path()?)?;
+    let own = open_within(place, folder, &outbox)?;
+    let marker = make_marker(place, folder)?;
+    Ok((own, outbox, marker))
+}
+
+/// A folder of the outbox, open. It has to stand in the outbox that is open, whose place another one may have taken.
+fn open_within<R: Files<File = File>>(
+    place: &Place<'_, R>,
+    folder: &str,
+    outbox: &OpenFolder,
+) -> io::Result<OpenFolder> {
     let Entry::Folder(found) = entry_at(place.rt, folder)? else {
         return Err(ErrorKind::NotADirectory.into());
     };
+    let own = OpenFolder::at(place.rt, folder)?;
+    let above = entry_in(place.alloc, folder, "..")?;
+    if own.is(&found) && outbox.is(&fs::metadata(place.rt, above.as_str())?) {
+        Ok(own)
+    } else {
+        Err(ErrorKind::ResourceBusy.into())
+    }
+}
+
+fn make_marker<R: Files<File = File>>(place: &Place<'_, R>, folder: &str) -> io::Result<OpenFile> {
     let path = marker_in(place.alloc, folder)?;
     let mut marker = create_file(place.rt, path.as_str())?;
     match fill(&mut marker) {
-        Ok(()) => Ok((FileId::of(&found), marker)),
+        Ok(()) => Ok(marker),
         Err(error) => {
             let _ = fs::remove_file(place.rt, path.as_str());
             Err(error)

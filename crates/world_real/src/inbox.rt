@@ -8,17 +8,23 @@ use crate::faults::{counted, is_out_of_memory};
 use crate::folder::{Entry, Folder, Place, entry_at};
 use crate::open_file::{Look, OpenFile, for_reading, open_named};
 use crate::set_aside::{give_back, may_go, name_before, take_away};
+use crate::settle::{is_settled, time_to_settle};
 use disk_trait::Failed;
 use flowfile_record::{CONTENT_MAX, Name, NameError};
 use std::alloc::Global;
 use std::fs::{self, File, Metadata};
 use std::io::{self, ErrorKind};
 use std::os::unix::fs::FileExt;
-use std::rt::Files;
+use std::rt::{Clock, Files};
+use std::thread;
+use std::time::Duration;
 use world_io::{Inbox, WorldError};
 
 /// The regular files of a folder. Links, folders, pipes and the like don't count. An entry whose name
 /// isn't UTF-8 makes the listing fail.
+///
+/// A file that may still be written isn't taken. A listing waits for all such files together, a reading for its own;
+/// what goes on being written meanwhile is left out of the listing, and makes the reading fail.
 ///
 /// A file that the system wouldn't let go isn't read. Only the file that was read last is removed, and only where it
 /// didn't change since. For that it is set aside for a moment, as `.flow-taken-0-` and its name: what a stop leaves so
@@ -43,6 +49,23 @@ pub(crate) struct ListedFile {
     size: u64,
 }
 
+/// A file that was written to lately.
+#[derive(Drop)]
+struct YoungFile {
+    name: Name,
+    look: Look,
+    rest: Duration,
+}
+
+/// What stands in the folder.
+#[derive(Drop)]
+struct Gathered {
+    settled: Vec<ListedFile>,
+    young: Vec<YoungFile>,
+    /// The entries of the files that are set aside.
+    aside: Vec<String>,
+}
+
 #[derive(Drop)]
 pub(crate) struct SeenFile {
     name: Name,
@@ -51,7 +74,7 @@ pub(crate) struct SeenFile {
     file: OpenFile,
 }
 
-impl<'r, R: Files<File = File> + Alloc + Sync> InboxFolder<'r, R> {
+impl<'r, R: Files<File = File> + Alloc + Clock + Sync> InboxFolder<'r, R> {
     /// The inbox over a folder, with no fault.
     pub fn new(rt: &'r R, alloc: Global, folder: Folder<'r>) -> InboxFolder<'r, R>
         ensures { ⟦<InboxFolder<'r, R> as Inbox>⟧.faults result ≡ 0 }
@@ -66,7 +89,7 @@ impl<'r, R: Files<File = File> + Alloc + Sync> InboxFolder<'r, R> {
     }
 }
 
-impl<'r, R: Files<File = File> + Alloc + Sync> Inbox for InboxFolder<'r, R> {
+impl<'r, R: Files<File = File> + Alloc + Clock + Sync> Inbox for InboxFolder<'r, R> {
     ghost tells = { false };
 
     ghost left = { λ _. [] };
@@ -120,7 +143,7 @@ fn counted_world(faults: &mut u64, answer: io::Result<()>) -> Result<(), WorldEr
     }
 }
 
-fn list_names<R: Files<File = File> + Alloc>(
+fn list_names<R: Files<File = File> + Alloc + Clock>(
     place: &Place<'_, R>,
     listed: &mut Vec<ListedFile>,
     are_left: &mut bool,
@@ -129,37 +152,80 @@ fn list_names<R: Files<File = File> + Alloc>(
     requires { names.old.items ≡ [] }
     ensures ascending { OnOk result (IsAscending names.new.items) }
 {
-    let mut aside = gather(place, listed)?;
-    if !aside.is_empty() {
-        give_all_back(place, aside.as_slice())?;
-        listed.clear();
-        aside = gather(place, listed)?;
+    let mut found = gather(place)?;
+    if !found.aside.is_empty() {
+        give_all_back(place, found.aside.as_slice())?;
+        found = gather(place)?;
     }
-    *are_left = !aside.is_empty();
+    *are_left = !found.aside.is_empty();
+    *listed = found.settled;
+    let_settle(place, found.young, listed)?;
     listed.sort_unstable_by(|a: &ListedFile, b: &ListedFile| a.name.text().cmp(b.name.text()));
     keep_ascending(listed.as_slice(), names)?;
     listed.reverse();
     Ok(())
 }
 
-/// Adds the regular files of the folder, and gives the entries of those that are set aside, which it leaves out.
-fn gather<R: Files<File = File> + Alloc>(
-    place: &Place<'_, R>,
-    listed: &mut Vec<ListedFile>,
-) -> io::Result<Vec<String>> {
-    let mut aside = Vec::new(place.alloc);
+/// The regular files of the folder.
+fn gather<R: Files<File = File> + Alloc + Clock>(place: &Place<'_, R>) -> io::Result<Gathered> {
+    let mut gathered = Gathered {
+        settled: Vec::new(place.alloc),
+        young: Vec::new(place.alloc),
+        aside: Vec::new(place.alloc),
+    };
     for entry in fs::read_dir(&place.rt, place.path()?)? {
         let entry = entry?;
         if let Entry::File(found) = entry_at(place.rt, entry.path())? {
             if name_before(entry.file_name()).is_some() {
-                aside.push(String::from_str(place.alloc, entry.file_name())?)?;
+                let name = String::from_str(place.alloc, entry.file_name())?;
+                gathered.aside.push(name)?;
             } else if let Some(name) = read_name(place.alloc, entry.file_name())? {
-                let size = found.len();
+                add_file(place.rt, &mut gathered, name, &found)?;
+            }
+        }
+    }
+    Ok(gathered)
+}
+
+fn add_file<R: Clock>(
+    rt: &R,
+    gathered: &mut Gathered,
+    name: Name,
+    found: &Metadata,
+) -> io::Result<()> {
+    match time_to_settle(rt, found) {
+        Some(rest) => {
+            let look = Look::at(found);
+            gathered.young.push(YoungFile { name, look, rest })?;
+        }
+        None => {
+            let size = found.len();
+            gathered.settled.push(ListedFile { name, size })?;
+        }
+    }
+    Ok(())
+}
+
+/// Waits until the youngest of these files is old enough, and lists those to which nobody wrote meanwhile.
+fn let_settle<R: Files + Clock>(
+    place: &Place<'_, R>,
+    young: Vec<YoungFile>,
+    listed: &mut Vec<ListedFile>,
+) -> io::Result<()> {
+    let Some(rest) = young.iter().map(|file| file.rest).max() else {
+        return Ok(());
+    };
+    thread::sleep(place.rt, rest);
+    for file in young {
+        let path = place.entry(file.name.text())?;
+        if let Entry::File(found) = entry_at(place.rt, path.as_str())? {
+            if is_settled(place.rt, &file.look, &found) {
+                let (name, size) = (file.name, found.len());
                 listed.push(ListedFile { name, size })?;
             }
         }
     }
-    Ok(aside)
+    Ok(())
 }
 
 /// Gives each of these entries its name back where nothing else has it.
@@ -228,15 +294,31 @@ fn found_at<R: Files>(rt: &R, path: &str) -> io::Result<Metadata> {
     }
 }
 
+/// What the system tells of the file at a path. One that was written to lately is waited for; where somebody goes on
+/// writing to it, that is a failure.
+fn settled_at<R: Files + Clock>(rt: &R, path: &str) -> io::Result<Metadata> {
+    let found = found_at(rt, path)?;
+    let Some(rest) = time_to_settle(rt, &found) else {
+        return Ok(found);
+    };
+    thread::sleep(rt, rest);
+    let again = found_at(rt, path)?;
+    if is_settled(rt, &Look::at(&found), &again) {
+        Ok(again)
+    } else {
+        Err(ErrorKind::ResourceBusy.into())
+    }
+}
+
 /// The file, open, as it is before it is read: the one that was read last, where it still stands under its name. Another
 /// one is opened only where the system would let it go.
-fn open_at<R: Files<File = File>>(
+fn open_at<R: Files<File = File> + Clock>(
     place: &Place<'_, R>,
     name: &Name,
     last: Option<SeenFile>,
 ) -> io::Result<(Look, OpenFile)> {
     let path = place.entry(name.text())?;
-    let found = found_at(place.rt, path.as_str())?;
+    let found = settled_at(place.rt, path.as_str())?;
     let look = Look::at(&found);
     if let Some(file) = still_open(last, &look) {
         return Ok((look, file.of_size(found.len())));
@@ -262,7 +344,7 @@ fn take_seen(seen: &mut Option<SeenFile>, name: &Name) -> Option<SeenFile> {
     if last.name == *name { Some(last) } else { None }
 }
 
-fn read_whole<R: Files<File = File>>(
+fn read_whole<R: Files<File = File> + Clock>(
     place: &Place<'_, R>,
     seen: &mut Option<SeenFile>,
     name: &Name,

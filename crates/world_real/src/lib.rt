@@ -17,10 +17,12 @@ mod outbox;
 mod pending;
 mod renew;
 mod set_aside;
+mod settle;
 mod standing;
 mod store;
 mod stream;
 mod sync;
+mod written;
 
 pub use clock::MachineClock;
 pub use folder::{Folder, folder_to_read, make_folder};

@@ -1,6 +1,6 @@
 //! Files and folders that are open.
 use crate::folder::{Entry, entry_at};
-use std::fs::{self, File, Metadata, OpenOptions};
+use std::fs::{File, Metadata, OpenOptions};
 use std::io::{self, ErrorKind};
 use std::os::fd::AsRawFd;
 use std::os::unix::fs::{FileExt, MetadataExt};
@@ -138,7 +138,7 @@ fn off_the_streams(file: File) -> io::Result<File> {
     }
 }
 
-/// A folder that stays open for the syncs of which entries stand in it.
+/// A folder that stays open.
 #[derive(Drop)]
 pub(crate) struct OpenFolder {
     id: FileId,
@@ -146,45 +146,21 @@ pub(crate) struct OpenFolder {
 }
 
 impl OpenFolder {
+    pub(crate) fn at<R: Files<File = File>>(rt: &R, path: &str) -> io::Result<OpenFolder> {
+        let file = off_the_streams(File::open(rt, path)?)?;
+        let id = FileId::of(&file.metadata()?);
+        Ok(OpenFolder { id, file })
+    }
+
+    /// Whether it is the one that the system told of.
+    pub(crate) fn is(&self, found: &Metadata) -> bool {
+        FileId::of(found) == self.id
+    }
+
     /// Syncs which entries stand in it.
     pub(crate) fn sync(&self) -> io::Result<()> {
         self.file.sync_all()
     }
-}
-
-/// The folder at a path, open. The one that is open serves only where the path still leads to it: else its
-/// sync would make durable what stands elsewhere.
-pub(crate) fn folder_at<R: Files<File = File>>(
-    rt: &R,
-    path: &str,
-    open: Option<OpenFolder>,
-) -> io::Result<OpenFolder> {
-    match still_at(rt, path, open)? {
-        Some(folder) => Ok(folder),
-        None => keep_open(rt, path),
-    }
-}
-
-fn still_at<R: Files<File = File>>(
-    rt: &R,
-    path: &str,
-    open: Option<OpenFolder>,
-) -> io::Result<Option<OpenFolder>> {
-    let Some(folder) = open else {
-        return Ok(None);
-    };
-    let found = fs::metadata(rt, path)?;
-    if FileId::of(&found) == folder.id {
-        Ok(Some(folder))
-    } else {
-        Ok(None)
-    }
-}
-
-fn keep_open<R: Files<File = File>>(rt: &R, path: &str) -> io::Result<OpenFolder> {
-    let file = off_the_streams(File::open(rt, path)?)?;
-    let id = FileId::of(&file.metadata()?);
-    Ok(OpenFolder { id, file })
 }
 
 pub(crate) fn for_reading() -> OpenOptions {

@@ -5,7 +5,7 @@ ghost use Rattle.world_real.specs.Untold.{told_by_none};
 use crate::aside::{Aside, sweep};
 use crate::faults::counted;
 use crate::folder::{Entry, Folder, Place, entry_at};
-use crate::open_file::{OpenFolder, create_file, folder_at};
+use crate::open_file::create_file;
 use disk_trait::Failed;
 use flowfile_record::Name;
 use std::alloc::Global;
@@ -29,8 +29,6 @@ pub struct OutboxFolder<'r, R> {
     /// Tells the parts of this run from those of others.
     lot: u64,
     aside: FoldersAside,
-    /// The folder, which stays open from the first put on.
-    open: Option<OpenFolder>,
     faults: u64,
 }
 
@@ -54,7 +52,6 @@ impl<'r, R: Files<File = File> + Alloc + Sync> OutboxFolder<'r, R> {
             place: Place { rt, alloc, folder },
             lot,
             aside: FoldersAside::Unknown,
-            open: None,
             faults: 0,
         }
     }
@@ -96,14 +93,7 @@ impl<'r, R: Files<File = File> + Alloc + Sync> Outbox for OutboxFolder<'r, R> {
     }
 
     fn put(&mut self, name: &Name, bytes: &[u8]) -> Result<(), Failed> {
-        let answer = put(
-            &self.place,
-            self.lot,
-            &mut self.aside,
-            &mut self.open,
-            name.text(),
-            bytes,
-        );
+        let answer = put(&self.place, self.lot, &mut self.aside, name.text(), bytes);
         counted(&mut self.faults, answer)
     }
 }
@@ -124,14 +114,13 @@ fn put<R: Files<File = File> + Alloc>(
     place: &Place<'_, R>,
     lot: u64,
     aside: &mut FoldersAside,
-    open: &mut Option<OpenFolder>,
     name: &str,
     bytes: &[u8],
 ) -> io::Result<()> {
     sweep_once(place, aside)?;
     let path = place.entry(name)?;
     let folder = folder_of_a_put(place, aside, path.as_str())?;
-    let answer = put_through(place, lot, open, &folder, path.as_str(), bytes);
+    let answer = put_through(place, lot, &folder, path.as_str(), bytes);
     if answer.is_err() {
         // The next put looks again for what this one leaves.
         let _ = folder.give_up(place);
@@ -178,7 +167,6 @@ fn folder_of_a_put<R: Files<File = File> + Alloc>(
 fn put_through<R: Files<File = File> + Alloc>(
     place: &Place<'_, R>,
     lot: u64,
-    open: &mut Option<OpenFolder>,
     aside: &Aside,
     path: &str,
     bytes: &[u8],
@@ -188,11 +176,8 @@ fn put_through<R: Files<File = File> + Alloc>(
     opened.write(0, bytes)?;
     opened.file.sync_all()?;
     drop(opened);
-    // The folder is looked at first: no other one has this part, so what the rename changes is synced.
-    let folder = folder_at(place.rt, place.path()?, open.take())?;
-    // The system refuses it where a folder stands under the name.
+    // Only the outbox in which the folder aside stands has this part, so what the rename changes is synced. The system
+    // refuses it where a folder stands under the name.
     fs::rename(place.rt, part.as_str(), path)?;
-    folder.sync()?;
-    *open = Some(folder);
-    Ok(())
+    aside.sync_outbox()
 }

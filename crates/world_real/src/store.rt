@@ -12,6 +12,7 @@ use crate::open_files::OpenFiles;
 use crate::pending::Pending;
 use crate::standing::{names_in, path_of, standing_size, take_file, take_to_read};
 use crate::sync::sync_pending;
+use crate::written::{Written, give_once, is_content};
 use disk_trait::{Disk, DiskError, Failed, FileKind, FileName};
 use std::alloc::Global;
 use std::fs::{self, File};
@@ -36,6 +37,8 @@ pub(crate) struct StoreFiles {
     lock: Lock,
     open: OpenFiles,
     pending: Pending,
+    /// Nothing behind a cut, or a write or a sync that failed.
+    written: Option<Written>,
     moment: u64,
 }
 
@@ -74,6 +77,7 @@ impl<'r, R: Files<File = File> + Alloc + Clock + Sync> StoreFolder<'r, R> {
                 lock: Lock::Untried,
                 open: OpenFiles::new(alloc),
                 pending: Pending::Everything,
+                written: None,
                 moment: 0,
             },
             faults: 0,
@@ -208,6 +212,9 @@ fn read_at<R: Files<File = File> + Clock>(
     ensures moment { files.new.moment ≡ files.old.moment }
 {
     files.lock.hold(place, files.access)?;
+    if give_once(&mut files.written, name, at, into) {
+        return Ok(());
+    }
     let Some(mut file) = file_to_read(place, files, name)? else {
         return is_within(into.is_empty() && at == 0);
     };
@@ -284,6 +291,7 @@ fn write_at<R: Files<File = File> + Clock>(
     ensures last { files.old.moment ≡ 2 ^ 64 - 1 → IsErr result }
 {
     count_moment(&mut files.moment)?;
+    let last = files.written.take();
     is_within(at.checked_add(bytes.len() as u64).is_some())?;
     hold_alone(place, files)?;
     let mut file = match take_file(place, &mut files.open, name)? {
@@ -299,7 +307,13 @@ fn write_at<R: Files<File = File> + Clock>(
     };
     let answer = write_into(&mut file, name, at, bytes, &mut files.pending);
     files.open.put(name, file, &files.pending);
-    answer
+    answer?;
+    files.written = if is_content(name) {
+        Written::copy(place.alloc, name, at, bytes)
+    } else {
+        last
+    };
+    Ok(())
 }
 
 fn write_into(
@@ -328,6 +342,7 @@ fn cut_to<R: Files<File = File> + Clock>(
     ensures last { files.old.moment ≡ 2 ^ 64 - 1 → IsErr result }
 {
     count_moment(&mut files.moment)?;
+    files.written = None;
     hold_alone(place, files)?;
     let Some(mut file) = take_file(place, &mut files.open, name)? else {
         return is_within(size == 0);
@@ -368,6 +383,9 @@ fn sync_files<R: Files<File = File> + Alloc + Clock>(
     ensures last { files.old.moment ≡ 2 ^ 64 - 1 → IsErr result }
 {
     count_moment(&mut files.moment)?;
+    let last = files.written.take();
     hold_alone(place, files)?;
-    sync_pending(place, &files.lock, &mut files.open, &mut files.pending)
+    sync_pending(place, &files.lock, &mut files.open, &mut files.pending)?;
+    files.written = last;
+    Ok(())
 }

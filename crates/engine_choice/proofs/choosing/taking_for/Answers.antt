@@ -1,7 +1,7 @@
 use Rattle.std.proofs.Common.{◌+◌, nat_lt, ℕ, List, cond, get_or, sym, ap, ◌∙◌}
 use Rattle.std.specs.Prelude.{Option, None, Some, option_map, slice_get, slice_index}
 use Rattle.engine_queues.specs.Queues.{queue_seen}
-use Rattle.engine_queues.specs.Choosing.{first_pick}
+use Rattle.engine_queues.specs.Picking.{first_pick}
 use Rattle.engine_choice.specs.declared.choice.Taking.{Taking}
 use Rattle.engine_choice.specs.declared.choice.Taking.TheVariants.{Files, Generate, Receive}
 use Rattle.engine_choice.proofs.Takings.{generates, item-at, mapped-twice, receives, takes-picked}

@@ -1,13 +1,28 @@
-use Rattle.std.proofs.Common.{[], ◌∷◌, ◌++◌, map, take, sym, ap, ◌∙◌, subst, arith}
+use Rattle.std.proofs.Common.{◌≡◌, ◌&&◌, [], ◌∷◌, ◌++◌, map, take, refl, sym, ap, ◌∙◌, subst, arith}
+use Rattle.std.specs.List.{list_all}
 use Rattle.serde_json.specs.View.{view}
+use Rattle.flow_definition.specs.Judged.{is_processor_made, kept_with_made, refused_processors}
 use Rattle.flow_definition.specs.Made.{AreMade, told_all, told_made}
 use Rattle.flow_definition.specs.Patterns.{HasRisen, Told, told_by_builder}
+use Rattle.flow_definition.proofs.Judged.{accepted_first, accepted_push, kept_first, kept_push, made_place, refused_push}
 use Rattle.flow_definition.proofs.Verdicts.{told_push, made_push, made_later, one_later, risen_before, risen_after}
 use Rattle.flow_definition.proofs.Walks.{front_at}
 use Rattle.flow_definition.proofs.made.make_all.Goals as goal
 
-pub returns-in_err-make-clause-count : goal.returns-in_err-make-clause-count
-returns-in_err-make-clause-count g c = omega (arith, c.items.invariant.count, c.make.ensures.count)
+pub items-init : goal.items-init
+items-init g c = record {
+  judged = (
+    record {
+      made = [];
+      each = tt;
+      told = refl;
+      refused = c.new-judged.ensures.refused;
+      processors = c.new-judged.ensures.processors ∙ kept_first c.args.may_be_accepted;
+    },
+    c.new-judged.ensures.accepted ∙ accepted_first c.args.may_be_accepted,
+  );
+  count = omega arith;
+}
 
 pub items-preserved : goal.items-preserved
 items-preserved g c =
@@ -15,23 +30,36 @@ items-preserved g c =
     let middle = g.P.Patterns.faults c.items.patterns in
     let last = g.P.Patterns.faults c.make.new.patterns in
     let items = c.args.items.now in
-    let front = map view (take c.items.item-index items) in
-    let item = c.item-item.result in
-    let made = c.in_ok-make.field-0 in
-    let before = made_later (HasRisen first middle) (HasRisen first last) front c.items.list.items
-    (risen_before first middle last c.make.ensures.count) c.items.invariant.made in
+    let place = c.items.place in
+    let front = map view (take place items) in
+    let item = c.index-items-place.result in
+    let made = c.in_ok-made.made in
+    let are = c.items.invariant.judged.0 in
+    let accepted = c.args.may_be_accepted in
+    let before = made_later (HasRisen first middle) (HasRisen first last) front are.made
+    (risen_before first middle last c.make.ensures.count) are.each in
     let one = one_later (HasRisen middle last) (HasRisen first last) (view item) made
-    (risen_after first middle last c.items.invariant.count) c.in_ok-make.ensures.made in
-    let more = made_push (HasRisen first last) front c.items.list.items (view item) made before one in
+    (risen_after first middle last c.items.invariant.count) c.in_ok-made.ensures.made in
     let earlier : Told = told_by_builder g.P.Patterns.faults g.P.Patterns.refused c.args.patterns.now in
-    let is_more = front_at view items c.items.item-index item c.items-test.true c.item-item.is in
+    let is_more = sym (front_at view items place item c.items-test.true c.index-items-place.is) in
     record {
-      made = subst (λ ds. AreMade (HasRisen first last) ds c.push.new.self.items)
-          (sym is_more)
-          (subst (λ ms. AreMade (HasRisen first last) (front ++ view item ∷ []) ms) (sym c.in_ok-push.ensures.items) more);
+      judged = (
+        record {
+          made = are.made ++ made ∷ [];
+          each = subst (λ ds. AreMade (HasRisen first last) ds (are.made ++ made ∷ [])) is_more
+              (made_push (HasRisen first last) front are.made (view item) made before one);
+          told = c.in_ok-made.ensures.told ∙ ap (λ n. told_made n (view item) made) are.told
+              ∙ sym (told_push (HasRisen first last) earlier front are.made (view item) made before)
+              ∙ ap (λ ds. told_all earlier ds (are.made ++ made ∷ [])) is_more;
+          refused = c.in_ok-push.ensures.refused ∙ ap (λ list. list ++ refused_processors place (made ∷ [])) are.refused
+              ∙ sym (refused_push 0 place are.made made
+              (made_place (HasRisen first middle) view items place are.made c.items-test.true are.each));
+          processors = c.in_ok-push.ensures.processors
+              ∙ (λ i. kept_with_made (c.items.invariant.judged.1 i) (are.processors i) made)
+              ∙ kept_push accepted are.made made;
+        },
+        c.in_ok-push.ensures.accepted ∙ ap (λ b. b && is_processor_made made) c.items.invariant.judged.1
+            ∙ accepted_push accepted are.made made,
+      );
       count = omega (arith, c.items.invariant.count, c.make.ensures.count);
-      told = c.in_ok-make.ensures.told ∙ ap (λ n. told_made n (view item) made) c.items.invariant.told
-          ∙ sym (told_push (HasRisen first last) earlier front c.items.list.items (view item) made before)
-          ∙ ap (told_all earlier (front ++ view item ∷ [])) (sym c.in_ok-push.ensures.items)
-          ∙ ap (λ ds. told_all earlier ds c.push.new.self.items) (sym is_more);
     }

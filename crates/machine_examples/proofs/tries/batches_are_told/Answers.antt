@@ -11,6 +11,7 @@ returns c = record {
   odd = refl;
   two_go = refl;
   one_goes_not = refl;
+  twice_goes_not = refl;
   views = refl;
   lower_comes = refl;
   higher_waits = refl;

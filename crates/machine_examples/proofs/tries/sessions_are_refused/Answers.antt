@@ -1,4 +1,4 @@
-use Rattle.machine_examples.proofs.TriedPuts.{there-refused, missing-refused}
+use Rattle.machine_examples.proofs.TriedPuts.{there-refused, missing-refused, nameless-not-there}
 use Rattle.std.proofs.Common.{refl}
 use Rattle.machine_examples.proofs.tries.sessions_are_refused.Goals as goal
 
@@ -21,4 +21,7 @@ returns c = record {
   given_same_index = λ text. refl;
   given_skipped_index = λ text. refl;
   given_past_count = λ text. refl;
+  given_bytes = refl;
+  given_moment = refl;
+  given_nameless_there = nameless-not-there;
 }

@@ -14,4 +14,7 @@ returns c = record {
   bin_none = refl;
   bin_first = refl;
   bin_skipping = refl;
+  fragments_none = refl;
+  fragments_most = λ files is. rw is refl;
+  fragments_more = λ files is. rw is refl;
 }

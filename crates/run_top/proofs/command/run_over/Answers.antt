@@ -1,8 +1,8 @@
 use Rattle.std.proofs.Common.{◌∙◌, ⊎_elim, List, refl, ap, arith}
 use Rattle.std.specs.Prelude.{Err}
 use Rattle.flowfile_record.specs.NamedFile.{NamedFile}
-use Rattle.flow_run.specs.Puts.{outgoing}
-use Rattle.flow_run.specs.Run.{machine_at}
+use Rattle.run_law.specs.Puts.{outgoing}
+use Rattle.run_law.specs.Run.{machine_at}
 use Rattle.run_top.proofs.Over.{left_shut, ran_ends, ran_why, refused_alone, refused_counts, refused_ends, refused_why, run_counts}
 use Rattle.run_top.proofs.Short.{has_ended}
 use Rattle.run_top.proofs.Started.{starts}

@@ -1,6 +1,6 @@
 use Rattle.std.proofs.Common.{◌∙◌, sym, subst}
 use Rattle.std.specs.Prelude.{IfErr, Result}
-use Rattle.flow_engine.specs.declared.run.Ran.{Ran}
+use Rattle.flow_scheduler.specs.declared.run.Ran.{Ran}
 use Rattle.run_top.specs.declared.answer.Answer.{Answer}
 use Rattle.run_top.specs.Opening.{IsOfStore}
 use Rattle.run_top.proofs.printing.show.Goals as goal

@@ -2,9 +2,9 @@ use Rattle.std.proofs.Common.{◌≡◌, subst, sym}
 use Rattle.std.specs.Prelude.{IfErr, IfOk, MatchOption, Result}
 use Rattle.world_io.specs.MemoryInbox.{files_left}
 use Rattle.world_io.specs.MemoryOutbox.{files_put, standing_in}
-use Rattle.flow_engine.specs.declared.run.Ran.{Ran}
-use Rattle.flow_run.specs.Ending.{IsFault}
-use Rattle.flow_run.specs.Puts.{outgoing}
+use Rattle.flow_scheduler.specs.declared.run.Ran.{Ran}
+use Rattle.run_law.specs.Ending.{IsFault}
+use Rattle.run_law.specs.Puts.{outgoing}
 use Rattle.run_top.specs.Trial.{RanInMemory}
 use Rattle.run_top.specs.declared.answer.Answer.{Answer}
 use Rattle.run_top.specs.declared.answer.Answer.TheVariants.{Memory}

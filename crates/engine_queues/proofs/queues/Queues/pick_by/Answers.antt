@@ -4,7 +4,7 @@ use Rattle.std.proofs.lemmas.Bool.{eq-eqb, ne_eqb}
 use Rattle.std.proofs.lemmas.Option.{slice_get_read}
 use Rattle.machine_model.specs.declared.flow.Connection.{Connection}
 use Rattle.flow_queue.specs.Queue.{QueueState, queue_as_seen}
-use Rattle.engine_queues.specs.Choosing.{picked_from}
+use Rattle.engine_queues.specs.Picking.{picked_from}
 use Rattle.engine_queues.proofs.Due.{OwesNothing, none-due, first-due, picked-here, none-here, none-elsewhere}
 use Rattle.engine_queues.proofs.queues.Queues.pick_by.Goals as goal
 use Rattle.engine_queues.proofs.queues.Queues.pick_by.Goals.{then-connection-processor+in_ok-pick+else-branch, else-connection-processor}

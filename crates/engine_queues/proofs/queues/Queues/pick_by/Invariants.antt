@@ -1,5 +1,5 @@
 use Rattle.std.proofs.Common.{ℕ, ◌<◌}
-use Rattle.engine_queues.specs.Choosing.{picked_from}
+use Rattle.engine_queues.specs.Picking.{picked_from}
 use Rattle.engine_queues.proofs.Due.{OwesNothing}
 use Rattle.engine_queues.proofs.queues.Queues.pick_by.Given as goal
 

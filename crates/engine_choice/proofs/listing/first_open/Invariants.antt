@@ -1,6 +1,0 @@
-use Rattle.std.proofs.Common.{ℕ, ◌<◌, ◌≤◌}
-use Rattle.engine_choice.specs.Inside.{IsOpen}
-use Rattle.engine_choice.proofs.listing.first_open.Given as goal
-
-abbrev pub invariant-loop-place : goal.invariant-loop-place
-invariant-loop-place l = (k : ℕ) → l.start ≤ k → k < l.place → IsOpen l.taken l.passing k → ⊥

@@ -1,5 +1,0 @@
-use Rattle.engine_core.proofs.Expiring.{ascending_stay}
-use Rattle.engine_core.proofs.expiry.ascending_numbers_stay.Goals as goal
-
-pub returns : goal.returns
-returns c = ascending_stay

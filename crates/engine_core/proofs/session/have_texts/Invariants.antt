@@ -1,7 +1,0 @@
-use Rattle.std.proofs.Common.{take}
-use Rattle.std.specs.Prelude.{All}
-use Rattle.engine_core.specs.Committing.{HasTexts}
-use Rattle.engine_core.proofs.session.have_texts.Given as goal
-
-abbrev pub invariant-loop-event : goal.invariant-loop-event
-invariant-loop-event l = All HasTexts (take l.event-index l.events)

@@ -1,0 +1,54 @@
+-- What reading leaves of an engine, and what a journal has more.
+use Rattle.std.proofs.Common.{◌≡◌, ℕ, List, [], ◌∷◌, ◌++◌, length, refl, sym, ap, ◌∙◌, arith, length-append}
+use Rattle.std.specs.Prelude.{Some, Result, Ok, Err, IsErrOf}
+use Rattle.machine_model.specs.declared.journal.Entry.{Entry}
+use Rattle.store_core.specs.Store.{StoreState}
+use Rattle.engine_session.specs.Done.{step_done}
+use Rattle.engine_steps.specs.Engine.{EngineState}
+use Rattle.engine_steps.specs.Errors.{IsReadBy}
+use Rattle.engine_session.specs.declared.done.Done.{Done}
+use Rattle.engine_steps.specs.declared.error.EngineError.{EngineError}
+
+-- ---- answers
+
+pub same_error : {A : Type 0} (one other : EngineError) → ◌≡◌ {A = Result A EngineError} (Err one) (Err other) → one ≡ other
+same_error one other is = cc
+
+-- a call that ended well met no error
+pub read_well : {A X : Type 0} (x : A) (error : EngineError) → ◌≡◌ {A = Result A EngineError} (Ok x) (Err error) → X
+read_well x error is = absurd cc
+
+-- ---- what reading leaves
+
+module _ {A : Type 0} (result : Result A EngineError) where
+  pub lot_read : (s t : StoreState) → IsReadBy result s t → t.lot ≡ s.lot
+  lot_read s t read = by result refl
+    where
+      other : (error : EngineError) → result ≡ Err error → (error ≡ EngineError.Disk → ⊥) → t.lot ≡ s.lot
+      other error is apart = ap (λ (u : StoreState). u.lot) (read.unchanged (λ disk. apart (same_error error EngineError.Disk (sym is ∙ disk))))
+
+      by : (r : Result A EngineError) → result ≡ r → t.lot ≡ s.lot
+      by (Ok x) is = ap (λ (u : StoreState). u.lot) (read.unchanged (λ disk. read_well x EngineError.Disk (sym is ∙ disk)))
+      by (Err EngineError.Disk) is = ap (λ (u : StoreState). u.lot) (read.failed is)
+      by (Err (EngineError.Damaged damage)) is = other (EngineError.Damaged damage) is (λ e. cc)
+      by (Err EngineError.Inbox) is = other EngineError.Inbox is (λ e. cc)
+      by (Err EngineError.Outbox) is = other EngineError.Outbox is (λ e. cc)
+      by (Err (EngineError.Limit limit)) is = other (EngineError.Limit limit) is (λ e. cc)
+      by (Err EngineError.MustReopen) is = other EngineError.MustReopen is (λ e. cc)
+      by (Err EngineError.Memory) is = other EngineError.Memory is (λ e. cc)
+
+  -- where the disk didn't fail the engine is as it was
+  pub as_read : (e f : EngineState) → IsReadBy result e.store f.store → f ≡ record e { store = f.store } → (IsErrOf result EngineError.Disk → ⊥) → f ≡ e
+  as_read e f read rest other = rest ∙ (λ i. record e { store = read.unchanged other i })
+
+-- ---- the journal
+
+-- an entry more makes it longer
+pub longer : (done : Done) (old new mid : List Entry) (at : ℕ) → mid ≡ old → new ≡ old → new ≡ mid ++ record { step = step_done done; acked = Some at } ∷ [] → ⊥
+longer done old new mid at same unmoved entered = omega (
+  arith,
+  ap length unmoved,
+  ap length entered,
+  ap length same,
+  length-append mid (record { step = step_done done; acked = Some at } ∷ []),
+)

@@ -1,0 +1,138 @@
+-- What is due expires, in the machine's words.
+use Rattle.std.proofs.Common.{◌≡◌, ℕ, List, [], ◌∷◌, length, get_or, map, refl, sym, ap, subst, ◌∙◌}
+use Rattle.std.specs.Prelude.{None, Some, Result, Ok, Err, IfOk, replicate, slice_get}
+use Rattle.std.specs.List.{range_with_len}
+use Rattle.std.proofs.lemmas.List.{length-map, length-replicate}
+use Rattle.std.proofs.lemmas.List.FromFn.{length-map-range_with_len}
+use Rattle.flowfile_record.specs.Stored.{Kept}
+use Rattle.flowfile_record.specs.declared.change.Settled.{Settled}
+use Rattle.flowfile_record.specs.declared.content.ContentRef.{ContentRef}
+use Rattle.flowfile_record.specs.declared.event.Event.{Event}
+use Rattle.flowfile_record.specs.declared.event.EventKind.TheVariants as kind
+use Rattle.checkpoint_store.specs.Consistent.{IsConsistent}
+use Rattle.machine_model.specs.declared.flow.Connection.{Connection}
+use Rattle.machine_model.specs.declared.flow.Flow.{Flow}
+use Rattle.machine_model.specs.declared.journal.Step.TheVariants.{Expire}
+use Rattle.machine_model.specs.Changing.{state_after}
+use Rattle.machine_model.specs.Due.{due_expiry}
+use Rattle.machine_model.specs.Files.{queues_of}
+use Rattle.machine_model.specs.State.{Machine, State, World}
+use Rattle.machine_model.specs.Stepping.{expired, step}
+use Rattle.store_core.specs.Flow.{flow_in}
+use Rattle.store_core.specs.State.{live_contents}
+use Rattle.engine_change.specs.Committing.{AreEventsUpTo, identity_of}
+use Rattle.engine_change.specs.Expiring.{DueExpiriesMayExpire, HasExpiryStep, HaveContents, LeavesExpired, MayExpireIn}
+use Rattle.machine_model.specs.View.{QueueView}
+use Rattle.flow_queue.specs.Queue.{QueueState}
+use Rattle.store_core.specs.Flow as store
+use Rattle.engine_queues.specs.Picking.{AreOf}
+use Rattle.engine_queues.specs.Laws.{KeptIsSeen, QueuesShowKept}
+use Rattle.engine_queues.specs.Queues.{AreQueuesOf, queue_seen}
+use Rattle.engine_queues.specs.Views.{HaveSizes, kept_queues}
+use Rattle.run_law.specs.Run.{IsStateOf}
+use Rattle.engine_steps.specs.Tending.{GoesTo, MakesExpiry}
+
+-- ---- some contents and some events that what is kept may have
+
+-- so many bytes as each reference says
+abbrev some_contents : ContentRef → List ℕ
+some_contents at = replicate at.size 0
+
+abbrev some_event : ℕ → Event
+some_event number = record {
+  number = number;
+  kind = kind.Expire;
+  moment = 0;
+  component = [];
+  file = 0;
+  parents = [];
+  children = [];
+  detail = [];
+  size = 0;
+  digest = [];
+}
+
+numbers_back : (numbers : List ℕ) → map (λ (e : Event). e.number) (map some_event numbers) ≡ numbers
+numbers_back [] = refl
+numbers_back (number ∷ numbers) = ap (λ (ns : List ℕ). number ∷ ns) (numbers_back numbers)
+
+abbrev some_events : ℕ → List Event
+some_events last = map some_event (range_with_len 1 last)
+
+some_are_up_to : (last : ℕ) → AreEventsUpTo last (some_events last)
+some_are_up_to last =
+    let count = length-map-range_with_len some_event 1 last in
+    (count, numbers_back (range_with_len 1 last) ∙ ap (range_with_len 1) (sym count))
+
+some_have_sizes : (k : Kept) → HaveSizes some_contents k
+some_have_sizes k i d lt = length-replicate (get_or (live_contents k) i d).size 0
+
+pub have_sizes : (contents : ContentRef → List ℕ) (k : Kept) → HaveContents contents k → HaveSizes contents k
+have_sizes contents k have i d lt = (have i d lt).size
+
+-- ---- what is due may expire, and there is a step for it
+
+-- the state behind files that expired
+pub record Leaves (flow : Flow) (before after : Machine) (place : ℕ) (numbers : List ℕ) (moment : ℕ) : Type 0 where
+  pub connection : Connection
+  pub at : slice_get flow.connections place ≡ Some connection
+  pub is : after.state ≡ expired before.state place connection numbers moment
+
+module _ (seen : KeptIsSeen) (law : DueExpiriesMayExpire) (flow : Flow) (k : Kept) (place : ℕ) (numbers : List ℕ) (moment : ℕ) (consistent : IsConsistent k) (empty : k.batches ≡ []) (flow_is : flow_in k ≡ identity_of flow)
+    (due : due_expiry flow (kept_queues k) moment ≡ Some (place, numbers)) where
+  has_step : (world : World) (contents : ContentRef → List ℕ) (events : List Event) → HaveSizes contents k → AreEventsUpTo k.last_event events → HasExpiryStep flow world contents events k place numbers moment
+  has_step world contents events sizes up_to =
+      law flow world contents events k place numbers moment consistent empty flow_is up_to (sym ((seen flow contents events k consistent sizes).expiry moment) ∙ due)
+
+  pub may_expire : MayExpireIn flow k place numbers
+  may_expire = (has_step (record { inbox = []; left = []; outbox = λ name. None }) some_contents (some_events k.last_event) (some_have_sizes k) (some_are_up_to k.last_event)).may
+
+  module _ (contents : ContentRef → List ℕ) (before : Machine) (sizes : HaveSizes contents k) (tied : IsStateOf before contents k) where
+    pub due_goes : GoesTo flow before (Expire place numbers moment) (λ after. Leaves flow before after place numbers moment)
+    due_goes =
+        let has = has_step before.world contents before.state.events sizes tied.events in
+        let P : State → Type 0 = λ s. step flow (record { state = s; world = before.world }) (Expire place numbers moment) ≡ Some (record { state = expired s place has.connection numbers moment; world = before.world }) in
+        record {
+          after = record { state = expired before.state place has.connection numbers moment; world = before.world };
+          goes = subst P tied.is has.goes;
+          is_so = record { connection = has.connection; at = has.at; is = refl };
+        }
+
+    -- it comes next
+    pub due_comes : due_expiry flow (queues_of before.state) moment ≡ Some (place, numbers)
+    due_comes =
+        subst (λ (s : State). due_expiry flow (queues_of s) moment ≡ Some (place, numbers)) tied.is
+        (sym ((seen flow contents before.state.events k consistent sizes).expiry moment) ∙ due)
+
+  -- the settled expiry makes it
+  pub makes_expiry : (settled : Settled) → LeavesExpired flow k place numbers moment settled → MakesExpiry flow k place numbers moment settled
+  makes_expiry settled leaves contents before have tied =
+      let goes = due_goes contents before (have_sizes contents k have) tied in
+      let P : State → Type 0 = λ s. state_after contents s settled ≡ expired s place goes.is_so.connection numbers moment in
+      record {
+        after = goes.after;
+        goes = goes.goes;
+        is_so = subst P tied.is (leaves goes.is_so.connection goes.is_so.at contents have before.state.events tied.events) ∙ sym goes.is_so.is;
+      }
+
+pub placed_there : (flow : Flow) (k : Kept) (place there : ℕ) (numbers gone : List ℕ) → there ≡ place → gone ≡ numbers → MayExpireIn flow k place numbers → MayExpireIn flow k there gone
+placed_there flow k place there numbers gone same_place same may =
+    subst (λ (p : ℕ). MayExpireIn flow k p gone) (sym same_place) (subst (λ (ns : List ℕ). MayExpireIn flow k place ns) (sym same) may)
+
+pub ok_leads : {A E : Type 0} (result : Result A E) (P Q : A → Type 0) → ((x : A) → P x → Q x) → IfOk result P → IfOk result Q
+ok_leads (Ok x) P Q leads is = leads x is
+ok_leads (Err e) P Q leads is = tt
+
+-- ---- as the queues show it
+
+pub are_of : (flow : Flow) (k : Kept) (queues : List QueueState) → AreQueuesOf flow k queues → AreOf flow queues
+are_of flow k queues are = record {
+  count = are.count;
+  each = λ place connection queue at found. let it = are.each place connection queue at found in record { order = it.order; limits = it.limits };
+}
+
+pub due_kept : QueuesShowKept → (flow : Flow) (k : Kept) (queues : List QueueState) (place : ℕ) (numbers : List ℕ) (moment : ℕ) → IsConsistent k → flow_in k ≡ identity_of flow → AreQueuesOf flow k queues
+    → due_expiry flow (queue_seen queues) moment ≡ Some (place, numbers) → due_expiry flow (kept_queues k) moment ≡ Some (place, numbers)
+due_kept shown flow k queues place numbers moment consistent flow_is are due =
+    let same = shown flow k queues consistent (ap (λ (f : store.Flow). length f.connections) flow_is ∙ length-map flow.connections (λ c. c.id)) are in
+    ap (λ (views : ℕ → QueueView). due_expiry flow views moment) (sym same) ∙ due

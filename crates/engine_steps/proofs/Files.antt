@@ -1,0 +1,82 @@
+-- The files that a session takes, and what it is handed of them.
+use Rattle.std.proofs.Common.{◌≡◌, ℕ, ◌≤◌, Bool, true, false, List, [], ◌∷◌, length, map, refl, sym, ap, subst, ◌∙◌}
+use Rattle.std.specs.Prelude.{All, Contains, Result, Ok, Err, IfOk, Option, None, Some, IsSome, IfSome, slice_get, is_some}
+use Rattle.std.specs.Option.{IsSomeAnd, option_map_or}
+use Rattle.std.proofs.lemmas.List.Elements.{All-cons, All-head, All-nil, All-tail}
+use Rattle.flowfile_record.specs.Stored.{Kept}
+use Rattle.flowfile_record.specs.declared.TheConstants.{CONTENT_MAX}
+use Rattle.flowfile_record.specs.declared.content.ContentRef.{ContentRef}
+use Rattle.flowfile_record.specs.declared.flow_file.FlowFile.{FlowFile}
+use Rattle.flowfile_record.specs.declared.stored.ActiveFile.{ActiveFile}
+use Rattle.record_codec.specs.ActiveFile.{active}
+use Rattle.kept_state.specs.Fits.{are_active_in, are_distinct_numbers}
+use Rattle.machine_model.specs.declared.given.Given.{Given}
+use Rattle.machine_model.specs.Acting.{name_in}
+use Rattle.machine_model.specs.Changing.{queued_file}
+use Rattle.machine_model.specs.State.{World}
+use Rattle.machine_model.specs.Stepping.{is_there}
+use Rattle.machine_model.proofs.Among.{among_contained, contains_among, makes}
+use Rattle.store_core.specs.State.{live_contents}
+use Rattle.engine_choice.specs.declared.choice.Choice.{Choice}
+use Rattle.engine_choice.specs.declared.choice.Taking.{Taking}
+use Rattle.engine_choice.specs.declared.choice.Taking.TheVariants.{Generate, Receive}
+use Rattle.engine_session.specs.Handing.{AreReadOf, AreTaken, files_fit_a_content, live_files}
+use Rattle.engine_session.proofs.Lookups.{live_there}
+use Rattle.engine_steps.specs.Handing.{JobIsHanded}
+use Rattle.engine_session.specs.declared.job.Job.{Job}
+
+pub some_and : {A : Type 0} (P : A → Type 0) (o : Option A) → IsSomeAnd o P → IsSome o × IfSome o P
+some_and P None is = absurd is
+some_and P (Some a) is = (refl, is)
+
+-- ---- the files
+
+all_live : (k : Kept) (connection : ℕ) (files : List FlowFile) → All (λ file. Contains k.files (active connection file)) files → All (λ (file : FlowFile). Contains (live_contents k) file.content) files
+all_live k connection [] all = All-nil (λ (file : FlowFile). Contains (live_contents k) file.content)
+all_live k connection (file ∷ files) all =
+    let here = All-head (λ (f : FlowFile). Contains k.files (active connection f)) file files all in
+    All-cons (λ (f : FlowFile). Contains (live_contents k) f.content) file files
+    (contains_among file.content (live_contents k) (makes (λ (a : ActiveFile). a.file.content) k.files (active connection file) (among_contained (active connection file) k.files here)))
+    (all_live k connection files (All-tail (λ (f : FlowFile). Contains k.files (active connection f)) file files all))
+
+module _ (k : Kept) (connection : ℕ) (numbers : List ℕ) (may : (are_active_in k.files connection numbers ≡ true) × (are_distinct_numbers numbers ≡ true)) where
+  pub all_are_live : All (λ (file : FlowFile). Contains (live_contents k) file.content) (live_files k numbers)
+  all_are_live = all_live k connection (live_files k numbers) (live_there k connection numbers may.0)
+
+  pub taken_so : (bytes : ContentRef → List ℕ) (files : List FlowFile) (contents : List (Option (List ℕ))) → files ≡ live_files k numbers → AreReadOf bytes (files_fit_a_content files) files contents
+      → AreTaken k connection numbers bytes files contents
+  taken_so bytes files contents are read = record { active = may.0; distinct = may.1; are = are; read = read }
+
+-- ---- what the outbox has
+
+pub there_so : (world : World) (standing : List ℕ → Option (List ℕ)) (contents : ContentRef → List ℕ) (files : List FlowFile) (there : Bool) → world.outbox ≡ standing
+    → there ≡ option_map_or (λ (file : FlowFile). option_map_or (λ name. is_some (standing name)) (name_in file.attributes) false) (slice_get files 0) false
+    → there ≡ is_there world (map (queued_file contents) files)
+there_so world standing contents [] there same is = is
+there_so world standing contents (file ∷ files) there same is = is ∙ ap (λ (s : List ℕ → Option (List ℕ)). option_map_or (λ name. is_some (s name)) (name_in file.attributes) false) (sym same)
+
+-- ---- a job without files
+
+none_taken : (k : Kept) → AreTaken k 0 [] (λ at. []) [] []
+none_taken k = record { active = refl; distinct = refl; are = refl; read = tt }
+
+abbrev without_files : (processor : ℕ) → Given → Job
+without_files processor given = record { processor = processor; connection = 0; numbers = []; files = []; contents = []; given = given }
+
+pub handed_index : (k : Kept) (moment index : ℕ) (choice : Choice) (job : Job) → choice.taking ≡ Generate index
+    → job ≡ without_files choice.processor (record { moment = moment; index = index; there = false; file = None; bytes = None }) → JobIsHanded k moment choice job
+handed_index k moment index choice job takes is =
+    subst (λ (j : Job). JobIsHanded k moment choice j) (sym is)
+    (subst (λ (t : Taking). JobIsHanded k moment (record { processor = choice.processor; taking = t }) (without_files choice.processor (record { moment = moment; index = index; there = false; file = None; bytes = None }))) (sym takes)
+    (record { processor = refl; connection = refl; numbers = refl; given = refl; has = refl; bytes = λ at. []; taken = none_taken k }))
+
+pub handed_name : (k : Kept) (moment : ℕ) (name bytes : List ℕ) (choice : Choice) (job : Job) → choice.taking ≡ Receive name → length bytes ≤ CONTENT_MAX
+    → job ≡ without_files choice.processor (record { moment = moment; index = 0; there = false; file = Some name; bytes = Some bytes }) → JobIsHanded k moment choice job
+handed_name k moment name bytes choice job takes most is =
+    subst (λ (j : Job). JobIsHanded k moment choice j) (sym is)
+    (subst (λ (t : Taking). JobIsHanded k moment (record { processor = choice.processor; taking = t }) (without_files choice.processor (record { moment = moment; index = 0; there = false; file = Some name; bytes = Some bytes }))) (sym takes)
+    (record { processor = refl; connection = refl; numbers = refl; given = refl; has = most; bytes = λ at. []; taken = none_taken k }))
+
+pub if_ok : {A E : Type 0} (r : Result A E) (P Q : A → Type 0) → ((a : A) → P a → Q a) → IfOk r P → IfOk r Q
+if_ok (Ok a) P Q to is = to a is
+if_ok (Err e) P Q to is = tt

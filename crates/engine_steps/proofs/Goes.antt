@@ -1,0 +1,389 @@
+-- How a run goes on by a session, and how it stops within one.
+use Rattle.std.proofs.Common.{◌≡◌, ◌⊎◌, inl, inr, ℕ, ◌≤◌, Bool, List, [], ◌∷◌, ◌++◌, refl, sym, ap, subst, ◌∙◌, arith}
+use Rattle.std.specs.Prelude.{Option, None, Some, Result, Ok, Err, IfOk, OnOk, IsSome, IsTrue, Contains, slice_get}
+use Rattle.std.specs.Option.{option_map_or}
+use Rattle.disk_trait.specs.Files.{Files}
+use Rattle.disk_trait.specs.Images.{Stays}
+use Rattle.disk_trait.proofs.Moments.{nothing, only_read, wider}
+use Rattle.flowfile_record.specs.NamedFile.{NamedFile, with_file, without}
+use Rattle.flowfile_record.specs.declared.content.ContentRef.{ContentRef}
+use Rattle.flowfile_wal.specs.Calls.{InEach}
+use Rattle.content_repo.specs.Claims.{content_in}
+use Rattle.kept_state.specs.declared.limit.Limit.{Limit}
+use Rattle.machine_model.specs.declared.flow.Flow.{Flow}
+use Rattle.machine_model.specs.declared.flow.Processor.{Processor}
+use Rattle.flow_queue.specs.Queue.{QueueState}
+use Rattle.machine_model.specs.Acknowledged.{steps}
+use Rattle.machine_model.specs.declared.journal.Entry.{Entry}
+use Rattle.machine_model.specs.declared.journal.Step.{Step}
+use Rattle.machine_model.specs.declared.kind.Kind.{Kind}
+use Rattle.machine_model.specs.declared.kind.Kind.TheVariants.{GetFile}
+use Rattle.machine_model.specs.Changing.{state_after}
+use Rattle.machine_model.specs.Laws.{names_of_step, received_name}
+use Rattle.flowfile_record.specs.declared.change.Settled.{Settled}
+use Rattle.machine_model.specs.State.{Machine}
+use Rattle.machine_model.specs.Stepping.{step}
+use Rattle.engine_queues.specs.Listing.{first_passed}
+use Rattle.store_core.specs.Change.{IsLimitOf}
+use Rattle.store_core.specs.Store.{StoreState, kept_by}
+use Rattle.run_law.specs.Going.{IsBetween, IsRunningAt, IsSpared, IsStepped}
+use Rattle.run_law.specs.Journal.{TakesFromInbox}
+use Rattle.run_law.specs.Laws.{DiskFaultsEnd, FaultsEnd, InboxFaultsEnd, NextStepsAreInTurn, OutboxFaultsEnd, SparedRunsGoOn, SteppedRunsGoOn}
+use Rattle.run_law.specs.Run.{HasRun, IsAtJournalLimit, IsAtLimit, IsAtStoreLimit, IsPutStep, IsStateOf, StandsFor}
+use Rattle.run_law.specs.Turns.{ComesNext, last_worker, step_moment, worker_behind}
+use Rattle.run_law.specs.Work.{IsAtWork}
+use Rattle.run_law.specs.declared.ended.Ended.{Ended}
+use Rattle.run_law.specs.declared.ended.Ended.TheVariants as ending
+use Rattle.run_law.specs.declared.ended.Fault.{Fault}
+use Rattle.run_law.specs.declared.ended.Fault.TheVariants as fault
+use Rattle.engine_session.specs.Change.{IsSentBy, IsStepOf, names_without, step_of, with_sending, without_received}
+use Rattle.engine_steps.specs.Committing.{HasWritten, IsLeftBySend, with_room}
+use Rattle.engine_steps.specs.Engine.{EngineState}
+use Rattle.engine_steps.specs.Journal.{journaled}
+use Rattle.engine_steps.specs.Running.{IsRunning, Stops}
+use Rattle.engine_session.specs.declared.change.Changed.{Changed}
+use Rattle.engine_session.specs.declared.change.Sending.{Sending}
+use Rattle.engine_steps.specs.declared.error.EngineError.{EngineError}
+use Rattle.engine_session.specs.declared.job.Job.{Job}
+use Rattle.engine_steps.proofs.Commits.{work_roomy}
+use Rattle.engine_steps.proofs.LastWorker.{last_behind}
+use Rattle.engine_steps.proofs.RunsOn.{spared_by_none}
+use Rattle.run_law.specs.Puts.{IsPutBy, Outgoing, Start}
+use Rattle.engine_steps.proofs.Steps.{runs_on}
+
+abbrev pub IsNoLimit : EngineError → Type 0
+IsNoLimit error = (limit : Limit) → error ≡ EngineError.Limit limit → ⊥
+
+-- ---- the name that a session receives
+
+received_so : (kind : Kind) (names : List (List ℕ)) (name : List ℕ) → first_passed kind names ≡ Some name → received_name kind (Some name) ≡ name ∷ []
+received_so (GetFile filter) names name first = refl
+received_so kind names name first = absurd cc
+
+pub takes_received : (flow : Flow) (job : Job) (processor : Processor) (names : List (List ℕ)) (name : List ℕ) → slice_get flow.processors job.processor ≡ Some processor → first_passed processor.kind names ≡ Some name
+    → job.given.file ≡ Some name → TakesFromInbox flow (step_of job) name
+takes_received flow job processor names name found first file =
+    let is : names_of_step flow (step_of job) ≡ name ∷ [] =
+    ap (λ (f : Option (List ℕ)). option_map_or (λ p. received_name p.kind f) (slice_get flow.processors job.processor) []) file
+    ∙ ap (λ (p : Option Processor). option_map_or (λ p. received_name p.kind (Some name)) p []) found
+    ∙ received_so processor.kind names name first in
+    subst (λ (l : List (List ℕ)). Contains l name) (sym is) (0, omega arith, refl)
+
+module _ (tells : Bool) {D : Type 0} (held : D → Files) (moment : D → ℕ) (images : D → ℕ → Files → Type 0) where
+  -- calls that only read, and none
+  pub spared_by_read : (flow : Flow) (lot : ℕ) (before : Machine) (old new : D) → Stays held moment images old new
+      → InEach (images old (moment old)) (StandsFor flow lot before) → IsSpared flow moment images lot before old new
+  spared_by_read flow lot before old new stays stands = wider moment images old new (images old (moment old)) (StandsFor flow lot before) (only_read moment images held old new stays) stands
+
+  -- as time goes by
+  pub waits : SparedRunsGoOn moment images → (e : EngineState) (opened : Machine) (first : D) (start : Start) (time by : ℕ) (disk : D) (left : List NamedFile) (out : Outgoing) → time ≤ by
+      → IsRunning moment images e opened first start time disk left out → IsRunning moment images e opened first start by disk left out
+  waits law e opened first start time by disk left out le run =
+      runs_on moment images law e opened first start time by disk disk left out run le
+      (spared_by_none tells held moment images e.flow e.store.lot run.reached disk run.to.run.holds)
+
+  -- what is said by parts of an engine is said of it
+  module _ (f : EngineState) (flow : Flow) (lot : ℕ) (journal : List Entry) (flow_is : f.flow ≡ flow) (lot_is : f.store.lot ≡ lot) (journal_is : f.journal ≡ journal)
+      (opened : Machine) (first : D) (start : Start) (new : D) (left : List NamedFile) (out : Outgoing) where
+    pub has_as : (ended : Ended) (later : ℕ) → HasRun flow ended start later tells held moment images lot opened first new left out journal
+        → HasRun f.flow ended start later tells held moment images f.store.lot opened first new left out f.journal
+    has_as ended later has =
+        subst (λ (fl : Flow). HasRun fl ended start later tells held moment images f.store.lot opened first new left out f.journal) (sym flow_is)
+        (subst (λ (l : ℕ). HasRun flow ended start later tells held moment images l opened first new left out f.journal) (sym lot_is)
+        (subst (λ (j : List Entry). HasRun flow ended start later tells held moment images lot opened first new left out j) (sym journal_is) has))
+
+    pub runs_as : (time : ℕ) (reached : Machine) → IsRunningAt flow start time moment images lot opened first new journal reached left out
+        → IsRunningAt f.flow start time moment images f.store.lot opened first new f.journal reached left out
+    runs_as time reached run =
+        subst (λ (fl : Flow). IsRunningAt fl start time moment images f.store.lot opened first new f.journal reached left out) (sym flow_is)
+        (subst (λ (l : ℕ). IsRunningAt flow start time moment images l opened first new f.journal reached left out) (sym lot_is)
+        (subst (λ (j : List Entry). IsRunningAt flow start time moment images lot opened first new j reached left out) (sym journal_is) run))
+
+    pub limit_as : (time : ℕ) (reached : Machine) (limit : Limit) → IsAtLimit flow start time tells held moment images lot opened journal reached limit new
+        → IsAtLimit f.flow start time tells held moment images f.store.lot opened f.journal reached limit new
+    limit_as time reached limit at =
+        subst (λ (fl : Flow). IsAtLimit fl start time tells held moment images f.store.lot opened f.journal reached limit new) (sym flow_is)
+        (subst (λ (l : ℕ). IsAtLimit flow start time tells held moment images l opened f.journal reached limit new) (sym lot_is)
+        (subst (λ (j : List Entry). IsAtLimit flow start time tells held moment images lot opened j reached limit new) (sym journal_is) at))
+
+  module _ (e f : EngineState) (opened : Machine) (first : D) (start : Start) (time : ℕ) (old new : D) (left : List NamedFile) (out : Outgoing)
+      (run : IsRunning moment images e opened first start time old left out) (flow_is : f.flow ≡ e.flow) (lot_is : f.store.lot ≡ e.store.lot) where
+    -- a fault between two steps
+    ends_between : FaultsEnd tells held moment images → f.journal ≡ e.journal → IsSpared e.flow moment images e.store.lot run.reached old new → (cause : Fault) (later : ℕ) → time ≤ later
+        → HasRun f.flow (ending.Fault cause) start later tells held moment images f.store.lot opened first new left out f.journal
+    ends_between law journal_is spared cause later le =
+        has_as f e.flow e.store.lot e.journal flow_is lot_is journal_is opened first start new left out (ending.Fault cause) later
+        (law e.flow start time later e.store.lot opened run.reached first old new e.journal left out cause run.to.run le spared)
+
+    pub stops_between : FaultsEnd tells held moment images → f.journal ≡ e.journal → IsSpared e.flow moment images e.store.lot run.reached old new → (error : EngineError) → IsNoLimit error
+        → (by : ℕ) → time ≤ by → Stops error tells held moment images f opened first start by new left out
+    stops_between law journal_is spared error none by le = of error none
+      where
+        ends : (cause : Fault) (later : ℕ) → by ≤ later → HasRun f.flow (ending.Fault cause) start later tells held moment images f.store.lot opened first new left out f.journal
+        ends cause later more = ends_between law journal_is spared cause later (omega (arith, le, more))
+
+        of : (error : EngineError) → IsNoLimit error → Stops error tells held moment images f opened first start by new left out
+        of (EngineError.Damaged damage) none = ends (fault.Damaged damage)
+        of EngineError.Disk none = ends fault.Disk
+        of EngineError.Inbox none = ends fault.Inbox
+        of EngineError.Outbox none = ends fault.Outbox
+        of (EngineError.Limit limit) none = absurd (none limit refl)
+        of EngineError.MustReopen none = ends fault.Disk
+        of EngineError.Memory none = ends fault.Memory
+
+    pub stops_unmoved : FaultsEnd tells held moment images → f.journal ≡ e.journal → IsSpared e.flow moment images e.store.lot run.reached old new → (error : EngineError) → IsNoLimit error
+        → (by : ℕ) → time ≤ by → (now_left : List NamedFile) (now_out : Outgoing) → now_left ≡ left → now_out ≡ out
+        → Stops error tells held moment images f opened first start by new now_left now_out
+    stops_unmoved law journal_is spared error none by le now_left now_out lies stands =
+        subst (λ (l : List NamedFile). Stops error tells held moment images f opened first start by new l now_out) (sym lies)
+        (subst (λ (o : Outgoing). Stops error tells held moment images f opened first start by new left o) (sym stands) (stops_between law journal_is spared error none by le))
+
+    -- the step that the session is
+    module _ (contents : ContentRef → List ℕ) (job : Job) (changed : Changed) (s : IsStepOf e.flow e.last contents run.reached job changed) (one : Step) (one_is : step_of job ≡ one) (le : time ≤ step_moment one) where
+      goes_one : step e.flow run.reached one ≡ Some s.after
+      goes_one = ap (step e.flow run.reached) (sym one_is) ∙ s.goes
+
+      comes_one : ComesNext e.flow (last_worker None (steps e.journal)) run.reached one
+      comes_one = subst (λ (o : Option ℕ). ComesNext e.flow o run.reached one) run.to.last (subst (λ (x : Step). ComesNext e.flow e.last run.reached x) one_is s.comes)
+
+      -- what was sent, as what the step puts
+      put_one : (now_out : Outgoing) → now_out ≡ with_sending changed.sending out → IsPutBy e.flow run.reached one s.after out now_out
+      put_one now_out sent =
+          subst (λ (x : Step). IsPutBy e.flow run.reached x s.after out now_out) one_is
+          (subst (λ (o : Outgoing). IsPutBy e.flow run.reached (step_of job) s.after out o) (sym sent) (s.outbox out run.to.run.stands.standing))
+
+      -- the disk's within the step
+      pub stops_within : DiskFaultsEnd tells held moment images → f.journal ≡ e.journal ++ record { step = one; acked = None } ∷ []
+          → IsBetween e.flow moment images e.store.lot run.reached s.after old new → (now_out : Outgoing) → now_out ≡ with_sending changed.sending out
+          → Stops EngineError.Disk tells held moment images f opened first start (step_moment one) new left now_out
+      stops_within law journal_is between now_out sent later by =
+          has_as f e.flow e.store.lot (e.journal ++ record { step = one; acked = None } ∷ []) flow_is lot_is journal_is opened first start new left now_out (ending.Fault fault.Disk) later
+          (law e.flow start time later e.store.lot opened run.reached s.after first old new e.journal one left out now_out run.to.run le by comes_one goes_one between
+          (put_one now_out sent))
+
+      -- the outbox's at the put, which was tried or left everything as it was
+      pub stops_at_put : FaultsEnd tells held moment images → OutboxFaultsEnd tells held moment images → f.journal ≡ e.journal
+          → IsSpared e.flow moment images e.store.lot run.reached old new → (now_out : Outgoing) → IsLeftBySend changed.sending out now_out
+          → Stops EngineError.Outbox tells held moment images f opened first start (step_moment one) new left now_out
+      stops_at_put between law journal_is spared now_out is later by = at_put changed.sending s.sent (put_one (with_sending changed.sending out) refl) is
+        where
+          at_put : (sending : Option Sending) → IsSentBy e.flow run.reached (step_of job) sending → IsPutBy e.flow run.reached one s.after out (with_sending sending out) → IsLeftBySend sending out now_out
+              → HasRun f.flow (ending.Fault fault.Outbox) start later tells held moment images f.store.lot opened first new left now_out f.journal
+          at_put None from puts is = absurd is
+          at_put (Some sending) from puts (inl same) =
+              subst (λ (o : Outgoing). HasRun f.flow (ending.Fault fault.Outbox) start later tells held moment images f.store.lot opened first new left o f.journal) (sym same)
+              (ends_between between journal_is spared fault.Outbox later (omega (arith, le, by)))
+          at_put (Some sending) from puts (inr tried) =
+              has_as f e.flow e.store.lot e.journal flow_is lot_is journal_is opened first start new left now_out (ending.Fault fault.Outbox) later
+              (law e.flow start time later e.store.lot opened run.reached s.after first old new e.journal one left out now_out sending.name sending.bytes run.to.run spared le by comes_one goes_one
+              (subst (λ (x : Step). IsPutStep e.flow run.reached x sending.name) one_is from)
+              (sym puts.standing ∙ ap (λ (o : List ℕ → Option (List ℕ)). with_file o sending.name sending.bytes) run.to.run.stands.standing) tried.others (tried.puts ∙ puts.puts))
+
+      -- the inbox's behind the step
+      pub stops_behind : InboxFaultsEnd tells held moment images → f.journal ≡ e.journal ++ record { step = one; acked = Some (moment new) } ∷ []
+          → IsStepped e.flow moment images e.store.lot run.reached s.after old new → (name : List ℕ) → TakesFromInbox e.flow (step_of job) name
+          → (now_left : List NamedFile) → (now_left ≡ left) ⊎ (now_left ≡ without name left)
+          → (now_out : Outgoing) → now_out ≡ with_sending changed.sending out
+          → Stops EngineError.Inbox tells held moment images f opened first start (step_moment one) new now_left now_out
+      stops_behind law journal_is stepped name takes now_left either now_out sent later by =
+          has_as f e.flow e.store.lot (e.journal ++ record { step = one; acked = Some (moment new) } ∷ []) flow_is lot_is journal_is opened first start new now_left now_out (ending.Fault fault.Inbox) later
+          (law e.flow start time later e.store.lot opened run.reached s.after first old new e.journal one name left now_left out now_out run.to.run le by comes_one goes_one stepped
+          (subst (λ (x : Step). TakesFromInbox e.flow x name) one_is takes) either
+          (put_one now_out sent))
+
+      -- a limit, before the put
+      pub stops_at_limit : SparedRunsGoOn moment images → NextStepsAreInTurn moment images → (limit : Limit)
+          → IsSpared e.flow moment images e.store.lot run.reached old new → f.journal ≡ e.journal → f.listing.names ≡ e.listing.names → f.last ≡ e.last
+          → images new (moment new) (held new)
+          → IsAtStoreLimit tells held moment images limit run.reached s.after new ⊎ IsAtJournalLimit limit e.journal
+          → Stops (EngineError.Limit limit) tells held moment images f opened first start (step_moment one) new left out
+      stops_at_limit law turns limit spared journal_is names last image met =
+          let on = law e.flow start time (step_moment one) e.store.lot opened run.reached first old new e.journal left out run.to.run le spared in
+          record {
+            reached = run.reached;
+            to = record {
+              run = runs_as f e.flow e.store.lot e.journal flow_is lot_is journal_is opened first start new left out (step_moment one) run.reached on;
+              coming = run.to.coming ∙ sym names;
+              last = last ∙ run.to.last ∙ ap (λ (j : List Entry). last_worker None (steps j)) (sym journal_is);
+            };
+            met = limit_as f e.flow e.store.lot e.journal flow_is lot_is journal_is opened first start new left out (step_moment one) run.reached limit (record {
+              next = one;
+              turn = turns e.flow start time (step_moment one) e.store.lot opened run.reached first old e.journal one left out run.to.run le (omega arith) comes_one;
+              after = s.after;
+              goes = goes_one;
+              stands = on.holds (held new) image;
+              met = met;
+            });
+          }
+
+      -- a step: the journal has one entry more
+      pub enters : SteppedRunsGoOn moment images → f.journal ≡ e.journal ++ record { step = one; acked = Some (moment new) } ∷ []
+          → IsStepped e.flow moment images e.store.lot run.reached s.after old new
+          → (now_left : List NamedFile) → now_left ≡ without_received job.given.file left
+          → (now_out : Outgoing) → now_out ≡ with_sending changed.sending out
+          → f.last ≡ worker_behind None one → f.listing.names ≡ names_without job.given.file e.listing.names
+          → worker_behind (last_worker None (steps e.journal)) one ≡ worker_behind None one
+          → IsRunning moment images f opened first start (step_moment one) new now_left now_out
+      enters law journal_is stepped now_left lies now_out stands last names worked =
+          let entry : Entry = record { step = one; acked = Some (moment new) } in
+          record {
+            reached = s.after;
+            to = record {
+              run = runs_as f e.flow e.store.lot (e.journal ++ entry ∷ []) flow_is lot_is journal_is opened first start new now_left now_out (step_moment one) s.after
+                  (law e.flow start time e.store.lot opened run.reached s.after first old new e.journal one left now_left out now_out run.to.run le comes_one goes_one stepped
+                  (lies ∙ ap (without_received job.given.file) run.to.run.lies ∙ sym s.inbox)
+                  (put_one now_out stands));
+              coming = s.coming ∙ ap (names_without job.given.file) run.to.coming ∙ sym names;
+              last = last ∙ sym worked ∙ sym (last_behind None e.journal entry) ∙ ap (λ (j : List Entry). last_worker None (steps j)) (sym journal_is);
+            };
+          }
+
+  -- the limit that a change would pass, by a store with other room
+  pub store_limit : (flow : Flow) (before after : Machine) (settled : Settled) (limit : Limit) (room : ℕ) (was t : StoreState) (disk : D) → t ≡ with_room room was → IsAtWork flow tells held moment images was disk
+      → IsStateOf before (content_in (held disk)) (kept_by was) → state_after (content_in (held disk)) before.state settled ≡ after.state → IsLimitOf was settled limit
+      → IsAtStoreLimit tells held moment images limit before after disk
+  store_limit flow before after settled limit room was t disk is work tied makes passes =
+      let works = work_roomy flow tells held moment images was t room disk is work in
+      record {
+        store = t;
+        works = works.works;
+        kept = works.kept;
+        tied = subst (λ (u : StoreState). IsStateOf before (content_in (held disk)) (kept_by u)) (sym is) tied;
+        settled = settled;
+        makes = makes;
+        passes = subst (λ (u : StoreState). IsLimitOf u settled limit) (sym is) passes;
+      }
+
+  -- a session that is written: its change is sent and committed, with this answer
+  module _ (e : EngineState) (opened : Machine) (first : D) (start : Start) (time : ℕ) (mid new : D) (left : List NamedFile) (out now_out : Outgoing) (run : IsRunning moment images e opened first start time mid left out)
+      (job : Job) (changed : Changed) (s : IsStepOf e.flow e.last (content_in (held mid)) run.reached job changed) (one : Step) (one_is : step_of job ≡ one) (le : time ≤ step_moment one)
+      (was t : StoreState) (queues now_queues : List QueueState) (same_lot : was.lot ≡ e.store.lot)
+      (work : IsAtWork e.flow tells held moment images was mid) (tied : IsStateOf run.reached (content_in (held mid)) (kept_by was))
+      (out_tells : Bool) (out_telling : IsTrue out_tells) (result : Result ℕ EngineError)
+      (written : HasWritten result tells held moment images out_tells was t queues now_queues changed out now_out mid new) where
+    still : IsSpared e.flow moment images e.store.lot run.reached mid mid
+    still = wider moment images mid mid (images mid (moment mid)) (StandsFor e.flow e.store.lot run.reached) (nothing moment images mid) run.to.run.holds
+
+    lot_now : t.lot ≡ e.store.lot
+    lot_now = written.lot.0 ∙ same_lot
+
+    holds_there : InEach (images mid (moment mid)) (StandsFor e.flow was.lot run.reached)
+    holds_there = subst (λ (lot : ℕ). InEach (images mid (moment mid)) (StandsFor e.flow lot run.reached)) (sym same_lot) run.to.run.holds
+
+    -- ---- it is acknowledged
+
+    module _ (m : ℕ) (is : result ≡ Ok m) (f : EngineState) (flow_is : f.flow ≡ e.flow) (lot_is : f.store.lot ≡ t.lot) (journal_is : f.journal ≡ journaled result one e.journal) where
+      moment_now : m ≡ moment new
+      moment_now = subst (λ (r : Result ℕ EngineError). IfOk r (λ answer. answer ≡ moment new)) is written.moment_is
+
+      stepped_now : IsStepped e.flow moment images e.store.lot run.reached s.after mid new
+      stepped_now =
+          subst (λ (lot : ℕ). IsStepped e.flow moment images lot run.reached s.after mid new) same_lot
+          ((subst (λ (r : Result ℕ EngineError). OnOk r ((flow : Flow) (before after : Machine) → IsAtWork flow tells held moment images was mid → InEach (images mid (moment mid)) (StandsFor flow was.lot before)
+          → state_after (content_in (held mid)) before.state changed.settled ≡ after.state → IsStepped flow moment images was.lot before after mid new)) is written.stepped)
+          e.flow run.reached s.after work holds_there s.state)
+
+      sent_now : now_out ≡ with_sending changed.sending out
+      sent_now = (subst (λ (r : Result ℕ EngineError). OnOk r (IsTrue out_tells → now_out ≡ with_sending changed.sending out)) is written.sent) out_telling
+
+      journal_now : f.journal ≡ e.journal ++ record { step = one; acked = Some (moment new) } ∷ []
+      journal_now = journal_is ∙ ap (λ (r : Result ℕ EngineError). journaled r one e.journal) is ∙ ap (λ (n : ℕ). e.journal ++ record { step = one; acked = Some n } ∷ []) moment_now
+
+      pub enters_written : SteppedRunsGoOn moment images → (now_left : List NamedFile) → now_left ≡ without_received job.given.file left
+          → f.last ≡ worker_behind None one → f.listing.names ≡ names_without job.given.file e.listing.names → worker_behind (last_worker None (steps e.journal)) one ≡ worker_behind None one
+          → IsRunning moment images f opened first start (step_moment one) new now_left now_out
+      enters_written law now_left lies last names worked =
+          enters e f opened first start time mid new left out run flow_is (lot_is ∙ lot_now) (content_in (held mid)) job changed s one one_is le law journal_now stepped_now now_left lies now_out sent_now last names worked
+
+      pub stops_unremoved : InboxFaultsEnd tells held moment images → (name : List ℕ) → TakesFromInbox e.flow (step_of job) name → (now_left : List NamedFile) → (now_left ≡ left) ⊎ (now_left ≡ without name left)
+          → Stops EngineError.Inbox tells held moment images f opened first start (step_moment one) new now_left now_out
+      stops_unremoved law name takes now_left either =
+          stops_behind e f opened first start time mid new left out run flow_is (lot_is ∙ lot_now) (content_in (held mid)) job changed s one one_is le law journal_now stepped_now name takes now_left either now_out sent_now
+
+    -- ---- it is refused
+
+    module _ (error : EngineError) (is : result ≡ Err error) (f : EngineState) (flow_is : f.flow ≡ e.flow) (store_is : f.store ≡ t) (journal_is : f.journal ≡ journaled result one e.journal) where
+      lot_is : f.store.lot ≡ e.store.lot
+      lot_is = ap (λ (u : StoreState). u.lot) store_is ∙ lot_now
+
+      -- the journal stays where the commit hadn't begun
+      unjournaled : (error ≡ EngineError.Disk → ⊥) → f.journal ≡ e.journal
+      unjournaled other = journal_is ∙ ap (λ (r : Result ℕ EngineError). journaled r one e.journal) is ∙ stays error other
+        where
+          stays : (er : EngineError) → (er ≡ EngineError.Disk → ⊥) → journaled (Err er) one e.journal ≡ e.journal
+          stays (EngineError.Damaged damage) apart = refl
+          stays EngineError.Disk apart = absurd (apart refl)
+          stays EngineError.Inbox apart = refl
+          stays EngineError.Outbox apart = refl
+          stays (EngineError.Limit limit) apart = refl
+          stays EngineError.MustReopen apart = refl
+          stays EngineError.Memory apart = refl
+
+      -- where the commit hadn't begun and nothing was put, the run goes on
+      pub goes_on_unwritten : SparedRunsGoOn moment images → f.listing.names ≡ e.listing.names → f.last ≡ e.last → (error ≡ EngineError.Disk → ⊥) → (error ≡ EngineError.Outbox → ⊥)
+          → IsRunning moment images f opened first start (step_moment one) new left now_out
+      goes_on_unwritten law names last disk outbox =
+          subst (λ (d : D). IsRunning moment images f opened first start (step_moment one) d left now_out) (sym (written.unwritten error is disk).0)
+          (subst (λ (o : Outgoing). IsRunning moment images f opened first start (step_moment one) mid left o) (sym (written.unsent error is disk outbox))
+          (record {
+            reached = run.reached;
+            to = record {
+              run = runs_as f e.flow e.store.lot e.journal flow_is lot_is (unjournaled disk) opened first start mid left out (step_moment one) run.reached
+                  (law e.flow start time (step_moment one) e.store.lot opened run.reached first mid mid e.journal left out run.to.run le still);
+              coming = run.to.coming ∙ sym names;
+              last = last ∙ run.to.last ∙ ap (λ (j : List Entry). last_worker None (steps j)) (sym (unjournaled disk));
+            };
+          }))
+
+      stops_unwritten : FaultsEnd tells held moment images → IsNoLimit error → (error ≡ EngineError.Disk → ⊥) → (error ≡ EngineError.Outbox → ⊥)
+          → Stops error tells held moment images f opened first start (step_moment one) new left now_out
+      stops_unwritten law none disk outbox =
+          subst (λ (d : D). Stops error tells held moment images f opened first start (step_moment one) d left now_out) (sym (written.unwritten error is disk).0)
+          (stops_unmoved e f opened first start time mid mid left out run flow_is lot_is law (unjournaled disk) still error none (step_moment one) le left now_out refl (written.unsent error is disk outbox))
+
+    stops_cut_off : DiskFaultsEnd tells held moment images → result ≡ Err EngineError.Disk → (f : EngineState) → f.flow ≡ e.flow → f.store.lot ≡ e.store.lot → f.journal ≡ journaled result one e.journal
+        → Stops EngineError.Disk tells held moment images f opened first start (step_moment one) new left now_out
+    stops_cut_off law is f flow_is lot_is journal_is =
+        stops_within e f opened first start time mid new left out run flow_is lot_is (content_in (held mid)) job changed s one one_is le law
+        (journal_is ∙ ap (λ (r : Result ℕ EngineError). journaled r one e.journal) is)
+        (subst (λ (lot : ℕ). IsBetween e.flow moment images lot run.reached s.after mid new) same_lot (written.cut_off is e.flow run.reached s.after work holds_there s.state))
+        now_out (written.sent_before is out_telling)
+
+    stops_put : FaultsEnd tells held moment images → OutboxFaultsEnd tells held moment images → (is : result ≡ Err EngineError.Outbox) → (f : EngineState) → f.flow ≡ e.flow → f.store ≡ t → f.journal ≡ journaled result one e.journal
+        → Stops EngineError.Outbox tells held moment images f opened first start (step_moment one) new left now_out
+    stops_put between law is f flow_is store_is journal_is =
+        let other : EngineError.Outbox ≡ EngineError.Disk → ⊥ = λ e. cc in
+        subst (λ (d : D). Stops EngineError.Outbox tells held moment images f opened first start (step_moment one) d left now_out) (sym (written.unwritten EngineError.Outbox is other).0)
+        (stops_at_put e f opened first start time mid mid left out run flow_is (ap (λ (u : StoreState). u.lot) store_is ∙ lot_now) (content_in (held mid)) job changed s one one_is le between law
+        (unjournaled EngineError.Outbox is f flow_is store_is journal_is other) still now_out (written.put is out_telling))
+
+    module _ (turns : NextStepsAreInTurn moment images) (spared : SparedRunsGoOn moment images) (image : images mid (moment mid) (held mid)) (limit : Limit) (f : EngineState)
+        (flow_is : f.flow ≡ e.flow) (store_is : f.store ≡ t) (names : f.listing.names ≡ e.listing.names) (last : f.last ≡ e.last) where
+      stops_past : (is : result ≡ Err (EngineError.Limit limit)) → f.journal ≡ journaled result one e.journal
+          → Stops (EngineError.Limit limit) tells held moment images f opened first start (step_moment one) new left now_out
+      stops_past is journal_is =
+          let other : EngineError.Limit limit ≡ EngineError.Disk → ⊥ = λ e. cc in
+          let another : EngineError.Limit limit ≡ EngineError.Outbox → ⊥ = λ e. cc in
+          let same = written.unwritten (EngineError.Limit limit) is other in
+          subst (λ (d : D). Stops (EngineError.Limit limit) tells held moment images f opened first start (step_moment one) d left now_out) (sym same.0)
+          (subst (λ (o : Outgoing). Stops (EngineError.Limit limit) tells held moment images f opened first start (step_moment one) mid left o) (sym (written.unsent (EngineError.Limit limit) is other another))
+          (stops_at_limit e f opened first start time mid mid left out run flow_is (ap (λ (u : StoreState). u.lot) store_is ∙ lot_now) (content_in (held mid)) job changed s one one_is le spared turns limit still
+          (unjournaled (EngineError.Limit limit) is f flow_is store_is journal_is other) names last image
+          (inl (store_limit e.flow run.reached s.after changed.settled limit t.memory.room was t mid same.1 work tied s.state (written.passes limit is)))))
+
+    -- whichever error it is
+    pub stops_written : FaultsEnd tells held moment images → DiskFaultsEnd tells held moment images → OutboxFaultsEnd tells held moment images → NextStepsAreInTurn moment images → SparedRunsGoOn moment images → images mid (moment mid) (held mid)
+        → (error : EngineError) → result ≡ Err error → (f : EngineState) → f.flow ≡ e.flow → f.store ≡ t → f.journal ≡ journaled result one e.journal → f.listing.names ≡ e.listing.names → f.last ≡ e.last
+        → Stops error tells held moment images f opened first start (step_moment one) new left now_out
+    stops_written between disk outbox turns spared image (EngineError.Damaged damage) is f flow_is store_is journal_is names last =
+        stops_unwritten (EngineError.Damaged damage) is f flow_is store_is journal_is between (λ limit e. cc) (λ e. cc) (λ e. cc)
+    stops_written between disk outbox turns spared image EngineError.Inbox is f flow_is store_is journal_is names last = stops_unwritten EngineError.Inbox is f flow_is store_is journal_is between (λ limit e. cc) (λ e. cc) (λ e. cc)
+    stops_written between disk outbox turns spared image EngineError.MustReopen is f flow_is store_is journal_is names last = stops_unwritten EngineError.MustReopen is f flow_is store_is journal_is between (λ limit e. cc) (λ e. cc) (λ e. cc)
+    stops_written between disk outbox turns spared image EngineError.Memory is f flow_is store_is journal_is names last = stops_unwritten EngineError.Memory is f flow_is store_is journal_is between (λ limit e. cc) (λ e. cc) (λ e. cc)
+    stops_written between disk outbox turns spared image EngineError.Disk is f flow_is store_is journal_is names last = stops_cut_off disk is f flow_is (ap (λ (u : StoreState). u.lot) store_is ∙ lot_now) journal_is
+    stops_written between disk outbox turns spared image EngineError.Outbox is f flow_is store_is journal_is names last = stops_put between outbox is f flow_is store_is journal_is
+    stops_written between disk outbox turns spared image (EngineError.Limit limit) is f flow_is store_is journal_is names last = stops_past turns spared image limit f flow_is store_is names last is journal_is
+
+pub named_so : (o : Option (List ℕ)) → IsSome o → (name : List ℕ) × (o ≡ Some name)
+named_so None some = absurd cc
+named_so (Some name) some = (name, refl)

@@ -1,0 +1,53 @@
+-- What stands where a disk was read and nothing else was done.
+use Rattle.std.proofs.Common.{◌≡◌, ℕ, ◌≤◌, Bool, List, sym, subst}
+use Rattle.std.specs.Prelude.{Option}
+use Rattle.disk_trait.specs.Files.{Files}
+use Rattle.disk_trait.specs.Images.{Stays}
+use Rattle.flowfile_record.specs.NamedFile.{NamedFile}
+use Rattle.content_repo.specs.Claims.{content_in}
+use Rattle.machine_model.specs.State.{Machine}
+use Rattle.run_law.specs.Laws.{SparedRunsGoOn}
+use Rattle.engine_steps.specs.Commit.{StandsSo}
+use Rattle.engine_steps.specs.Engine.{EngineState}
+use Rattle.engine_steps.specs.Ready.{EngineIsReady}
+use Rattle.engine_steps.specs.Running.{IsRunning}
+use Rattle.engine_session.specs.declared.done.Done.{Done}
+use Rattle.engine_steps.proofs.Commits.{work_read}
+use Rattle.engine_steps.proofs.Goes.{spared_by_read}
+use Rattle.run_law.specs.Puts.{Outgoing, Start}
+use Rattle.engine_steps.proofs.Steps.{runs_on}
+
+module _ (tells : Bool) {D : Type 0} (held : D → Files) (moment : D → ℕ) (images : D → ℕ → Files → Type 0) (old new : D) (stays : Stays held moment images old new) where
+  pub still_ready : (e f : EngineState) → f ≡ e → EngineIsReady tells held moment images e old → EngineIsReady tells held moment images f new
+  still_ready e f same ready =
+      subst (λ (x : EngineState). EngineIsReady tells held moment images x new) (sym same)
+      (record {
+        sound = ready.sound;
+        work = work_read e.flow tells held moment images e.store old new stays ready.work;
+        queues = ready.queues;
+        listing = ready.listing;
+        distinct = ready.distinct;
+        most = ready.most;
+        entries = ready.entries;
+        due = ready.due;
+      })
+
+  -- the run is where it was
+  pub still_runs : SparedRunsGoOn moment images → (e f : EngineState) → f ≡ e → (opened : Machine) (first : D) (start : Start) (time later : ℕ) → time ≤ later
+      → (left now_left : List NamedFile) (out now_out : Outgoing) → now_left ≡ left → now_out ≡ out
+      → IsRunning moment images e opened first start time old left out → IsRunning moment images f opened first start later new now_left now_out
+  still_runs law e f same opened first start time later le left now_left out now_out lies stands run =
+      let on = runs_on moment images law e opened first start time later old new left out run le
+      (spared_by_read tells held moment images e.flow e.store.lot run.reached old new stays run.to.run.holds) in
+      subst (λ (x : EngineState). IsRunning moment images x opened first start later new now_left now_out) (sym same)
+      (subst (λ (l : List NamedFile). IsRunning moment images e opened first start later new l now_out) (sym lies)
+      (subst (λ (o : Outgoing). IsRunning moment images e opened first start later new left o) (sym stands) on))
+
+  -- a work's job stands as it did
+  pub still_stands : (e f : EngineState) → f ≡ e → (in_tells out_tells : Bool) (left now_left : List NamedFile) (out now_out : Outgoing) → now_left ≡ left → now_out ≡ out → (done : Done)
+      → StandsSo tells in_tells out_tells e (content_in (held old)) left out.standing done → StandsSo tells in_tells out_tells f (content_in (held new)) now_left now_out.standing done
+  still_stands e f same in_tells out_tells left now_left out now_out lies stands done so =
+      subst (λ (x : EngineState). StandsSo tells in_tells out_tells x (content_in (held new)) now_left now_out.standing done) (sym same)
+      (subst (λ (l : List NamedFile). StandsSo tells in_tells out_tells e (content_in (held new)) l now_out.standing done) (sym lies)
+      (subst (λ (o : Outgoing). StandsSo tells in_tells out_tells e (content_in (held new)) left o.standing done) (sym stands)
+      (subst (λ (files : Files). StandsSo tells in_tells out_tells e (content_in files) left out.standing done) (sym stays.files) so)))

@@ -1,0 +1,91 @@
+use Rattle.std.proofs.Common.{◌≡◌, ◌⊎◌, ◌∙◌, refl, sym, subst, arith}
+use Rattle.std.specs.Prelude.{None}
+use Rattle.std.proofs.lemmas.Result.{err_from_is_err_and}
+use Rattle.run_law.specs.Work.{IsAtWork, IsNoEarlier, HasShortLog, WritesLog}
+use Rattle.engine_steps.specs.Engine.{EngineState, IsOfSameRun}
+use Rattle.engine_steps.specs.Running.{IsRunning}
+use Rattle.engine_steps.specs.Tending.{IsCheckpointed}
+use Rattle.engine_steps.specs.declared.error.EngineError.{EngineError}
+use Rattle.engine_steps.proofs.RunsOn.{runs_spared, stops_by}
+use Rattle.engine_steps.proofs.Short.{no_log_due}
+use Rattle.engine_steps.proofs.engine.Engine.checkpoint_due.Goals as goal
+
+pub checkpoint-requires-clause-number : goal.checkpoint-requires-clause-number
+checkpoint-requires-clause-number g c κs within number is = c.wants_checkpoint.ensures.next c.if-not-wants_checkpoint.false number is
+
+pub returns-in_err-checkpoint-clause-stopped : goal.returns-in_err-checkpoint-clause-stopped
+returns-in_err-checkpoint-clause-stopped g c error is opened first start time left out run =
+    let tells = g.D.Disk.tells in
+    let held = g.D.Disk.held in
+    let moment = g.D.Disk.moment in
+    let images = g.D.Disk.images in
+    let old = c.args.disk.now in
+    let new = c.checkpoint.new.disk in
+    let i = c.self.inside in
+    let e : EngineState = record { flow = i.flow.now; store = i.store; queues = i.queues; listing = i.listing; last = i.last; journal = i.journal.items; most = i.most; checkpoint = i.checkpoint; since_reclaim = i.since_reclaim; failed = i.has_failed; tended = i.tended } in
+    let f : EngineState = record e { store = c.checkpoint.new.store; tended = None } in
+    let same : IsOfSameRun e f = record { flow = refl; most = refl; checkpoint = refl; too_large = refl; lot = c.checkpoint.ensures.same.1 } in
+    let work = subst (λ (u : EngineState). IsAtWork u.flow tells held moment images u.store old) (sym c.self.view_is) c.requires.work in
+    let p = err_from_is_err_and c.from_residual.result c.from_residual.ensures.1 in
+    let told : c.in_err-checkpoint.field-0.0 ≡ error = cc (p.1, p.2, is) in
+    stops_by tells held moment images e f same opened first old new start time left out c.faults_end_a_run.ensures.between error
+    (subst (λ (er : EngineError). (er ≡ EngineError.Disk) ⊎ (er ≡ EngineError.Memory)) told c.in_err-checkpoint.ensures.kinds) time (omega arith) refl
+    (λ m stands. c.checkpoint.ensures.spared i.flow.now m work stands)
+    (subst (λ (u : EngineState). IsRunning moment images u opened first start time old left out) (sym c.self.view_is) run)
+
+pub returns-in_err-checkpoint-clause-alone : goal.returns-in_err-checkpoint-clause-alone
+returns-in_err-checkpoint-clause-alone g c =
+    subst (λ (u : EngineState). WritesLog g.D.Disk.moment g.D.Disk.images u.store.log.number c.args.disk.now c.checkpoint.new.disk) c.self.view_is c.checkpoint.ensures.alone
+
+pub returns-in_err-checkpoint-clause-goes_on : goal.returns-in_err-checkpoint-clause-goes_on
+returns-in_err-checkpoint-clause-goes_on g c well opened first start time left out run =
+    let tells = g.D.Disk.tells in
+    let held = g.D.Disk.held in
+    let moment = g.D.Disk.moment in
+    let images = g.D.Disk.images in
+    let old = c.args.disk.now in
+    let new = c.checkpoint.new.disk in
+    let i = c.self.inside in
+    let e : EngineState = record { flow = i.flow.now; store = i.store; queues = i.queues; listing = i.listing; last = i.last; journal = i.journal.items; most = i.most; checkpoint = i.checkpoint; since_reclaim = i.since_reclaim; failed = i.has_failed; tended = i.tended } in
+    let f : EngineState = record e { store = c.checkpoint.new.store; tended = None } in
+    let same : IsOfSameRun e f = record { flow = refl; most = refl; checkpoint = refl; too_large = refl; lot = c.checkpoint.ensures.same.1 } in
+    let work = subst (λ (u : EngineState). IsAtWork u.flow tells held moment images u.store old) (sym c.self.view_is) c.requires.work in
+    runs_spared tells held moment images e f same opened first old new start time left out c.run_goes_on.ensures.spared time (omega arith) refl refl refl
+    (λ m stands. c.checkpoint.ensures.spared i.flow.now m work stands)
+    (subst (λ (u : EngineState). IsRunning moment images u opened first start time old left out) (sym c.self.view_is) run)
+
+pub returns-clause-goes_on : goal.returns-clause-goes_on
+returns-clause-goes_on g c well opened first start time left out run =
+    let tells = g.D.Disk.tells in
+    let held = g.D.Disk.held in
+    let moment = g.D.Disk.moment in
+    let images = g.D.Disk.images in
+    let old = c.args.disk.now in
+    let new = c.checkpoint.new.disk in
+    let i = c.self.inside in
+    let e : EngineState = record { flow = i.flow.now; store = i.store; queues = i.queues; listing = i.listing; last = i.last; journal = i.journal.items; most = i.most; checkpoint = i.checkpoint; since_reclaim = i.since_reclaim; failed = i.has_failed; tended = i.tended } in
+    let f : EngineState = record e { store = c.checkpoint.new.store; tended = None } in
+    let same : IsOfSameRun e f = record { flow = refl; most = refl; checkpoint = refl; too_large = refl; lot = c.checkpoint.ensures.same.1 } in
+    let work = subst (λ (u : EngineState). IsAtWork u.flow tells held moment images u.store old) (sym c.self.view_is) c.requires.work in
+    runs_spared tells held moment images e f same opened first old new start time left out c.run_goes_on.ensures.spared time (omega arith) refl refl refl
+    (λ m stands. c.checkpoint.ensures.spared i.flow.now m work stands)
+    (subst (λ (u : EngineState). IsRunning moment images u opened first start time old left out) (sym c.self.view_is) run)
+
+pub returns-clause-log : goal.returns-clause-log
+returns-clause-log g c =
+    subst (λ (u : EngineState). IsNoEarlier u.store.log.number c.checkpoint.new.store.log.number) c.self.view_is c.in_ok-checkpoint.ensures.log
+
+pub returns-clause-alone : goal.returns-clause-alone
+returns-clause-alone g c =
+    subst (λ (u : EngineState). WritesLog g.D.Disk.moment g.D.Disk.images u.store.log.number c.args.disk.now c.checkpoint.new.disk) c.self.view_is c.checkpoint.ensures.alone
+
+pub returns-clause-made : goal.returns-clause-made
+returns-clause-made g c is =
+    subst (λ (u : EngineState). IsCheckpointed u.store c.checkpoint.new.store) c.self.view_is c.in_ok-checkpoint.ensures.next
+
+pub returns-then-not-wants_checkpoint-clause-short : goal.returns-then-not-wants_checkpoint-clause-short
+returns-then-not-wants_checkpoint-clause-short g c is image left =
+    let i = c.self.inside in
+    let work = subst (λ (u : EngineState). IsAtWork u.flow g.D.Disk.tells g.D.Disk.held g.D.Disk.moment g.D.Disk.images u.store c.args.disk.now) (sym c.self.view_is) c.requires.work in
+    subst (λ (u : EngineState). HasShortLog u.checkpoint image) c.self.view_is
+    (no_log_due i.checkpoint i.store image c.wants_checkpoint.ensures.counted (sym c.wants_checkpoint.ensures.due ∙ c.if-not-wants_checkpoint.true) (work.kept.log work.works image left))

@@ -1,0 +1,40 @@
+use Rattle.std.proofs.Common.{◌≡◌, ◌∙◌, ap, rules, subst, sym, true}
+use Rattle.std.specs.Prelude.{Err}
+use Rattle.engine_steps.specs.Engine.{EngineState}
+use Rattle.engine_steps.specs.Running.{Stops}
+use Rattle.engine_steps.specs.declared.error.EngineError.{EngineError}
+use Rattle.run_law.specs.Puts.{outgoing}
+use Rattle.engine_steps.proofs.engine.Engine.commit.Goals as goal
+
+pub returns-in-Err-Disk-clause-run : goal.returns-in-Err-Disk-clause-run
+returns-in-Err-Disk-clause-run g c telling in_telling out_telling =
+    let D = g.D.Disk in
+    let new = c.commit_job-committed.new.disk in
+    let left = g.I.Inbox.left c.commit_job-committed.new.inbox in
+    let out = outgoing g.O.Outbox.standing g.O.Outbox.puts c.commit_job-committed.new.outbox in
+    let i = c.self-2.inside in
+    let e : EngineState = record { flow = i.flow.now; store = i.store; queues = i.queues; listing = i.listing; last = i.last; journal = i.journal.items; most = i.most; checkpoint = i.checkpoint; since_reclaim = i.since_reclaim; failed = i.has_failed; tended = i.tended } in
+    record {
+      goes_on = λ works. absurd cc;
+      stopped = λ error is works opened first start time le run.
+          let told : error ≡ EngineError.Disk = cc (is, c.in-Err-Disk.field-0-is) in
+          subst (λ (er : EngineError). Stops er D.tells D.held D.moment D.images (record e { failed = true }) opened first start c.args.done.given.moment new left out) (sym told)
+          (subst (λ (u : EngineState). Stops EngineError.Disk D.tells D.held D.moment D.images u opened first start c.args.done.given.moment new left out) (sym c.self-2.view_is)
+          (c.commit_job-committed.ensures.stopped EngineError.Disk (is ∙ ap Err told) telling in_telling out_telling opened first start time le run));
+    }
+
+pub returns-else-self-clause-run : goal.returns-else-self-clause-run
+returns-else-self-clause-run g c telling in_telling out_telling =
+    let other : c.commit_job-committed.result ≡ Err EngineError.Disk → ⊥ = λ is. search rules in
+    record {
+      goes_on = λ works unmoved opened first start time le run. c.commit_job-committed.ensures.goes_on other works unmoved telling in_telling out_telling opened first start time le run;
+      stopped = λ error is works opened first start time le run. c.commit_job-committed.ensures.stopped error is telling in_telling out_telling opened first start time le run;
+    }
+
+pub returns-else-self-2-clause-run : goal.returns-else-self-2-clause-run
+returns-else-self-2-clause-run g c telling in_telling out_telling =
+    let other : c.commit_job-committed.result ≡ Err EngineError.Disk → ⊥ = λ is. search rules in
+    record {
+      goes_on = λ works unmoved opened first start time le run. c.commit_job-committed.ensures.goes_on other works unmoved telling in_telling out_telling opened first start time le run;
+      stopped = λ error is works opened first start time le run. c.commit_job-committed.ensures.stopped error is telling in_telling out_telling opened first start time le run;
+    }

@@ -1,0 +1,14 @@
+pub mod Checkout
+pub mod Closing
+pub mod Commit
+pub mod Committing
+pub mod Engine
+pub mod Errors
+pub mod Handing
+pub mod Journal
+pub mod NextJob
+pub mod Opening
+pub mod Ready
+pub mod Running
+pub mod Showing
+pub mod Tending

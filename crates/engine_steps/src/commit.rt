@@ -1,0 +1,323 @@
+//! A session that was worked on becomes part of the run, if its job still stands.
+ghost use Rattle.std.specs.Prelude.{◌≡◌, ◌⊎◌, ◌↔◌, ℕ, ◌-◌, ◌^◌, ◌<◌, ◌≤◌, true, false, None, Ok, IfOk, OnOk, IsErrOf, IsTrue};
+ghost use Rattle.disk_trait.specs.Faults.{CountsFaults};
+ghost use Rattle.disk_trait.specs.Images.{Stays};
+ghost use Rattle.disk_trait.specs.declared.damage.Damage.{Damage as TheDamage};
+ghost use Rattle.content_repo.specs.Claims.{content_in};
+ghost use Rattle.kept_state.specs.Fits.{are_active_in};
+ghost use Rattle.kept_state.specs.declared.limit.Limit.{Limit as TheLimit};
+ghost use Rattle.machine_model.specs.Changing.{HaveDigests};
+ghost use Rattle.machine_model.specs.State.{Machine};
+ghost use Rattle.machine_model.specs.declared.flow.Flow.{Flow as TheFlow};
+ghost use Rattle.store_core.specs.Change.{HasLiveContents, MayChange};
+ghost use Rattle.store_core.specs.Store.{kept_by};
+ghost use Rattle.engine_steps.specs.Commit.{CommitsAlone, IsEntered, IsInboxBehind, IsInboxLeft, IsJournaled, IsLeftOut, IsOutboxBehind, MakesEntry, StandsOtherwise, StandsSo, TakesWhatStands};
+ghost use Rattle.engine_steps.specs.Committing.{HasWritten, IsAtWorkWithQueues, IsOutboxLeft};
+ghost use Rattle.engine_session.specs.Done.{WorkIsDone, step_done};
+ghost use Rattle.engine_session.specs.Sending.{sending_of};
+ghost use Rattle.engine_steps.specs.Engine.{AreTakeable, IsOfSameRun};
+ghost use Rattle.engine_steps.specs.Errors.{CountsEachFault, HasCause, IsReadBy, RefusesToCommit};
+ghost use Rattle.engine_steps.specs.Journal.{journaled};
+ghost use Rattle.engine_steps.specs.Ready.{EngineIsReady, IsUsableWith};
+ghost use Rattle.engine_steps.specs.Running.{CommitsRun, IsRunning, Stops};
+ghost use Rattle.run_law.specs.Work.{IsReadDamaged, WritesLog};
+ghost use Rattle.engine_steps.specs.declared.error.EngineError.{EngineError as TheError};
+ghost use Rattle.run_law.specs.Puts.{Start, outgoing};
+
+use crate::EngineError;
+use crate::engine::Engine;
+use crate::journal::note;
+use crate::memory::holds_its_state;
+use crate::sending::{commit, remove};
+use disk_trait::Disk;
+use engine_choice::{choices_are_seen, choices_are_sessions};
+use engine_queues::what_is_kept_is_seen;
+use engine_session::{Changed, Done, is_work_on, session_change, step_done, taken_files_are_live};
+use machine_model::{Given, Step};
+use run_law::{faults_end_a_run, run_goes_on};
+use std::alloc::{AllocError, Global};
+use world_io::{Inbox, Name, Outbox};
+
+/// What became of a session.
+#[derive(Clone, Copy, Debug, PartialEq, Eq)]
+pub enum Committed {
+    /// It is the journal's entry at this place, from 0 on, and was acknowledged at this moment of the disk.
+    Acked { entry: u64, moment: u64 },
+    /// Nothing: what its processor worked on isn't what stands now. The session may be checked out again.
+    Changed,
+}
+
+impl Engine<'_> {
+    /// Makes a session part of the run. First its job is read again: where that is no longer what its processor worked
+    /// on, nothing is done. Else what it sends is put into the outbox, its change is committed, and then the file that
+    /// it received is removed from the inbox. Before the put all its memory is taken. It asks for the moment at which its
+    /// processor worked, no earlier than the journal's last.
+    pub fn commit<D: Disk, I: Inbox, O: Outbox>(
+        &mut self,
+        alloc: Global,
+        disk: &mut D,
+        inbox: &mut I,
+        outbox: &mut O,
+        done: Done,
+    ) -> Result<Committed, EngineError>
+        requires usable { IsUsableWith D.tells D.held D.moment D.images I.tells (I.left inbox.old) self.old disk.old }
+        requires done { WorkIsDone self.old.flow (kept_by self.old.store).store done }
+        // Acknowledged, the journal has one entry more, this session, and what it sends was put. Else all is as it was, but
+        // at a failure of a device.
+        ensures entered { MakesEntry result done (D.moment disk.new) I.tells O.tells self.old self.new
+            (I.left inbox.old) (I.left inbox.new) (outgoing O.standing O.puts outbox.old)
+            (outgoing O.standing O.puts outbox.new) }
+        // Only what stands is made part of the run.
+        ensures stands { TakesWhatStands result D.tells I.tells O.tells D.held D.moment
+            D.images done self.old self.new disk.old disk.new (I.left inbox.old)
+            (outgoing O.standing O.puts outbox.old) (outgoing O.standing O.puts outbox.new) }
+        // The run goes on, unless a file that was received couldn't be removed, or it is stopped.
+        ensures run { IsTrue D.tells → IsTrue I.tells → IsTrue O.tells
+            → CommitsRun result D.tells D.held D.moment D.images done.given.moment self.old self.new disk.old disk.new
+            (I.left inbox.old) (I.left inbox.new) (outgoing O.standing O.puts outbox.old)
+            (outgoing O.standing O.puts outbox.new) }
+        // Whatever inbox and outbox tell.
+        ensures usable { IsUsableWith D.tells D.held D.moment D.images I.tells (I.left inbox.new) self.new disk.new }
+        ensures alone { CommitsAlone D.moment D.images self.old self.new disk.old disk.new }
+        ensures refusal { RefusesToCommit result D.tells D.held D.moment D.images D.faults I.faults O.faults
+            self.old self.new disk.old disk.new inbox.old inbox.new outbox.old outbox.new }
+    {
+        if self.has_failed {
+            return Err(EngineError::MustReopen);
+        }
+        let committed = self.commit_job(alloc, disk, inbox, outbox, done);
+        if let Err(EngineError::Disk) = &committed {
+            self.has_failed = true;
+        }
+        committed
+    }
+
+    // Commits the work on a job that stands, by a store that works.
+    fn commit_job<D: Disk, I: Inbox, O: Outbox>(
+        &mut self,
+        alloc: Global,
+        disk: &mut D,
+        inbox: &mut I,
+        outbox: &mut O,
+        done: Done,
+    ) -> Result<Committed, EngineError>
+        requires ready { EngineIsReady D.tells D.held D.moment D.images self.old disk.old }
+        requires works { self.old.failed ≡ false }
+        requires left { IsTrue I.tells → AreTakeable (I.left inbox.old) self.old.listing.names }
+        requires done { WorkIsDone self.old.flow (kept_by self.old.store).store done }
+        ensures journal { IsJournaled result done (D.moment disk.new) self.old self.new }
+        ensures inbox { IsTrue I.tells
+            → IsInboxBehind result done.given.file (I.left inbox.old) (I.left inbox.new) }
+        ensures outbox { IsTrue O.tells → IsOutboxBehind result (sending_of done.outcome.sent done.sources)
+            (outgoing O.standing O.puts outbox.old) (outgoing O.standing O.puts outbox.new) }
+        ensures stands { IsLeftOut result self.old self.new
+            ⊎ StandsSo D.tells I.tells O.tells self.old (content_in (D.held disk.old))
+            (I.left inbox.old) (O.standing outbox.old) done }
+        ensures changed { result ≡ Ok Committed.Changed
+            → StandsOtherwise D.tells I.tells O.tells self.old (content_in (D.held disk.old))
+            (I.left inbox.old) (O.standing outbox.old) done }
+        ensures untouched { result ≡ Ok Committed.Changed → (self.new ≡ self.old)
+            × Stays D.held D.moment D.images disk.old disk.new × (I.left inbox.new ≡ I.left inbox.old)
+            × (outgoing O.standing O.puts outbox.new ≡ outgoing O.standing O.puts outbox.old) }
+        ensures goes_on { (IsErrOf result EngineError.Disk → ⊥) → self.new.failed ≡ false
+            → (IsErrOf result EngineError.Inbox → self.new.journal ≡ self.old.journal)
+            → IsTrue D.tells → IsTrue I.tells → IsTrue O.tells
+            → (opened : Machine) (first : D) (start : Start) (time : ℕ) → time ≤ done.given.moment
+            → IsRunning D.moment D.images self.old opened first start time disk.old (I.left inbox.old)
+            (outgoing O.standing O.puts outbox.old)
+            → IsRunning D.moment D.images self.new opened first start done.given.moment disk.new (I.left inbox.new)
+            (outgoing O.standing O.puts outbox.new) }
+        ensures stopped { (error : TheError) → IsErrOf result error → IsTrue D.tells → IsTrue I.tells → IsTrue O.tells
+            → (opened : Machine) (first : D) (start : Start) (time : ℕ) → time ≤ done.given.moment
+            → IsRunning D.moment D.images self.old opened first start time disk.old (I.left inbox.old)
+            (outgoing O.standing O.puts outbox.old)
+            → Stops error D.tells D.held D.moment D.images self.new opened first start done.given.moment disk.new
+            (I.left inbox.new) (outgoing O.standing O.puts outbox.new) }
+        ensures ready { (IsErrOf result EngineError.Disk → ⊥)
+            → EngineIsReady D.tells D.held D.moment D.images self.new disk.new }
+        ensures left { IsTrue I.tells → AreTakeable (I.left inbox.new) self.new.listing.names }
+        ensures works { IsErrOf result EngineError.MustReopen → ⊥ }
+        ensures failed { self.new.failed ≡ true → IsErrOf result EngineError.Outbox }
+        ensures same { IsOfSameRun self.old self.new }
+        ensures log { self.new.store.log.number ≡ self.old.store.log.number }
+        ensures alone { WritesLog D.moment D.images self.old.store.log.number disk.old disk.new }
+        ensures why { HasCause result self.old.flow D.tells D.held D.moment D.images self.old.store.lot self.old.most
+            self.new.journal self.new.store disk.new }
+        ensures cause { CountsEachFault result (D.faults disk.old) (D.faults disk.new)
+            (I.faults inbox.old) (I.faults inbox.new) (O.faults outbox.old) (O.faults outbox.new) }
+    {
+        faults_end_a_run::<D>();
+        run_goes_on::<D>();
+        if !self.stands(alloc, disk, inbox, outbox, &done)? {
+            return Ok(Committed::Changed);
+        }
+        let entry = self.entries();
+        let moment = self.enter(alloc, disk, inbox, outbox, done)?;
+        Ok(Committed::Acked { entry, moment })
+    }
+
+    // Whether the job of this work still stands: whether the session that comes next at its moment is handed the same.
+    fn stands<D: Disk, I: Inbox, O: Outbox>(
+        &mut self,
+        alloc: Global,
+        disk: &mut D,
+        inbox: &mut I,
+        outbox: &mut O,
+        done: &Done,
+    ) -> Result<bool, EngineError>
+        requires ready { EngineIsReady D.tells D.held D.moment D.images self.old disk.old }
+        requires left { IsTrue I.tells → AreTakeable (I.left inbox.old) self.old.listing.names }
+        requires done { WorkIsDone self.old.flow (kept_by self.old.store).store done.now }
+        ensures so { result ≡ Ok true
+            → StandsSo D.tells I.tells O.tells self.old (content_in (D.held disk.old))
+            (I.left inbox.old) (O.standing outbox.old) done.now }
+        ensures otherwise { result ≡ Ok false
+            → StandsOtherwise D.tells I.tells O.tells self.old (content_in (D.held disk.old))
+            (I.left inbox.old) (O.standing outbox.old) done.now }
+        ensures store { IsReadBy result self.old.store self.new.store }
+        ensures rest { self.new ≡ record self.old { store = self.new.store } }
+        ensures stays { Stays D.held D.moment D.images disk.old disk.new }
+        ensures left { I.left inbox.new ≡ I.left inbox.old }
+        ensures outbox { outgoing O.standing O.puts outbox.new ≡ outgoing O.standing O.puts outbox.old }
+        ensures unlimited { (limit : TheLimit) → IsErrOf result (EngineError.Limit limit) → ⊥ }
+        ensures works { IsErrOf result EngineError.MustReopen → ⊥ }
+        ensures damaged { (damage : TheDamage) → IsErrOf result (EngineError.Damaged damage)
+            → IsReadDamaged self.old.flow D.tells D.held D.moment D.images self.old.store.lot disk.new }
+        ensures cause { CountsEachFault result (D.faults disk.old) (D.faults disk.new)
+            (I.faults inbox.old) (I.faults inbox.new) (O.faults outbox.old) (O.faults outbox.new) }
+    {
+        let moment = done.given.moment;
+        let Some(choice) = self.next_session(alloc, moment)? else {
+            return Ok(false);
+        };
+        let job = self.read_job(alloc, disk, inbox, outbox, moment, choice)?;
+        Ok(is_work_on(done, &job))
+    }
+
+    // Enters a session into the journal whose job stands, and answers the moment of the acknowledgement.
+    fn enter<D: Disk, I: Inbox, O: Outbox>(
+        &mut self,
+        alloc: Global,
+        disk: &mut D,
+        inbox: &mut I,
+        outbox: &mut O,
+        done: Done,
+    ) -> Result<u64, EngineError>
+        requires ready { EngineIsReady D.tells D.held D.moment D.images self.old disk.old }
+        requires works { self.old.failed ≡ false }
+        requires left { IsTrue I.tells → AreTakeable (I.left inbox.old) self.old.listing.names }
+        requires stands { StandsSo D.tells I.tells O.tells self.old
+            (content_in (D.held disk.old)) (I.left inbox.old) (O.standing outbox.old) done }
+        ensures journal { IsEntered result done (D.moment disk.new) self.old self.new }
+        ensures inbox { IsTrue I.tells → IsInboxLeft result done.given.file (I.left inbox.old) (I.left inbox.new) }
+        ensures outbox { IsTrue O.tells → IsOutboxLeft result (sending_of done.outcome.sent done.sources)
+            (outgoing O.standing O.puts outbox.old) (outgoing O.standing O.puts outbox.new) }
+        ensures goes_on { (IsErrOf result EngineError.Disk → ⊥) → self.new.failed ≡ false
+            → (IsErrOf result EngineError.Inbox → ⊥) → IsTrue D.tells → IsTrue I.tells → IsTrue O.tells
+            → (opened : Machine) (first : D) (start : Start) (time : ℕ) → time ≤ done.given.moment
+            → IsRunning D.moment D.images self.old opened first start time disk.old (I.left inbox.old)
+            (outgoing O.standing O.puts outbox.old)
+            → IsRunning D.moment D.images self.new opened first start done.given.moment disk.new (I.left inbox.new)
+            (outgoing O.standing O.puts outbox.new) }
+        ensures stopped { (error : TheError) → IsErrOf result error → IsTrue D.tells → IsTrue I.tells → IsTrue O.tells
+            → (opened : Machine) (first : D) (start : Start) (time : ℕ) → time ≤ done.given.moment
+            → IsRunning D.moment D.images self.old opened first start time disk.old (I.left inbox.old)
+            (outgoing O.standing O.puts outbox.old)
+            → Stops error D.tells D.held D.moment D.images self.new opened first start done.given.moment disk.new
+            (I.left inbox.new) (outgoing O.standing O.puts outbox.new) }
+        ensures ready { (IsErrOf result EngineError.Disk → ⊥)
+            → EngineIsReady D.tells D.held D.moment D.images self.new disk.new }
+        ensures left { IsTrue I.tells → AreTakeable (I.left inbox.new) self.new.listing.names }
+        ensures works { IsErrOf result EngineError.MustReopen → ⊥ }
+        ensures failed { (self.new.failed ≡ true) ↔ IsErrOf result EngineError.Outbox }
+        ensures same { IsOfSameRun self.old self.new }
+        ensures log { self.new.store.log.number ≡ self.old.store.log.number }
+        ensures alone { WritesLog D.moment D.images self.old.store.log.number disk.old disk.new }
+        ensures why { HasCause result self.old.flow D.tells D.held D.moment D.images self.old.store.lot self.old.most
+            self.new.journal self.new.store disk.new }
+        ensures undamaged { (damage : TheDamage) → IsErrOf result (EngineError.Damaged damage) → ⊥ }
+        ensures cause { CountsEachFault result (D.faults disk.old) (D.faults disk.new)
+            (I.faults inbox.old) (I.faults inbox.new) (O.faults outbox.old) (O.faults outbox.new) }
+    {
+        holds_its_state(&self.store, disk);
+        choices_are_sessions();
+        choices_are_seen();
+        taken_files_are_live();
+        what_is_kept_is_seen();
+        run_goes_on::<D>();
+        faults_end_a_run::<D>();
+        let processor = done.processor;
+        let received = received(&done.given)?;
+        let step = step_done(alloc, &done)?;
+        let changed = session_change(alloc, self.flow, &self.store, done)?;
+        if self.entries() >= self.most {
+            return Err(EngineError::Limit(self.journal_limit()));
+        }
+        let moment = self.write(disk, outbox, changed, step)?;
+        self.last = Some(processor);
+        self.since_reclaim = self.since_reclaim.saturating_add(1);
+        remove(&mut self.listing, inbox, processor, &received)?;
+        Ok(moment)
+    }
+
+    // Puts what a session sends, commits its change, and notes the step. It answers the moment of the acknowledgement.
+    // From a put that failed on the store must be opened anew.
+    fn write<D: Disk, O: Outbox>(
+        &mut self,
+        disk: &mut D,
+        outbox: &mut O,
+        changed: Changed,
+        step: Step,
+    ) -> Result<u64, EngineError>
+        requires work { (flow : TheFlow)
+            × IsAtWorkWithQueues flow D.tells D.held D.moment D.images self.old.store self.old.queues disk.old }
+        requires may { MayChange (kept_by self.old.store) changed.settled }
+        requires live { HasLiveContents self.old.store changed.settled }
+        requires digests { IsTrue D.tells → HaveDigests (content_in (D.held disk.old)) changed.settled.placed }
+        requires gone { are_active_in (kept_by self.old.store).files changed.connection changed.settled.gone ≡ true }
+        ensures written { HasWritten result D.tells D.held D.moment D.images O.tells self.old.store self.new.store
+            self.old.queues self.new.queues changed (outgoing O.standing O.puts outbox.old)
+            (outgoing O.standing O.puts outbox.new) disk.old disk.new }
+        ensures journal { self.new.journal ≡ journaled result step self.old.journal }
+        ensures rest { self.new ≡ record self.old {
+          store = self.new.store;
+          queues = self.new.queues;
+          journal = self.new.journal;
+          failed = self.new.failed;
+          tended = self.new.tended;
+        } }
+        ensures failed { (self.new.failed ≡ true) ↔ ((self.old.failed ≡ true) ⊎ IsErrOf result EngineError.Outbox) }
+        ensures tended { (self.new.tended ≡ None) ⊎ (IsErrOf result EngineError.Memory × (self.new ≡ self.old)) }
+        ensures alone { WritesLog D.moment D.images self.old.store.log.number disk.old disk.new }
+        ensures disk_cause { CountsFaults (D.faults disk.old) (D.faults disk.new) (IsErrOf result EngineError.Disk) }
+        ensures outbox_cause { CountsFaults (O.faults outbox.old) (O.faults outbox.new)
+            (IsErrOf result EngineError.Outbox) }
+    {
+        self.journal.reserve(1)?;
+        self.tended = None;
+        let connection = changed.connection;
+        let written = commit(
+            &mut self.store,
+            &mut self.queues,
+            disk,
+            outbox,
+            connection,
+            changed,
+        );
+        note(&mut self.journal, step, &written);
+        if let Err(EngineError::Outbox) = &written {
+            self.has_failed = true;
+        }
+        written
+    }
+}
+
+// The name of the file that a session received.
+fn received(given: &Given) -> Result<Option<Name>, AllocError>
+    ensures { IfOk result (λ name. name ≡ given.now.file) }
+{
+    match &given.file {
+        Some(name) => Ok(Some(name.clone()?)),
+        None => Ok(None),
+    }
+}

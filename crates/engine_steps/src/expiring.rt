@@ -1,0 +1,219 @@
+//! Files expire.
+ghost use Rattle.content_repo.specs.Slots.{IsReclaimed};
+ghost use Rattle.content_repo.specs.declared.reclaim.Reclaimed.{Reclaimed as TheCount};
+ghost use Rattle.flowfile_record.specs.Encoding.{IsNumber};
+ghost use Rattle.machine_model.specs.declared.flow.Flow.{Flow as TheFlow};
+ghost use Rattle.machine_model.specs.declared.journal.TheConstants.{RECLAIM_ENTRIES};
+ghost use Rattle.run_law.specs.Going.{IsSpared};
+ghost use Rattle.engine_steps.specs.Errors.{RefusesToTend};
+ghost use Rattle.std.specs.Prelude.{◌≡◌, ◌⊎◌, ℕ, ◌+◌, ◌-◌, ◌^◌, ◌<◌, ◌≤◌, nat_le, true, false, List, Option, Some, None, Ok, is_some, IfOk, OnOk, IfErr, IsErrOf, IsTrue};
+ghost use Rattle.disk_trait.specs.Faults.{CountsFaults};
+ghost use Rattle.flowfile_record.specs.NamedFile.{NamedFile};
+ghost use Rattle.flowfile_wal.specs.Calls.{InEach};
+ghost use Rattle.kept_state.specs.declared.limit.Limit.{Limit as TheLimit};
+ghost use Rattle.machine_model.specs.declared.journal.Step.TheVariants.{Expire};
+ghost use Rattle.machine_model.specs.Due.{due_expiry};
+ghost use Rattle.machine_model.specs.Sound.{IsSound};
+ghost use Rattle.machine_model.specs.State.{Machine};
+ghost use Rattle.store_core.specs.Change.{HasLiveContents, MayExpire};
+ghost use Rattle.store_core.specs.Flow.{flow_in};
+ghost use Rattle.store_core.specs.Store.{kept_by};
+ghost use Rattle.engine_change.specs.Committing.{identity_of};
+ghost use Rattle.engine_change.specs.Expiring.{MayExpireIn};
+ghost use Rattle.engine_queues.specs.Queues.{AreQueuesOf, queue_seen};
+ghost use Rattle.engine_queues.specs.Views.{kept_queues};
+ghost use Rattle.run_law.specs.Ending.{journal_full};
+ghost use Rattle.run_law.specs.Run.{IsAtStoreLimit, StandsFor};
+ghost use Rattle.engine_steps.specs.Engine.{IsOfSameRun};
+ghost use Rattle.engine_steps.specs.Errors.{IsJournalFull};
+ghost use Rattle.engine_steps.specs.Ready.{EngineIsReady, IsUsable, due_behind, due_in, is_log_due};
+ghost use Rattle.engine_steps.specs.Running.{IsRunning, Stops, TendsRun};
+ghost use Rattle.engine_steps.specs.Tending.{GoesTo, HasExpired, HasTended, IsCheckpointed, IsCutOff, StepIsDone, MakesExpiry, TendsAlone, TendsFirst, counted_on};
+ghost use Rattle.run_law.specs.Work.{IsAtWork, IsNoEarlier, IsRefused, IsShortOn, WritesLog};
+ghost use Rattle.engine_steps.specs.declared.error.EngineError.{EngineError as TheError};
+ghost use Rattle.run_law.specs.Puts.{Outgoing, Start};
+
+use crate::EngineError;
+use crate::engine::Engine;
+use crate::journal::note;
+use crate::memory::holds_its_state;
+use disk_trait::Disk;
+use engine_change::{due_expiries_may_expire, expire_files, held_contents_are_read};
+use engine_queues::{Expiry, Queues, what_is_kept_is_seen};
+use flowfile_record::Numbers;
+use machine_model::{Flow, Step};
+use run_law::{faults_end_a_run, run_goes_on, worlds_follow_steps};
+use std::alloc::{AllocError, Global};
+use store_core::{SettledExpiry, Store};
+
+impl Engine<'_> {
+    // Lets the expired files of the first connection that has some go, and answers whether there were any.
+    pub(crate) fn expire_due<D: Disk>(
+        &mut self,
+        alloc: Global,
+        disk: &mut D,
+        moment: u64,
+    ) -> Result<bool, EngineError>
+        requires ready { EngineIsReady D.tells D.held D.moment D.images self.old disk.old }
+        ensures due { IfOk result (λ done.
+            done ≡ is_some (due_expiry self.old.flow (queue_seen self.old.queues) moment)) }
+        ensures wanted { (limit : TheLimit) → IsErrOf result (EngineError.Limit limit)
+            → is_some (due_expiry self.old.flow (queue_seen self.old.queues) moment) ≡ true }
+        ensures goes_on { (IsErrOf result EngineError.Disk → ⊥) → IsTrue D.tells → (opened : Machine) (first : D)
+            (start : Start) (time : ℕ) (left : List NamedFile) (out : Outgoing) → time ≤ moment
+            → IsRunning D.moment D.images self.old opened first start time disk.old left out
+            → IsRunning D.moment D.images self.new opened first start moment disk.new left out }
+        ensures idle { (IsErrOf result EngineError.Disk → ⊥) → (result ≡ Ok true → ⊥) → IsTrue D.tells
+            → (opened : Machine) (first : D) (start : Start) (time : ℕ) (left : List NamedFile)
+            (out : Outgoing)
+            → IsRunning D.moment D.images self.old opened first start time disk.old left out
+            → IsRunning D.moment D.images self.new opened first start time disk.new left out }
+        ensures stopped { (error : TheError) → IsErrOf result error → IsTrue D.tells → (opened : Machine) (first : D)
+            (start : Start) (time : ℕ) (left : List NamedFile) (out : Outgoing) → time ≤ moment
+            → IsRunning D.moment D.images self.old opened first start time disk.old left out
+            → Stops error D.tells D.held D.moment D.images self.new opened first start moment disk.new left out }
+        ensures expired { result ≡ Ok true → HasExpired moment (Some (D.moment disk.new)) self.old self.new
+            × (self.new.since_reclaim ≡ counted_on self.old.since_reclaim) }
+        ensures cut_off { IsErrOf result EngineError.Disk → HasExpired moment None self.old self.new }
+        ensures kept { (error : TheError) → IsErrOf result error → (error ≡ EngineError.Disk → ⊥)
+            → (self.new.journal ≡ self.old.journal) × (kept_by self.new.store ≡ kept_by self.old.store) }
+        ensures since { (error : TheError) → IsErrOf result error → self.new.since_reclaim ≡ self.old.since_reclaim }
+        ensures none { result ≡ Ok false → (self.new ≡ self.old) × (disk.new ≡ disk.old) }
+        ensures ready { (IsErrOf result EngineError.Disk → ⊥)
+            → EngineIsReady D.tells D.held D.moment D.images self.new disk.new }
+        ensures names { (self.new.listing ≡ self.old.listing) × (self.new.last ≡ self.old.last)
+            × (self.new.failed ≡ self.old.failed) }
+        ensures same { IsOfSameRun self.old self.new }
+        ensures log { self.new.store.log.number ≡ self.old.store.log.number }
+        ensures alone { WritesLog D.moment D.images self.old.store.log.number disk.old disk.new }
+        ensures refused { (limit : TheLimit) → IsErrOf result (EngineError.Limit limit)
+            → IsRefused self.old.flow D.tells D.held D.moment D.images limit self.new.store disk.new
+            ⊎ (IsJournalFull limit self.old.most self.new.journal
+            × IsAtWork self.old.flow D.tells D.held D.moment D.images self.new.store disk.new) }
+        ensures kinds { IfErr result (λ error. (error ≡ EngineError.Disk) ⊎ (error ≡ EngineError.Memory)
+            ⊎ ((limit : TheLimit) × (error ≡ EngineError.Limit limit))) }
+        ensures cause { CountsFaults (D.faults disk.old) (D.faults disk.new) (IsErrOf result EngineError.Disk) }
+    {
+        holds_its_state(&self.store, disk);
+        what_is_kept_is_seen();
+        due_expiries_may_expire();
+        worlds_follow_steps();
+        run_goes_on::<D>();
+        faults_end_a_run::<D>();
+        let Some(expiry) = self.queues.due_expiry(alloc, moment)? else {
+            return Ok(false);
+        };
+        if self.entries() >= self.most {
+            return Err(EngineError::Limit(self.journal_limit()));
+        }
+        let step = expiry_step(alloc, moment, &expiry)?;
+        self.journal.reserve(1)?;
+        self.tended = None;
+        let expired = expire(
+            alloc,
+            self.flow,
+            &mut self.store,
+            &mut self.queues,
+            disk,
+            moment,
+            expiry,
+        );
+        note(&mut self.journal, step, &expired);
+        expired?;
+        self.since_reclaim = self.since_reclaim.saturating_add(1);
+        Ok(true)
+    }
+}
+
+// The step by which files expire.
+fn expiry_step(alloc: Global, moment: u64, expiry: &Expiry) -> Result<Step, AllocError>
+    ensures { IfOk result (λ one. one ≡ Expire expiry.now.connection expiry.now.numbers moment) }
+{
+    Ok(Step::Expire {
+        connection: expiry.connection,
+        numbers: Numbers::from_slice(alloc, expiry.numbers.as_slice())?,
+        moment,
+    })
+}
+
+// Lets expired files go, which are due, and answers the moment of the acknowledgement. All memory is taken before the
+// commit.
+fn expire<D: Disk>(
+    alloc: Global,
+    flow: &Flow,
+    store: &mut Store,
+    queues: &mut Queues,
+    disk: &mut D,
+    moment: u64,
+    expiry: Expiry,
+) -> Result<u64, EngineError>
+    requires sound { IsSound flow.now }
+    requires work { IsAtWork flow.now D.tells D.held D.moment D.images store.old disk.old }
+    requires queues { AreQueuesOf flow.now (kept_by store.old) queues.old }
+    requires due { due_expiry flow.now (queue_seen queues.old) moment ≡ Some (expiry.connection, expiry.numbers) }
+    ensures done { OnOk result (IsTrue D.tells → (before : Machine)
+        → InEach (D.images disk.old (D.moment disk.old)) (StandsFor flow.now store.old.lot before)
+        → StepIsDone flow.now D.moment D.images store.old.lot before (Expire expiry.connection expiry.numbers moment)
+        disk.old disk.new) }
+    ensures cut_off { IsErrOf result EngineError.Disk → IsTrue D.tells → (before : Machine)
+        → InEach (D.images disk.old (D.moment disk.old)) (StandsFor flow.now store.old.lot before)
+        → IsCutOff flow.now D.moment D.images store.old.lot before (Expire expiry.connection expiry.numbers moment)
+        disk.old disk.new }
+    ensures limited { (limit : TheLimit) → IsErrOf result (EngineError.Limit limit) → IsTrue D.tells
+        → (before : Machine)
+        → InEach (D.images disk.old (D.moment disk.old)) (StandsFor flow.now store.old.lot before)
+        → GoesTo flow.now before (Expire expiry.connection expiry.numbers moment) (λ after.
+        StandsFor flow.now store.old.lot before (D.held disk.old)
+        × IsAtStoreLimit D.tells D.held D.moment D.images limit before after disk.old) }
+    // Any error but the disk's comes before the commit.
+    ensures unwritten { (error : TheError) → IsErrOf result error → (error ≡ EngineError.Disk → ⊥)
+        → (disk.new ≡ disk.old) × (store.new ≡ store.old) × (queues.new ≡ queues.old) }
+    ensures moment { IfOk result (λ moment. moment ≡ D.moment disk.new) }
+    ensures work { OnOk result (IsAtWork flow.now D.tells D.held D.moment D.images store.new disk.new) }
+    ensures queues { OnOk result (AreQueuesOf flow.now (kept_by store.new) queues.new) }
+    ensures same { (store.new.lot ≡ store.old.lot) × (store.new.log.number ≡ store.old.log.number) }
+    ensures alone { WritesLog D.moment D.images store.old.log.number disk.old disk.new }
+    ensures refused { (limit : TheLimit) → IsErrOf result (EngineError.Limit limit)
+        → IsRefused flow.now D.tells D.held D.moment D.images limit store.new disk.new }
+    ensures kinds { IfErr result (λ error. (error ≡ EngineError.Disk) ⊎ (error ≡ EngineError.Memory)
+        ⊎ ((limit : TheLimit) × (error ≡ EngineError.Limit limit))) }
+    ensures cause { CountsFaults (D.faults disk.old) (D.faults disk.new) (IsErrOf result EngineError.Disk) }
+{
+    holds_its_state(store, disk);
+    held_contents_are_read();
+    what_is_kept_is_seen();
+    let expiry = settle_expiry(alloc, flow, store, moment, expiry)?;
+    let prepared = store.prepare_expiry(&expiry)?;
+    let moment = store.commit(disk, prepared)?;
+    queues.expire(expiry.connection, expiry.settled.gone.as_slice());
+    Ok(moment)
+}
+
+// What expired files change that are due: the machine has a step for it.
+fn settle_expiry(
+    alloc: Global,
+    flow: &Flow,
+    store: &Store,
+    moment: u64,
+    expiry: Expiry,
+) -> Result<SettledExpiry, AllocError>
+    requires sound { IsSound flow.now }
+    requires identity { flow_in (kept_by store.now) ≡ identity_of flow.now }
+    requires due { due_expiry flow.now (kept_queues (kept_by store.now)) moment
+        ≡ Some (expiry.connection, expiry.numbers) }
+    ensures may { IfOk result (MayExpire (kept_by store.now)) }
+    ensures live { IfOk result (λ settled. HasLiveContents store.now settled.settled) }
+    ensures there { IfOk result (λ settled.
+        MayExpireIn flow.now (kept_by store.now) settled.connection settled.settled.gone) }
+    ensures step { IfOk result (λ settled.
+        MakesExpiry flow.now (kept_by store.now) expiry.connection expiry.numbers moment settled.settled) }
+{
+    what_is_kept_is_seen();
+    due_expiries_may_expire();
+    let _stored = store.state();
+    let Expiry {
+        connection,
+        numbers,
+    } = expiry;
+    expire_files(alloc, flow, store, moment, connection, numbers)
+}

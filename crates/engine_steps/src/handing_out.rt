@@ -1,0 +1,300 @@
+//! The job of a session is handed out: files of a queue with their contents, a file of the inbox, or an index.
+ghost use Rattle.std.specs.Prelude.{◌≡◌, ◌⊎◌, ◌≤◌, Bool, false, length, List, Option, Some, None, is_some, IfOk, IfErr, IsErrOf, IsTrue, slice_get, []};
+ghost use Rattle.std.specs.Option.{option_map_or};
+ghost use Rattle.disk_trait.specs.Faults.{CountsFaults};
+ghost use Rattle.disk_trait.specs.Images.{Stays};
+ghost use Rattle.disk_trait.specs.declared.damage.Damage.{Damage as TheDamage};
+ghost use Rattle.flowfile_record.specs.NamedFile.{NamedFile, bytes_of};
+ghost use Rattle.flowfile_record.specs.declared.TheConstants.{CONTENT_MAX};
+ghost use Rattle.content_repo.specs.Claims.{content_in};
+ghost use Rattle.engine_choice.specs.declared.choice.Taking.TheVariants.{Files, Generate, Receive};
+ghost use Rattle.kept_state.specs.declared.limit.Limit.{Limit as TheLimit};
+ghost use Rattle.machine_model.specs.Acting.{name_in};
+ghost use Rattle.machine_model.specs.declared.flow.Flow.{Flow as TheFlow};
+ghost use Rattle.store_core.specs.Store.{kept_by};
+ghost use Rattle.engine_steps.specs.Checkout.{session_in};
+ghost use Rattle.engine_session.specs.Done.{MayWorkOn};
+ghost use Rattle.engine_steps.specs.Engine.{AreTakeable};
+ghost use Rattle.engine_steps.specs.Errors.{CountsEachFault, IsReadBy, OnlyReads, EngineRefusesToRead};
+ghost use Rattle.engine_steps.specs.Handing.{JobIsHanded, IsHandedAs, MayBeReceived, MayBeTaken};
+ghost use Rattle.engine_steps.specs.NextJob.{IsNextJob};
+ghost use Rattle.engine_steps.specs.Ready.{EngineIsReady, IsUsableWith};
+ghost use Rattle.run_law.specs.Work.{IsAtWork, IsReadDamaged};
+ghost use Rattle.run_law.specs.Puts.{outgoing};
+
+use crate::EngineError;
+use crate::engine::Engine;
+use crate::memory::holds_its_state;
+use crate::reading::read_contents;
+use disk_trait::Disk;
+use engine_choice::{Choice, Taking};
+use engine_queues::what_is_kept_is_seen;
+use engine_session::{Job, ReadList, live_files, taken_files_are_handed};
+use flowfile_record::{Attributes, Bytes, FileList, FlowFile, NameError, Numbers};
+use machine_model::Given;
+use std::alloc::Global;
+use store_core::Store;
+use world_io::{Inbox, Name, Outbox};
+
+impl Engine<'_> {
+    /// Reads the job of a session that comes next: the contents of the files that it takes, or the file of the inbox,
+    /// and whether the outbox has the file's name. Nothing is written.
+    pub fn read<D: Disk, I: Inbox, O: Outbox>(
+        &mut self,
+        alloc: Global,
+        disk: &mut D,
+        inbox: &mut I,
+        outbox: &mut O,
+        moment: u64,
+        choice: Choice,
+    ) -> Result<Job, EngineError>
+        requires usable { IsUsableWith D.tells D.held D.moment D.images I.tells (I.left inbox.old) self.old disk.old }
+        requires chosen { session_in self.old moment ≡ Some choice }
+        ensures job { IfOk result (λ job. IsNextJob D.tells I.tells O.tells self.old
+            (content_in (D.held disk.old)) (I.left inbox.old) (O.standing outbox.old) moment job
+            × MayWorkOn self.old.flow (kept_by self.old.store).store job) }
+        ensures engine { OnlyReads result self.old self.new }
+        ensures world { Stays D.held D.moment D.images disk.old disk.new × (I.left inbox.new ≡ I.left inbox.old)
+            × (outgoing O.standing O.puts outbox.new ≡ outgoing O.standing O.puts outbox.old) }
+        ensures usable { IsUsableWith D.tells D.held D.moment D.images I.tells (I.left inbox.new) self.new disk.new }
+        ensures refusal { EngineRefusesToRead result D.tells D.held D.moment D.images D.faults I.faults O.faults
+            self.old self.new disk.old disk.new inbox.old inbox.new outbox.old outbox.new }
+    {
+        if self.has_failed {
+            return Err(EngineError::MustReopen);
+        }
+        let job = self.read_job(alloc, disk, inbox, outbox, moment, choice);
+        if let Err(EngineError::Disk) = &job {
+            self.has_failed = true;
+        }
+        job
+    }
+
+    // Reads the job, by a store that works.
+    pub(crate) fn read_job<D: Disk, I: Inbox, O: Outbox>(
+        &mut self,
+        alloc: Global,
+        disk: &mut D,
+        inbox: &mut I,
+        outbox: &mut O,
+        moment: u64,
+        choice: Choice,
+    ) -> Result<Job, EngineError>
+        requires ready { EngineIsReady D.tells D.held D.moment D.images self.old disk.old }
+        requires chosen { session_in self.old moment ≡ Some choice }
+        requires left { IsTrue I.tells → AreTakeable (I.left inbox.old) self.old.listing.names }
+        ensures job { IfOk result (IsNextJob D.tells I.tells O.tells self.old
+            (content_in (D.held disk.old)) (I.left inbox.old) (O.standing outbox.old) moment) }
+        ensures may { IfOk result (MayWorkOn self.old.flow (kept_by self.old.store).store) }
+        ensures store { IsReadBy result self.old.store self.new.store }
+        ensures rest { self.new ≡ record self.old { store = self.new.store } }
+        ensures stays { Stays D.held D.moment D.images disk.old disk.new }
+        ensures left { I.left inbox.new ≡ I.left inbox.old }
+        ensures outbox { outgoing O.standing O.puts outbox.new ≡ outgoing O.standing O.puts outbox.old }
+        ensures unlimited { (limit : TheLimit) → IsErrOf result (EngineError.Limit limit) → ⊥ }
+        ensures works { IsErrOf result EngineError.MustReopen → ⊥ }
+        ensures damaged { (damage : TheDamage) → IsErrOf result (EngineError.Damaged damage)
+            → IsReadDamaged self.old.flow D.tells D.held D.moment D.images self.old.store.lot disk.new }
+        ensures cause { CountsEachFault result (D.faults disk.old) (D.faults disk.new)
+            (I.faults inbox.old) (I.faults inbox.new) (O.faults outbox.old) (O.faults outbox.new) }
+    {
+        holds_its_state(&self.store, disk);
+        what_is_kept_is_seen();
+        taken_files_are_handed();
+        hand(alloc, &mut self.store, disk, inbox, outbox, moment, choice)
+    }
+}
+
+// What the session that was chosen is handed.
+fn hand<D: Disk, I: Inbox, O: Outbox>(
+    alloc: Global,
+    store: &mut Store,
+    disk: &mut D,
+    inbox: &mut I,
+    outbox: &mut O,
+    moment: u64,
+    choice: Choice,
+) -> Result<Job, EngineError>
+    requires work { (flow : TheFlow) × IsAtWork flow D.tells D.held D.moment D.images store.old disk.old }
+    requires taken { MayBeTaken (kept_by store.old) choice.taking }
+    requires received { IsTrue I.tells → MayBeReceived (I.left inbox.old) choice.taking }
+    ensures handed { IfOk result (JobIsHanded (kept_by store.old) moment choice) }
+    ensures told { IfOk result (IsHandedAs D.tells I.tells O.tells (kept_by store.old) (content_in (D.held disk.old))
+        (I.left inbox.old) (O.standing outbox.old) choice) }
+    ensures store { IsReadBy result store.old store.new }
+    ensures stays { Stays D.held D.moment D.images disk.old disk.new }
+    ensures left { I.left inbox.new ≡ I.left inbox.old }
+    ensures outbox { outgoing O.standing O.puts outbox.new ≡ outgoing O.standing O.puts outbox.old }
+    ensures unlimited { (limit : TheLimit) → IsErrOf result (EngineError.Limit limit) → ⊥ }
+    ensures works { IsErrOf result EngineError.MustReopen → ⊥ }
+    ensures damaged { (damage : TheDamage) → IsErrOf result (EngineError.Damaged damage) → (flow : TheFlow)
+        → IsAtWork flow D.tells D.held D.moment D.images store.old disk.old
+        → IsReadDamaged flow D.tells D.held D.moment D.images store.old.lot disk.new }
+    ensures cause { CountsEachFault result (D.faults disk.old) (D.faults disk.new)
+        (I.faults inbox.old) (I.faults inbox.new) (O.faults outbox.old) (O.faults outbox.new) }
+{
+    let Choice { processor, taking } = choice;
+    match taking {
+        Taking::Files {
+            connection,
+            numbers,
+        } => hand_files(
+            alloc, store, disk, outbox, moment, processor, connection, numbers,
+        ),
+        Taking::Generate { index } => Ok(without_files(
+            alloc,
+            processor,
+            Given {
+                moment,
+                index,
+                there: false,
+                file: None,
+                bytes: None,
+            },
+        )),
+        Taking::Receive { name } => {
+            let bytes = receive(alloc, inbox, &name)?;
+            Ok(without_files(
+                alloc,
+                processor,
+                Given {
+                    moment,
+                    index: 0,
+                    there: false,
+                    file: Some(name),
+                    bytes: Some(bytes),
+                },
+            ))
+        }
+    }
+}
+
+// The job of a session that takes no files.
+fn without_files(alloc: Global, processor: u16, given: Given) -> Job
+    ensures { result ≡ record {
+      processor = processor;
+      connection = 0;
+      numbers = [];
+      files = [];
+      contents = [];
+      given = given;
+    } }
+{
+    Job {
+        processor,
+        connection: 0,
+        numbers: Numbers::new(alloc),
+        files: FileList::new(alloc),
+        contents: ReadList::new(alloc),
+        given,
+    }
+}
+
+// The bytes of a file of the inbox.
+fn receive<I: Inbox>(alloc: Global, inbox: &mut I, name: &Name) -> Result<Bytes, EngineError>
+    requires { IsTrue I.tells → MayBeReceived (I.left inbox.old) (Receive name.now) }
+    ensures bytes { IfOk result (λ bytes. IsTrue I.tells → bytes_of (I.left inbox.old) name.now ≡ Some bytes) }
+    ensures most { IfOk result (λ bytes. length bytes ≤ CONTENT_MAX) }
+    ensures left { I.left inbox.new ≡ I.left inbox.old }
+    ensures kinds { IfErr result (λ error. (error ≡ EngineError.Inbox) ⊎ (error ≡ EngineError.Memory)) }
+    ensures cause { CountsFaults (I.faults inbox.old) (I.faults inbox.new) (IsErrOf result EngineError.Inbox) }
+{
+    let mut bytes = Vec::new(alloc);
+    inbox.read(name, &mut bytes)?;
+    Ok(Bytes::from(bytes))
+}
+
+// The job of a session that takes these files of a connection.
+fn hand_files<D: Disk, O: Outbox>(
+    alloc: Global,
+    store: &mut Store,
+    disk: &mut D,
+    outbox: &mut O,
+    moment: u64,
+    processor: u16,
+    connection: u16,
+    numbers: Numbers,
+) -> Result<Job, EngineError>
+    requires work { (flow : TheFlow) × IsAtWork flow D.tells D.held D.moment D.images store.old disk.old }
+    requires taken { MayBeTaken (kept_by store.old) (Files connection numbers) }
+    ensures handed { IfOk result (JobIsHanded (kept_by store.old) moment
+        (record { processor = processor; taking = Files connection numbers })) }
+    ensures told { IfOk result (λ job. (in_tells : Bool) (left : List NamedFile)
+        → IsHandedAs D.tells in_tells O.tells (kept_by store.old) (content_in (D.held disk.old)) left
+        (O.standing outbox.old) (record { processor = processor; taking = Files connection numbers }) job) }
+    ensures store { IsReadBy result store.old store.new }
+    ensures stays { Stays D.held D.moment D.images disk.old disk.new }
+    ensures outbox { outgoing O.standing O.puts outbox.new ≡ outgoing O.standing O.puts outbox.old }
+    ensures kinds { IfErr result (λ error. (error ≡ EngineError.Disk) ⊎ (error ≡ EngineError.Memory)
+        ⊎ (error ≡ EngineError.Outbox) ⊎ ((damage : TheDamage) × (error ≡ EngineError.Damaged damage))) }
+    ensures damaged { (damage : TheDamage) → IsErrOf result (EngineError.Damaged damage) → (flow : TheFlow)
+        → IsAtWork flow D.tells D.held D.moment D.images store.old disk.old
+        → IsReadDamaged flow D.tells D.held D.moment D.images store.old.lot disk.new }
+    ensures disk_cause { CountsFaults (D.faults disk.old) (D.faults disk.new) (IsErrOf result EngineError.Disk) }
+    ensures outbox_cause { CountsFaults (O.faults outbox.old) (O.faults outbox.new)
+        (IsErrOf result EngineError.Outbox) }
+{
+    let files = live_files(alloc, store, numbers.as_slice())?;
+    let contents = read_contents(alloc, store, disk, files.as_slice())?;
+    let there = is_there(alloc, outbox, files.as_slice())?;
+    let given = Given {
+        moment,
+        index: 0,
+        there,
+        file: None,
+        bytes: None,
+    };
+    Ok(Job {
+        processor,
+        connection,
+        numbers,
+        files,
+        contents,
+        given,
+    })
+}
+
+// Whether the outbox has what the first file is named.
+fn is_there<O: Outbox>(
+    alloc: Global,
+    outbox: &mut O,
+    files: &[FlowFile],
+) -> Result<bool, EngineError>
+    ensures there { IfOk result (λ there. IsTrue O.tells → there ≡ option_map_or (λ file.
+        option_map_or (λ name. is_some (O.standing outbox.old name)) (name_in file.attributes) false)
+        (slice_get files.now 0) false) }
+    ensures outbox { outgoing O.standing O.puts outbox.new ≡ outgoing O.standing O.puts outbox.old }
+    ensures kinds { IfErr result (λ error. (error ≡ EngineError.Outbox) ⊎ (error ≡ EngineError.Memory)) }
+    ensures cause { CountsFaults (O.faults outbox.old) (O.faults outbox.new) (IsErrOf result EngineError.Outbox) }
+{
+    match files.first() {
+        Some(file) => has_file(alloc, outbox, &file.attributes),
+        None => Ok(false),
+    }
+}
+
+// Whether the outbox has what a file is named.
+fn has_file<O: Outbox>(
+    alloc: Global,
+    outbox: &mut O,
+    attributes: &Attributes,
+) -> Result<bool, EngineError>
+    ensures there { IfOk result (λ there. IsTrue O.tells
+        → there ≡ option_map_or (λ name. is_some (O.standing outbox.old name)) (name_in attributes.now) false) }
+    ensures outbox { outgoing O.standing O.puts outbox.new ≡ outgoing O.standing O.puts outbox.old }
+    ensures kinds { IfErr result (λ error. (error ≡ EngineError.Outbox) ⊎ (error ≡ EngineError.Memory)) }
+    ensures cause { CountsFaults (O.faults outbox.old) (O.faults outbox.new) (IsErrOf result EngineError.Outbox) }
+{
+    let Some(name) = attributes.get("filename") else {
+        return Ok(false);
+    };
+    let name = match Name::read(alloc, name) {
+        Ok(name) => name,
+        Err(NameError::BadName) => return Ok(false),
+        Err(NameError::Memory) => return Err(EngineError::Memory),
+    };
+    let Ok(there) = outbox.holds(&name) else {
+        return Err(EngineError::Outbox);
+    };
+    Ok(there)
+}

@@ -1,5 +1,0 @@
-use Rattle.std.proofs.Common.{◌≡◌, take, map}
-use Rattle.flow_engine.proofs.done.are_same_contents.Given as goal
-
-abbrev pub invariant-loop-place : goal.invariant-loop-place
-invariant-loop-place l = take l.place (map (λ source. source.bytes) l.sources) ≡ take l.place l.contents

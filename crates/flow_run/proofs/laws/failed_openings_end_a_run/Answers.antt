@@ -1,5 +1,0 @@
-use Rattle.flow_run.proofs.Begins.{failed_opening}
-use Rattle.flow_run.proofs.laws.failed_openings_end_a_run.Goals as goal
-
-pub returns : goal.returns
-returns g c = failed_opening g.D.Disk.moment g.D.Disk.images g.D.Disk.tells g.D.Disk.held

@@ -1,0 +1,70 @@
+-- How a turn ends, and that an end is the machine's.
+use Rattle.std.proofs.Common.{◌≡◌, ℕ, List, sym, ◌∙◌, ap, subst}
+use Rattle.std.specs.Prelude.{Option, None, Some}
+use Rattle.disk_trait.specs.Files.{Files}
+use Rattle.flowfile_record.specs.NamedFile.{NamedFile}
+use Rattle.machine_model.specs.Files.{queues_of}
+use Rattle.machine_model.specs.State.{Machine}
+use Rattle.engine_choice.specs.Choice.{coming_of, ending_of, next_choice}
+use Rattle.engine_choice.specs.Laws.{EndsAreMachineEnds, IsEndAt, IsMachineEnd}
+use Rattle.engine_choice.specs.declared.choice.Ending.{Ending}
+use Rattle.engine_choice.specs.declared.choice.Ending.TheVariants.{Blocked, Quiet, Rest}
+use Rattle.engine_queues.specs.Laws.{SeesTheSame}
+use Rattle.engine_queues.specs.Queues.{queue_seen}
+use Rattle.store_core.specs.Store.{kept_by}
+use Rattle.engine_steps.specs.Checkout.{choice_in, ending_in}
+use Rattle.flow_scheduler.specs.Driving.{IsEnded, IsTurned}
+use Rattle.engine_steps.specs.Engine.{EngineState}
+use Rattle.engine_steps.specs.Running.{IsRunning}
+use Rattle.engine_steps.specs.Ready.{due_in}
+use Rattle.run_law.specs.Puts.{Outgoing, Start}
+use Rattle.engine_steps.proofs.Ending.{none_expired}
+
+-- ---- the end is the machine's
+
+module _ (law : EndsAreMachineEnds) {D : Type 0} (moment : D → ℕ) (images : D → ℕ → Files → Type 0) (e : EngineState) (opened : Machine) (first now : D) (left : List NamedFile) (out : Outgoing)
+    (start : Start) (time : ℕ) (run : IsRunning moment images e opened first start time now left out) (seen : SeesTheSame e.flow (queue_seen e.queues) (queues_of run.reached.state)) (counts : (kept_by e.store).counts ≡ run.reached.state.counts)
+    (due : due_in e time ≡ None) where
+  machine_end : choice_in e time ≡ None → IsMachineEnd e.flow run.reached.state run.reached.world time (ending_in e time)
+  machine_end none =
+      let choice_of_counts = λ (made : List ℕ). next_choice e.flow (queue_seen e.queues) made (coming_of run.reached.world) time e.last in
+      let choice_of_names = λ (names : List (List ℕ)). next_choice e.flow (queue_seen e.queues) (kept_by e.store).counts names time e.last in
+      let end_of_counts = λ (made : List ℕ). ending_of e.flow (queue_seen e.queues) made (coming_of run.reached.world) time in
+      let end_of_names = λ (names : List (List ℕ)). ending_of e.flow (queue_seen e.queues) (kept_by e.store).counts names time in
+      let is : IsMachineEnd e.flow run.reached.state run.reached.world time (end_of_counts run.reached.state.counts) =
+      law e.flow (queue_seen e.queues) run.reached.state run.reached.world time e.last seen (none_expired e time due) (ap choice_of_counts (sym counts) ∙ ap choice_of_names run.to.coming ∙ none) in
+      subst (IsMachineEnd e.flow run.reached.state run.reached.world time) (ap end_of_counts (sym counts) ∙ ap end_of_names run.to.coming) is
+
+  ended : (ending : Ending) → IsEndAt e.flow run.reached.state run.reached.world time ending → IsEnded moment images e opened first start time now left out ending
+  ended ending ends = record {
+    reached = run.reached;
+    to = run.to;
+    ends = ends;
+  }
+
+  pub turned_at_end : (ending : Ending) → ending ≡ ending_in e time → choice_in e time ≡ None → IsTurned moment images e opened first start time now left out (Some ending)
+  turned_at_end (Rest until) is none = run
+  turned_at_end (Blocked connection) is none = ended (Blocked connection) (((machine_end none).is_blocked connection).0 (sym is))
+  turned_at_end Quiet is none = ended Quiet ((machine_end none).is_quiet.0 (sym is))
+
+-- ---- what a turn answered
+
+module _ {D : Type 0} (moment : D → ℕ) (images : D → ℕ → Files → Type 0) (e : EngineState) (opened : Machine) (first now : D) (start : Start) (left : List NamedFile) (out : Outgoing) (time : ℕ) (answer : Option Ending)
+    (turned : IsTurned moment images e opened first start time now left out answer) where
+  -- it went on, or it rests
+  pub went_on : answer ≡ None → IsRunning moment images e opened first start time now left out
+  went_on is = subst (λ (a : Option Ending). IsTurned moment images e opened first start time now left out a) is turned
+
+  pub rests : (until : ℕ) → answer ≡ Some (Rest until) → IsRunning moment images e opened first start time now left out
+  rests until is = subst (λ (a : Option Ending). IsTurned moment images e opened first start time now left out a) is turned
+
+  -- it ended, by a clock that tells this moment
+  pub ends_blocked : (connection later : ℕ) → answer ≡ Some (Blocked connection) → time ≡ later → IsEnded moment images e opened first start later now left out (Blocked connection)
+  ends_blocked connection later is same =
+      subst (λ (t : ℕ). IsEnded moment images e opened first start t now left out (Blocked connection)) same
+      (subst (λ (a : Option Ending). IsTurned moment images e opened first start time now left out a) is turned)
+
+  pub ends_quiet : (later : ℕ) → answer ≡ Some Quiet → time ≡ later → IsEnded moment images e opened first start later now left out Quiet
+  ends_quiet later is same =
+      subst (λ (t : ℕ). IsEnded moment images e opened first start t now left out Quiet) same
+      (subst (λ (a : Option Ending). IsTurned moment images e opened first start time now left out a) is turned)

@@ -1,0 +1,7 @@
+mod Closing
+mod Counted
+mod Ending
+mod Growing
+mod Shown
+mod Turning
+mod Writes

@@ -1,0 +1,160 @@
+-- What holds from turn to turn of an engine, and how a turn stops.
+use Rattle.std.proofs.Common.{◌≡◌, ◌⊎◌, inl, inr, ℕ, ◌≤◌, Bool, true, false, true≢false, List, length, refl, sym, ◌∙◌, ap, subst, arith}
+use Rattle.std.specs.Prelude.{Option, Ok, Result, IsErrOf}
+use Rattle.disk_trait.specs.Faults.{CountsFaults}
+use Rattle.disk_trait.specs.Files.{Files}
+use Rattle.flowfile_record.specs.NamedFile.{NamedFile}
+use Rattle.flowfile_record.specs.Stored.{Kept}
+use Rattle.machine_model.specs.declared.flow.Flow.{Flow}
+use Rattle.machine_model.specs.declared.given.Given.{Given}
+use Rattle.machine_model.specs.State.{Machine}
+use Rattle.processor_api.specs.Acts.{KeepsGiven}
+use Rattle.engine_choice.specs.Laws.{given_for}
+use Rattle.engine_choice.specs.declared.choice.Choice.{Choice}
+use Rattle.engine_choice.specs.declared.choice.Taking.{Taking}
+use Rattle.engine_choice.specs.declared.choice.Taking.TheVariants as taking
+use Rattle.run_law.specs.Ending.{journal_full}
+use Rattle.run_law.specs.Laws.{NextStepsAreInTurn, SparedRunsGoOn}
+use Rattle.run_law.specs.Turns.{ComesNext}
+use Rattle.run_law.specs.Work.{IsReadDamaged}
+use Rattle.engine_steps.specs.Engine.{EngineState, IsOfSameRun}
+use Rattle.engine_steps.specs.Errors.{CountsEachFault, OnlyReads, Reopens}
+use Rattle.engine_steps.specs.Handing.{JobIsHanded}
+use Rattle.engine_steps.specs.Running.{IsLimited, IsRunning}
+use Rattle.engine_steps.specs.declared.error.EngineError.{EngineError}
+use Rattle.engine_steps.specs.declared.error.EngineError.TheVariants.{Damaged, Disk, Inbox, Outbox, Limit, MustReopen, Memory}
+use Rattle.engine_session.specs.declared.job.Job.{Job}
+use Rattle.engine_steps.proofs.Choosing.{HasStep}
+use Rattle.engine_steps.proofs.Goes.{IsNoLimit}
+use Rattle.engine_steps.proofs.RunsOn.{spared_by_none}
+use Rattle.run_law.specs.Puts.{Outgoing, Start}
+use Rattle.engine_steps.proofs.Steps.{runs_on}
+
+-- ---- the same run
+
+pub same_run_on : (old mid new : EngineState) → IsOfSameRun old mid → IsOfSameRun mid new → IsOfSameRun old new
+same_run_on old mid new first second = record {
+  flow = second.flow ∙ first.flow;
+  most = second.most ∙ first.most;
+  checkpoint = second.checkpoint ∙ first.checkpoint;
+  too_large = second.too_large ∙ first.too_large;
+  lot = second.lot ∙ first.lot;
+}
+
+-- ---- a store that works on
+
+not_so : (failed : Bool) → (failed ≡ true → ⊥) → failed ≡ false
+not_so true works = absurd (works refl)
+not_so false works = refl
+
+-- behind a call that ended well
+pub still_works : {W A : Type 0} (answer : A) (e f : EngineState) (old new : W) → e.failed ≡ false → Reopens (Ok answer) e f old new → f.failed ≡ false
+still_works answer e f old new works reopen = not_so f.failed (λ fails. of (reopen.only fails))
+  where
+    of : (e.failed ≡ true) ⊎ IsErrOf (Ok answer) Disk ⊎ IsErrOf (Ok answer) Outbox → ⊥
+    of (inl before) = true≢false (sym before ∙ works)
+    of (inr (inl disk)) = cc
+    of (inr (inr outbox)) = cc
+
+-- .. which tells each failure by its error
+pub works_on : {A : Type 0} (answer : A) (e : EngineState) → (e.failed ≡ true → IsErrOf (Ok answer) Disk ⊎ IsErrOf (Ok answer) Outbox) → e.failed ≡ false
+works_on answer e only = not_so e.failed (λ fails. of (only fails))
+  where
+    of : IsErrOf (Ok answer) Disk ⊎ IsErrOf (Ok answer) Outbox → ⊥
+    of (inl disk) = cc
+    of (inr outbox) = cc
+
+-- ---- faults are counted
+
+pub counts_after : (failed : Type 0) (old mid new : ℕ) → old ≤ mid → CountsFaults mid new failed → CountsFaults old new failed
+counts_after failed old mid new first second = record {
+  never_falls = omega (arith, first, second.never_falls);
+  rose = λ is below. omega (arith, first, second.rose is below);
+}
+
+-- the counts only rose before
+pub each_counts_after : {A : Type 0} (result : Result A EngineError) (disk_old disk_mid disk_new inbox_old inbox_mid inbox_new outbox_old outbox_mid outbox_new : ℕ)
+    → disk_old ≤ disk_mid → inbox_old ≤ inbox_mid → outbox_old ≤ outbox_mid
+    → CountsEachFault result disk_mid disk_new inbox_mid inbox_new outbox_mid outbox_new → CountsEachFault result disk_old disk_new inbox_old inbox_new outbox_old outbox_new
+each_counts_after result disk_old disk_mid disk_new inbox_old inbox_mid inbox_new outbox_old outbox_mid outbox_new disk inbox outbox each = record {
+  disk = counts_after (IsErrOf result Disk) disk_old disk_mid disk_new disk each.disk;
+  inbox = counts_after (IsErrOf result Inbox) inbox_old inbox_mid inbox_new inbox each.inbox;
+  outbox = counts_after (IsErrOf result Outbox) outbox_old outbox_mid outbox_new outbox each.outbox;
+}
+
+-- a call that ended well tells no fault
+pub no_fault : {A : Type 0} (answer : A) (disk_old disk_new inbox_old inbox_new outbox_old outbox_new : ℕ) → disk_old ≤ disk_new → inbox_old ≤ inbox_new → outbox_old ≤ outbox_new
+    → CountsEachFault (Ok answer) disk_old disk_new inbox_old inbox_new outbox_old outbox_new
+no_fault answer disk_old disk_new inbox_old inbox_new outbox_old outbox_new disk inbox outbox = record {
+  disk = record { never_falls = disk; rose = λ is below. absurd cc };
+  inbox = record { never_falls = inbox; rose = λ is below. absurd cc };
+  outbox = record { never_falls = outbox; rose = λ is below. absurd cc };
+}
+
+-- ---- a run stops between two steps
+
+-- neither want of memory nor a store that must be opened anew is a limit
+pub no_limit : (one error : EngineError) → one ≡ error → (one ≡ MustReopen) ⊎ (one ≡ Memory) → IsNoLimit error
+no_limit one error same (inl reopen) limit is = let both : MustReopen ≡ Limit limit = sym reopen ∙ same ∙ is in cc
+no_limit one error same (inr memory) limit is = let both : Memory ≡ Limit limit = sym memory ∙ same ∙ is in cc
+
+module _ {D : Type 0} (tells : Bool) (held : D → Files) (moment : D → ℕ) (images : D → ℕ → Files → Type 0) (e : EngineState) (opened : Machine) (first : D) (start : Start) (time : ℕ) (now : D) (left : List NamedFile) (out : Outgoing) where
+  module _ (law : SparedRunsGoOn moment images) (later : ℕ) (by : time ≤ later) where
+    -- at a later time the journal has as many entries as it may, and a session comes next
+    pub limited : NextStepsAreInTurn moment images → (run : IsRunning moment images e opened first start time now left out) → length e.journal ≡ e.most → images now (moment now) (held now)
+        → HasStep e.flow e.last later run.reached → IsLimited tells held moment images e (journal_full e.most) opened first start later now left out
+    limited turn run full is_left goes =
+        let comes = subst (λ (last : Option ℕ). ComesNext e.flow last run.reached goes.next) run.to.last goes.comes in
+        let one_after = subst (λ (t : ℕ). time ≤ t) (sym goes.at) by in
+        record {
+          reached = run.reached;
+          to = (runs_on moment images law e opened first start time later now now left out run by (spared_by_none tells held moment images e.flow e.store.lot run.reached now run.to.run.holds)).to;
+          met = record {
+            next = goes.next;
+            turn = turn e.flow start time later e.store.lot opened run.reached first now e.journal goes.next left out run.to.run one_after (omega (arith, goes.at)) comes;
+            after = goes.after;
+            goes = goes.goes;
+            stands = run.to.run.holds (held now) is_left;
+            met = inr (ap journal_full (sym full));
+          };
+        }
+
+-- ---- damage of a later state of the same run
+
+module _ {D : Type 0} (tells : Bool) (held : D → Files) (moment : D → ℕ) (images : D → ℕ → Files → Type 0) where
+  pub damaged_by : (flow other : Flow) (lot other_lot : ℕ) (disk : D) → other ≡ flow → other_lot ≡ lot → IsReadDamaged other tells held moment images other_lot disk → IsReadDamaged flow tells held moment images lot disk
+  damaged_by flow other lot other_lot disk flow_is lot_is damaged =
+      subst (λ (f : Flow). IsReadDamaged f tells held moment images lot disk) flow_is (subst (λ (n : ℕ). IsReadDamaged other tells held moment images n disk) lot_is damaged)
+
+-- ---- a session's moment
+
+moment_given : (moment : ℕ) (there : Bool) (takes : Taking) → (given_for moment there takes).moment ≡ moment
+moment_given moment there (taking.Files connection numbers) = refl
+moment_given moment there (taking.Generate index) = refl
+moment_given moment there (taking.Receive name) = refl
+
+-- the work on a session's job is of the moment at which it came next
+pub moment_of_work : (k : Kept) (moment : ℕ) (choice : Choice) (job : Job) (given : Given) → JobIsHanded k moment choice job → KeepsGiven job.given given → given.moment ≡ moment
+moment_of_work k moment choice job given handed kept =
+    ap (λ (g : Given). g.moment) kept.but_bytes ∙ ap (λ (g : Given). g.moment) handed.given ∙ moment_given moment job.given.there choice.taking
+
+-- ---- a read that failed
+
+-- the run's parts of an engine are as they were
+abbrev pub IsSameRunIn : (e f : EngineState) → Type 0
+IsSameRunIn e f = (f.flow ≡ e.flow) × (f.store.lot ≡ e.store.lot) × (f.journal ≡ e.journal)
+
+pub read_same : {A : Type 0} (result : Result A EngineError) (e f : EngineState) → OnlyReads result e f → (error : EngineError) → IsErrOf result error → IsSameRunIn e f
+read_same {A} result e f reads error is = of error is
+  where
+    parts : f ≡ e → IsSameRunIn e f
+    parts same = (ap (λ (x : EngineState). x.flow) same, ap (λ (x : EngineState). x.store.lot) same, ap (λ (x : EngineState). x.journal) same)
+
+    of : (error : EngineError) → IsErrOf result error → IsSameRunIn e f
+    of Disk is = let same = reads.failed is in (ap (λ (x : EngineState). x.flow) same, ap (λ (x : EngineState). x.store.lot) same, ap (λ (x : EngineState). x.journal) same)
+    of (Damaged damage) is = parts (reads.unchanged (λ disk. cc))
+    of Inbox is = parts (reads.unchanged (λ disk. cc))
+    of Outbox is = parts (reads.unchanged (λ disk. cc))
+    of (Limit limit) is = parts (reads.unchanged (λ disk. cc))
+    of MustReopen is = parts (reads.unchanged (λ disk. cc))
+    of Memory is = parts (reads.unchanged (λ disk. cc))

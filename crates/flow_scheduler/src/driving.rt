@@ -1,0 +1,242 @@
+//! An engine goes on until nothing is left to do.
+ghost use Rattle.std.specs.Prelude.{◌≡◌, ◌⊎◌, ℕ, ◌-◌, ◌^◌, ◌<◌, ◌≤◌, true, false, Option, None, Some, IfOk, OnOk, IsErrOf, IsTrue};
+ghost use Rattle.kept_state.specs.declared.limit.Limit.{Limit as TheLimit};
+ghost use Rattle.machine_model.specs.State.{Machine};
+ghost use Rattle.engine_choice.specs.declared.choice.Ending.{Ending as TheEnding};
+ghost use Rattle.engine_steps.specs.Checkout.{session_in};
+ghost use Rattle.flow_scheduler.specs.Driving.{GrowsAt, IsEnded, IsTurned};
+ghost use Rattle.run_law.specs.Turns.{AreMadeAt};
+ghost use Rattle.engine_steps.specs.Engine.{AreTakeable, IsOfSameRun};
+ghost use Rattle.engine_steps.specs.Errors.{CountsEachFault, HasCause};
+ghost use Rattle.engine_steps.specs.Ready.{EngineIsReady, due_in};
+ghost use Rattle.engine_steps.specs.Running.{IsRunning, Stops};
+ghost use Rattle.run_law.specs.Work.{IsAtWork, IsNoEarlier, IsShortOn, WritesLog};
+ghost use Rattle.engine_steps.specs.declared.error.EngineError.{EngineError as TheError};
+ghost use Rattle.run_law.specs.Puts.{Start, outgoing};
+
+use disk_trait::Disk;
+use engine_choice::{
+    Choice, Ending, choices_are_seen, choices_are_sessions, ends_are_machine_ends,
+};
+use engine_session::{sessions_are_steps, work};
+use engine_steps::{Checkout, Engine, EngineError, Tended};
+use run_law::{faults_end_a_run, run_goes_on};
+use std::alloc::Global;
+use world_io::{Clock, Gate, Inbox, Outbox};
+
+/// Tends what is due and runs session after session, until the flow is quiet or blocked. Where files wait for the
+/// end of a penalty, it waits with them.
+pub(crate) fn drive<D: Disk, I: Inbox, O: Outbox, C: Clock, G: Gate>(
+    engine: &mut Engine<'_>,
+    alloc: Global,
+    disk: &mut D,
+    inbox: &mut I,
+    outbox: &mut O,
+    clock: &mut C,
+    gate: &G,
+) -> Result<Ending, EngineError>
+    requires ready { EngineIsReady D.tells D.held D.moment D.images engine.old disk.old }
+    requires works { engine.old.failed ≡ false }
+    requires left { IsTrue I.tells → AreTakeable (I.left inbox.old) engine.old.listing.names }
+    // The run went on until nothing was left to do, or it was stopped.
+    ensures ended { IfOk result (λ ending. IsTrue D.tells → IsTrue I.tells → IsTrue O.tells
+        → (opened : Machine) (first : D) (start : Start) (time : ℕ) → time ≤ C.time clock.old
+        → IsRunning D.moment D.images engine.old opened first start time disk.old (I.left inbox.old)
+        (outgoing O.standing O.puts outbox.old)
+        → IsEnded D.moment D.images engine.new opened first start (C.time clock.new) disk.new (I.left inbox.new)
+        (outgoing O.standing O.puts outbox.new) ending) }
+    ensures stopped { (error : TheError) → IsErrOf result error → IsTrue D.tells → IsTrue I.tells → IsTrue O.tells
+        → (opened : Machine) (first : D) (start : Start) (time : ℕ) → time ≤ C.time clock.old
+        → IsRunning D.moment D.images engine.old opened first start time disk.old (I.left inbox.old)
+        (outgoing O.standing O.puts outbox.old)
+        → Stops error D.tells D.held D.moment D.images engine.new opened first start (C.time clock.new) disk.new
+        (I.left inbox.new) (outgoing O.standing O.puts outbox.new) }
+    ensures no_rest { IfOk result (λ ending. (until : ℕ) → ending ≡ Ending.Rest until → ⊥) }
+    ensures short { OnOk result (IsShortOn D.moment D.images engine.new.checkpoint disk.new) }
+    // Whatever inbox and outbox tell.
+    ensures work { OnOk result (IsAtWork engine.old.flow D.tells D.held D.moment D.images engine.new.store disk.new) }
+    ensures later { C.time clock.old ≤ C.time clock.new }
+    // Each moment of a step, and that of the end, is one that the clock gave.
+    ensures moments { AreMadeAt C.given engine.old.journal → AreMadeAt C.given engine.new.journal }
+    ensures given { OnOk result (C.given (C.time clock.new)) }
+    ensures failed { engine.new.failed ≡ true → IsErrOf result EngineError.Disk ⊎ IsErrOf result EngineError.Outbox }
+    ensures works { IsErrOf result EngineError.MustReopen → ⊥ }
+    ensures same { IsOfSameRun engine.old engine.new }
+    ensures alone { WritesLog D.moment D.images engine.old.store.log.number disk.old disk.new }
+    ensures why { HasCause result engine.old.flow D.tells D.held D.moment D.images engine.old.store.lot engine.old.most
+        engine.new.journal engine.new.store disk.new }
+    ensures cause { CountsEachFault result (D.faults disk.old) (D.faults disk.new)
+        (I.faults inbox.old) (I.faults inbox.new) (O.faults outbox.old) (O.faults outbox.new) }
+{
+    faults_end_a_run::<D>();
+    for _turn in 0..u64::MAX {
+        let moment = clock.now();
+        match turn(engine, alloc, disk, inbox, outbox, moment, gate)? {
+            None => {}
+            Some(Ending::Rest { until }) => clock.wait(until),
+            Some(Ending::Blocked(connection)) => return Ok(Ending::Blocked(connection)),
+            Some(Ending::Quiet) => return Ok(Ending::Quiet),
+        }
+    }
+    // No machine takes so many turns.
+    Err(EngineError::Memory)
+}
+
+// Tends what is due, or else runs the next session. Where none comes, it tells how it ends.
+fn turn<D: Disk, I: Inbox, O: Outbox, G: Gate>(
+    engine: &mut Engine<'_>,
+    alloc: Global,
+    disk: &mut D,
+    inbox: &mut I,
+    outbox: &mut O,
+    moment: u64,
+    gate: &G,
+) -> Result<Option<Ending>, EngineError>
+    requires ready { EngineIsReady D.tells D.held D.moment D.images engine.old disk.old }
+    requires works { engine.old.failed ≡ false }
+    requires left { IsTrue I.tells → AreTakeable (I.left inbox.old) engine.old.listing.names }
+    ensures turned { IfOk result (λ ending. IsTrue D.tells → IsTrue I.tells → IsTrue O.tells
+        → (opened : Machine) (first : D) (start : Start) (time : ℕ) → time ≤ moment
+        → IsRunning D.moment D.images engine.old opened first start time disk.old (I.left inbox.old)
+        (outgoing O.standing O.puts outbox.old)
+        → IsTurned D.moment D.images engine.new opened first start moment disk.new (I.left inbox.new)
+        (outgoing O.standing O.puts outbox.new) ending) }
+    ensures short { IfOk result (λ ending. (end : TheEnding) → ending ≡ Some end
+        → IsShortOn D.moment D.images engine.new.checkpoint disk.new) }
+    ensures stopped { (error : TheError) → IsErrOf result error → IsTrue D.tells → IsTrue I.tells → IsTrue O.tells
+        → (opened : Machine) (first : D) (start : Start) (time : ℕ) → time ≤ moment
+        → IsRunning D.moment D.images engine.old opened first start time disk.old (I.left inbox.old)
+        (outgoing O.standing O.puts outbox.old)
+        → Stops error D.tells D.held D.moment D.images engine.new opened first start moment disk.new
+        (I.left inbox.new) (outgoing O.standing O.puts outbox.new) }
+    ensures ready { OnOk result (EngineIsReady D.tells D.held D.moment D.images engine.new disk.new) }
+    ensures grows { GrowsAt moment engine.old.journal engine.new.journal }
+    ensures failed { engine.new.failed ≡ true → IsErrOf result EngineError.Disk ⊎ IsErrOf result EngineError.Outbox }
+    ensures works { IsErrOf result EngineError.MustReopen → ⊥ }
+    ensures left { OnOk result (IsTrue I.tells → AreTakeable (I.left inbox.new) engine.new.listing.names) }
+    ensures same { IsOfSameRun engine.old engine.new }
+    ensures log { OnOk result (IsNoEarlier engine.old.store.log.number engine.new.store.log.number) }
+    ensures alone { WritesLog D.moment D.images engine.old.store.log.number disk.old disk.new }
+    ensures why { HasCause result engine.old.flow D.tells D.held D.moment D.images engine.old.store.lot engine.old.most
+        engine.new.journal engine.new.store disk.new }
+    ensures cause { CountsEachFault result (D.faults disk.old) (D.faults disk.new)
+        (I.faults inbox.old) (I.faults inbox.new) (O.faults outbox.old) (O.faults outbox.new) }
+{
+    match engine.tend(alloc, disk, moment)? {
+        Tended::Nothing => go_on(engine, alloc, disk, inbox, outbox, moment, gate),
+        Tended::Expired | Tended::Checkpointed | Tended::Reclaimed(_) => Ok(None),
+    }
+}
+
+// Runs the next session. Where none comes, it tells how it ends.
+fn go_on<D: Disk, I: Inbox, O: Outbox, G: Gate>(
+    engine: &mut Engine<'_>,
+    alloc: Global,
+    disk: &mut D,
+    inbox: &mut I,
+    outbox: &mut O,
+    moment: u64,
+    gate: &G,
+) -> Result<Option<Ending>, EngineError>
+    requires ready { EngineIsReady D.tells D.held D.moment D.images engine.old disk.old }
+    requires works { engine.old.failed ≡ false }
+    requires left { IsTrue I.tells → AreTakeable (I.left inbox.old) engine.old.listing.names }
+    requires tended { due_in engine.old moment ≡ None }
+    requires short { IsShortOn D.moment D.images engine.old.checkpoint disk.old }
+    ensures turned { IfOk result (λ ending. IsTrue D.tells → IsTrue I.tells → IsTrue O.tells
+        → (opened : Machine) (first : D) (start : Start) (time : ℕ) → time ≤ moment
+        → IsRunning D.moment D.images engine.old opened first start time disk.old (I.left inbox.old)
+        (outgoing O.standing O.puts outbox.old)
+        → IsTurned D.moment D.images engine.new opened first start moment disk.new (I.left inbox.new)
+        (outgoing O.standing O.puts outbox.new) ending) }
+    ensures short { IfOk result (λ ending. (end : TheEnding) → ending ≡ Some end
+        → IsShortOn D.moment D.images engine.new.checkpoint disk.new) }
+    ensures stopped { (error : TheError) → IsErrOf result error → IsTrue D.tells → IsTrue I.tells → IsTrue O.tells
+        → (opened : Machine) (first : D) (start : Start) (time : ℕ) → time ≤ moment
+        → IsRunning D.moment D.images engine.old opened first start time disk.old (I.left inbox.old)
+        (outgoing O.standing O.puts outbox.old)
+        → Stops error D.tells D.held D.moment D.images engine.new opened first start moment disk.new
+        (I.left inbox.new) (outgoing O.standing O.puts outbox.new) }
+    ensures ready { OnOk result (EngineIsReady D.tells D.held D.moment D.images engine.new disk.new) }
+    ensures grows { GrowsAt moment engine.old.journal engine.new.journal }
+    ensures failed { engine.new.failed ≡ true → IsErrOf result EngineError.Disk ⊎ IsErrOf result EngineError.Outbox }
+    ensures works { IsErrOf result EngineError.MustReopen → ⊥ }
+    ensures left { OnOk result (IsTrue I.tells → AreTakeable (I.left inbox.new) engine.new.listing.names) }
+    ensures same { IsOfSameRun engine.old engine.new }
+    ensures log { engine.new.store.log.number ≡ engine.old.store.log.number }
+    ensures alone { WritesLog D.moment D.images engine.old.store.log.number disk.old disk.new }
+    ensures why { HasCause result engine.old.flow D.tells D.held D.moment D.images engine.old.store.lot engine.old.most
+        engine.new.journal engine.new.store disk.new }
+    ensures cause { CountsEachFault result (D.faults disk.old) (D.faults disk.new)
+        (I.faults inbox.old) (I.faults inbox.new) (O.faults outbox.old) (O.faults outbox.new) }
+{
+    engine.shows_its_state(disk);
+    choices_are_sessions();
+    choices_are_seen();
+    sessions_are_steps();
+    ends_are_machine_ends();
+    run_goes_on::<D>();
+    faults_end_a_run::<D>();
+    match engine.checkout(alloc, moment)? {
+        // All that is due was tended before.
+        Checkout::Due => unreachable!(),
+        Checkout::Session(choice) => {
+            run_session(engine, alloc, disk, inbox, outbox, moment, choice, gate)?;
+            Ok(None)
+        }
+        Checkout::Limit(limit) => Err(EngineError::Limit(limit)),
+        Checkout::Rest { until } => Ok(Some(Ending::Rest { until })),
+        Checkout::Blocked(connection) => Ok(Some(Ending::Blocked(connection))),
+        Checkout::Quiet => Ok(Some(Ending::Quiet)),
+    }
+}
+
+// Runs the session that comes next: its job is read, worked on and committed. Where the job has changed, nothing is
+// done. Its number at the gate is how many entries the journal has before its own.
+fn run_session<D: Disk, I: Inbox, O: Outbox, G: Gate>(
+    engine: &mut Engine<'_>,
+    alloc: Global,
+    disk: &mut D,
+    inbox: &mut I,
+    outbox: &mut O,
+    moment: u64,
+    choice: Choice,
+    gate: &G,
+) -> Result<(), EngineError>
+    requires ready { EngineIsReady D.tells D.held D.moment D.images engine.old disk.old }
+    requires works { engine.old.failed ≡ false }
+    requires chosen { session_in engine.old moment ≡ Some choice }
+    requires left { IsTrue I.tells → AreTakeable (I.left inbox.old) engine.old.listing.names }
+    ensures goes_on { OnOk result (IsTrue D.tells → IsTrue I.tells → IsTrue O.tells
+        → (opened : Machine) (first : D) (start : Start) (time : ℕ) → time ≤ moment
+        → IsRunning D.moment D.images engine.old opened first start time disk.old (I.left inbox.old)
+        (outgoing O.standing O.puts outbox.old)
+        → IsRunning D.moment D.images engine.new opened first start moment disk.new (I.left inbox.new)
+        (outgoing O.standing O.puts outbox.new)) }
+    ensures stopped { (error : TheError) → IsErrOf result error → IsTrue D.tells → IsTrue I.tells → IsTrue O.tells
+        → (opened : Machine) (first : D) (start : Start) (time : ℕ) → time ≤ moment
+        → IsRunning D.moment D.images engine.old opened first start time disk.old (I.left inbox.old)
+        (outgoing O.standing O.puts outbox.old)
+        → Stops error D.tells D.held D.moment D.images engine.new opened first start moment disk.new
+        (I.left inbox.new) (outgoing O.standing O.puts outbox.new) }
+    ensures ready { OnOk result (EngineIsReady D.tells D.held D.moment D.images engine.new disk.new) }
+    ensures grows { GrowsAt moment engine.old.journal engine.new.journal }
+    ensures failed { engine.new.failed ≡ true → IsErrOf result EngineError.Disk ⊎ IsErrOf result EngineError.Outbox }
+    ensures works { IsErrOf result EngineError.MustReopen → ⊥ }
+    ensures left { OnOk result (IsTrue I.tells → AreTakeable (I.left inbox.new) engine.new.listing.names) }
+    ensures same { IsOfSameRun engine.old engine.new }
+    ensures log { engine.new.store.log.number ≡ engine.old.store.log.number }
+    ensures alone { WritesLog D.moment D.images engine.old.store.log.number disk.old disk.new }
+    ensures why { HasCause result engine.old.flow D.tells D.held D.moment D.images engine.old.store.lot engine.old.most
+        engine.new.journal engine.new.store disk.new }
+    ensures cause { CountsEachFault result (D.faults disk.old) (D.faults disk.new)
+        (I.faults inbox.old) (I.faults inbox.new) (O.faults outbox.old) (O.faults outbox.new) }
+{
+    run_goes_on::<D>();
+    faults_end_a_run::<D>();
+    let job = engine.read(alloc, disk, inbox, outbox, moment, choice)?;
+    let session = engine.journal().len() as u64;
+    let done = work(alloc, engine.flow(), engine.store_id(), job, session, gate)?;
+    engine.commit(alloc, disk, inbox, outbox, done)?;
+    Ok(())
+}
