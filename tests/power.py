@@ -65,8 +65,8 @@ def read_call(line, top):
             yield ("create", path)
     elif kind in ("mkdir", "mkdirat"):
         yield ("mkdir", below(texts[-1], handles[0] if kind == "mkdirat" else None))
-    elif kind == "rename":
-        yield ("rename", below(texts[0]), below(texts[1]))
+    elif kind in ("rename", "link"):
+        yield (kind, below(texts[0]), below(texts[1]))
     elif kind in ("unlink", "rmdir"):
         yield (kind, below(texts[0]))
     elif kind == "unlinkat":
@@ -141,16 +141,23 @@ def apply(entries, name, node):
 
 
 def durable_tree(path):
-    """What stands in a real folder, with nothing pending."""
-    folder = Folder()
-    for entry in os.scandir(os.fsencode(path)):
-        if entry.is_dir(follow_symlinks=False):
-            folder.held[entry.name] = durable_tree(entry.path)
-        else:
+    """What stands in a real folder, with nothing pending. Names of one file give one file."""
+    files = {}
+
+    def read(entry):
+        if entry.inode() not in files:
             with open(entry.path, "rb") as file:
-                folder.held[entry.name] = File(file.read())
-    folder.sync()
-    return folder
+                files[entry.inode()] = File(file.read())
+        return files[entry.inode()]
+
+    def tree(path):
+        folder = Folder()
+        for entry in os.scandir(path):
+            folder.held[entry.name] = tree(entry.path) if entry.is_dir(follow_symlinks=False) else read(entry)
+        folder.sync()
+        return folder
+
+    return tree(os.fsencode(path))
 
 
 def find(top, path):
@@ -175,6 +182,9 @@ def replay(top, number, call):
     elif kind in ("unlink", "rmdir"):
         folder, name = split(top, path)
         folder.change(number, name, None)
+    elif kind == "link":
+        target, new = split(top, call[2])
+        target.change(number, new, find(top, path))
     elif kind == "rename":
         (source, old), (target, new) = split(top, path), split(top, call[2])
         node = source.held[old]
@@ -235,16 +245,29 @@ def drawn_tree(folder, done):
     return entries
 
 
-def lay(folder, path, done):
-    os.makedirs(path, exist_ok=True)
-    for name, node in drawn_tree(folder, done).items():
-        where = os.path.join(path, name)
-        if isinstance(node, Folder):
-            lay(node, where, done)
-        else:
-            with open(where, "wb") as file:
-                file.write(drawn_file(node))
-            age(where)
+def lay(top, path):
+    """Makes a real folder of what a stop leaves. A file that has two names there has both."""
+    done, laid = {}, {}
+
+    def lay_folder(folder, path):
+        os.makedirs(path, exist_ok=True)
+        for name, node in drawn_tree(folder, done).items():
+            where = os.path.join(path, name)
+            if isinstance(node, Folder):
+                lay_folder(node, where)
+            else:
+                lay_file(node, where)
+
+    def lay_file(node, where):
+        if node in laid:
+            os.link(laid[node], where)
+            return
+        with open(where, "wb") as file:
+            file.write(drawn_file(node))
+        age(where)
+        laid[node] = where
+
+    lay_folder(top, path)
 
 
 # The trial.
@@ -259,7 +282,7 @@ def is_empty(files):
 def recovers(program, parent, top, what):
     """Lays one image, and runs the program on it. Says what is wrong, or None."""
     with new_folder(parent) as folder:
-        lay(top, os.fsencode(folder), {})
+        lay(top, os.fsencode(folder))
         ended = run(program, folder)
         if ended.status != DONE:
             return f"{what}: status {ended.status}"
@@ -320,7 +343,7 @@ def nothing_is_lost_twice(program, parent, picks, rounds):
             for number in range(random.randint(1, len(calls))):
                 replay(top, number + 1, calls[number])
             with new_folder(parent) as image, new_folder(parent) as copy:
-                lay(top, os.fsencode(image), {})
+                lay(top, os.fsencode(image))
                 shutil.copytree(image, copy, dirs_exist_ok=True)
                 more, count = stops(program, parent, durable_tree(image), record(program, copy), picks)
             wrong += more
