@@ -1,3 +1,4 @@
+pub mod Ages
 pub mod AtRest
 pub mod Bins
 pub mod Compared

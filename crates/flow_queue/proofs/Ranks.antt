@@ -49,7 +49,7 @@ there_too order files view h =
     let views = views_of files in
     Contains-permutation (in_order order views) views view (IsPermutation-sym views (in_order order views) (in_order-permutes order views)) h
 
-all-found : (order : List Prioritizer) (files : List Held) → AscendsByNumber held_number files → All (Found files) (in_order order (views_of files))
+pub all-found : (order : List Prioritizer) (files : List Held) → AscendsByNumber held_number files → All (Found files) (in_order order (views_of files))
 all-found order files up =
     let own = in_order order (views_of files) in
     All-weaker (Contains own) (Found files) (λ view h. found files view up (there_too order files view h)) own (All-contains_itself own)

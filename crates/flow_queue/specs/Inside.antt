@@ -1,8 +1,9 @@
 -- The fields of a queue, and what they stand for.
-use Rattle.std.specs.Prelude.{◌≡◌, ℕ, ◌+◌, ◌<◌, ◌≤◌, ◌^◌, List, All, length, sum_by}
+use Rattle.std.specs.Prelude.{◌≡◌, ℕ, ◌+◌, ◌<◌, ◌≤◌, ◌^◌, List, [], All, length, sum_by}
 use Rattle.std.specs.VecDeque.{deque_capacity}
 use Rattle.flow_queue.specs.declared.held.Held.{Held}
 use Rattle.flow_queue.specs.declared.queue.Queue.TheInside.{Inside}
+use Rattle.flow_queue.specs.Ages.{HasAges, HasAgeRoom}
 use Rattle.flow_queue.specs.Queue.{QueueState, AreApart, held_bytes}
 use Rattle.flow_queue.specs.Ranked.{IsRanked}
 
@@ -20,8 +21,12 @@ pub record AreSound (files : List Held) (bytes : ℕ) : Type 0 where
   pub sizes : All (λ held. held_bytes held < 2 ^ 64) files
   pub sum : bytes ≡ sum_by held_bytes files
 
--- the numbers stand in the order of the queue, and those of as many more files as there is room for have capacity
+-- the numbers stand in the order of the queue, and where files expire from the oldest on; those of as many more files as
+-- there is room for have capacity
 pub record IsSoundQueue (queue : Inside) : Type 0 where
   pub files : AreSound queue.files.items queue.bytes
   pub ranked : IsRanked queue.order queue.files.items queue.by_rank.items
   pub room : length queue.files.items + queue.files.room ≤ deque_capacity queue.by_rank
+  pub oldest_first : queue.oldest_first ≡ []
+  pub ages : HasAges queue.limits queue.files.items queue.by_age.items
+  pub age_room : HasAgeRoom queue.limits (length queue.files.items + queue.files.room) (deque_capacity queue.by_age)

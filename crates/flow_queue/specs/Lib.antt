@@ -1,3 +1,4 @@
+pub mod Ages
 pub mod Fragments
 pub mod Inside
 pub mod Picking

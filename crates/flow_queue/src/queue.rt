@@ -2,12 +2,14 @@
 ghost use Rattle.std.specs.Prelude.{◌≡◌, ◌+◌, ◌-◌, ◌<◌, ◌≤◌, [], Some, false, true, IsSome, OnOk, OnErr};
 ghost use Rattle.flow_queue.specs.Queue.{IsApart, AreApart, queue_with_file, without_file, held_file, flight_of, with_flight, IsAtRest, IsInFlight};
 
+mod ages;
 mod bins;
 mod choosing;
 mod ranked;
 mod wholes;
 
-use self::ranked::place_in_order;
+use self::ages::{put_age, reserve_ages, take_age};
+use self::ranked::{put_number, take_number};
 use crate::held::Held;
 use flowfile_record::{FlowFile, NumberedList};
 use machine_model::QueueLimits;
@@ -24,6 +26,9 @@ pub struct Queue {
     files: NumberedList<Held>,
     // Their numbers in the order of the queue, with capacity for as many more as there is room.
     by_rank: VecDeque<u64>,
+    // Where files expire, their numbers from the oldest on, with the same capacity.
+    by_age: VecDeque<u64>,
+    oldest_first: Order,
     // Those of their contents.
     bytes: u128,
 }
@@ -54,6 +59,8 @@ impl Queue {
             limits,
             files: NumberedList::new(alloc),
             by_rank: VecDeque::new(alloc),
+            by_age: VecDeque::new(alloc),
+            oldest_first: Order::new(Vec::new(alloc)),
             bytes: 0,
         }
     }
@@ -67,6 +74,7 @@ impl Queue {
         ensures failed { OnErr result (self.new ≡ self.old) }
     {
         self.by_rank.reserve(count as usize)?;
+        reserve_ages(&mut self.by_age, &self.limits, count)?;
         self.files.reserve(u64::from(count))
     }
 
@@ -81,11 +89,15 @@ impl Queue {
             file,
             in_flight: false,
         };
-        let place = place_in_order(&self.by_rank, &self.files, &self.order, &held);
         let size = held.size();
-        let Ok(()) = self.by_rank.insert(place, held.file.number) else {
-            unreachable!()
-        };
+        put_number(&mut self.by_rank, &self.files, &self.order, &held);
+        put_age(
+            &mut self.by_age,
+            &self.limits,
+            &self.files,
+            &self.oldest_first,
+            &held,
+        );
         self.files.put(held);
         self.bytes += u128::from(size);
     }
@@ -129,8 +141,14 @@ impl Queue {
         let Some(held) = self.files.get(number) else {
             unreachable!()
         };
-        let place = place_in_order(&self.by_rank, &self.files, &self.order, held);
-        self.by_rank.remove(place);
+        take_number(&mut self.by_rank, &self.files, &self.order, held);
+        take_age(
+            &mut self.by_age,
+            &self.limits,
+            &self.files,
+            &self.oldest_first,
+            held,
+        );
         let Some(held) = self.files.take(number) else {
             unreachable!()
         };

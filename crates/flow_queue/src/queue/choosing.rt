@@ -10,6 +10,7 @@ ghost use Rattle.flow_queue.specs.Queue.{AreApart, IsAtRest, queue_as_seen, view
 ghost use Rattle.flow_queue.specs.Ranked.{eligible_among};
 
 use super::Queue;
+use super::ages::may_have_expired;
 use super::bins::pick_bin;
 use super::ranked::{best_of, first_eligible};
 use super::wholes::pick_whole;
@@ -61,7 +62,7 @@ impl Queue {
         // Memory is taken for numbers alone.
         ensures free { expired_numbers self.now.limits moment (queue_as_seen self.now).active ≡ [] → IsOk result }
     {
-        if self.limits.expiration == 0 {
+        if !may_have_expired(&self.by_age, &self.limits, &self.files, moment) {
             return Ok(());
         }
         list_expired(&self.files, &self.limits, moment, list)

@@ -1,10 +1,11 @@
 //! The numbers of a queue's files in its order, and the files that they stand for.
-ghost use Rattle.std.specs.Prelude.{◌≡◌, ◌≤◌, [], take, slice_get, IfOk, IsOk};
+ghost use Rattle.std.specs.Prelude.{◌≡◌, ◌<◌, ◌≤◌, [], Some, false, length, take, slice_get, IfOk, IsOk};
 ghost use Rattle.std.specs.Option.{option_map};
-ghost use Rattle.std.specs.VecDeque.{deque_len};
+ghost use Rattle.std.specs.VecDeque.{deque_capacity, deque_len};
+ghost use Rattle.flowfile_record.specs.NumberedItems.{item_of};
 ghost use Rattle.machine_model.specs.Order.{in_order};
 ghost use Rattle.flow_queue.specs.Picking.{views_at};
-ghost use Rattle.flow_queue.specs.Queue.{AreApart, held_view, views_of};
+ghost use Rattle.flow_queue.specs.Queue.{AreApart, IsApart, held_number, held_view, queue_with_file, views_of, without_file};
 ghost use Rattle.flow_queue.specs.Ranked.{IsRanked, IsRankOf, eligible_among, eligible_at, goes_ahead};
 
 use crate::held::Held;
@@ -14,8 +15,46 @@ use prioritizer::Order;
 use std::alloc::{AllocError, Global};
 use std::collections::VecDeque;
 
+// Puts the number of a file that comes to those of the files.
+pub(super) fn put_number(
+    numbers: &mut VecDeque<u64>,
+    files: &NumberedList<Held>,
+    order: &Order,
+    held: &Held,
+)
+    requires apart { AreApart files.now.items }
+    requires ranked { IsRanked order.now files.now.items numbers.old.items }
+    requires new { IsApart held.now.file files.now.items }
+    requires rests { held.now.in_flight ≡ false }
+    requires room { length numbers.old.items < deque_capacity numbers.old }
+    ensures ranked { IsRanked order.now (queue_with_file held.now.file files.now.items) numbers.new.items }
+    ensures capacity { deque_capacity numbers.old ≤ deque_capacity numbers.new }
+{
+    let place = place_in_order(numbers, files, order, held);
+    let Ok(()) = numbers.insert(place, held.file.number) else {
+        unreachable!()
+    };
+}
+
+// Takes the number of a file that goes out of those of the files.
+pub(super) fn take_number(
+    numbers: &mut VecDeque<u64>,
+    files: &NumberedList<Held>,
+    order: &Order,
+    held: &Held,
+)
+    requires apart { AreApart files.now.items }
+    requires ranked { IsRanked order.now files.now.items numbers.old.items }
+    requires there { item_of held_number (held_number held.now) files.now.items ≡ Some held.now }
+    ensures ranked { IsRanked order.now (without_file (held_number held.now) files.now.items) numbers.new.items }
+    ensures capacity { deque_capacity numbers.new ≡ deque_capacity numbers.old }
+{
+    let place = place_in_order(numbers, files, order, held);
+    numbers.remove(place);
+}
+
 // How many files go before one.
-pub(super) fn place_in_order(
+fn place_in_order(
     by_rank: &VecDeque<u64>,
     files: &NumberedList<Held>,
     order: &Order,

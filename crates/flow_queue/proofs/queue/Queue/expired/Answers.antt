@@ -4,14 +4,13 @@ use Rattle.machine_model.specs.Due.{expired_numbers}
 use Rattle.machine_model.specs.Events.{ascending}
 use Rattle.flow_queue.specs.Picking.{expiring}
 use Rattle.flow_queue.specs.Queue.{flight_of, views_of, IsAtRest}
-use Rattle.flow_queue.proofs.Expiring.{expiring-ascends, expiring-rests, none-expire}
+use Rattle.flow_queue.proofs.Expiring.{expiring-ascends, expiring-rests}
 use Rattle.flow_queue.proofs.Taken.{lists-all, lists-numbers}
 use Rattle.flow_queue.proofs.queue.Queue.expired.Goals as goal
 
-pub returns-then-self-eq0-clause-numbers : goal.returns-then-self-eq0-clause-numbers
-returns-then-self-eq0-clause-numbers c =
-    let queue = c.self.inside in
-    c.requires ∙ sym (ap ascending (none-expire queue.limits c.args.moment (views_of queue.files.items) c.if-self-eq0.true))
+pub returns-then-not-may_have_expired-clause-numbers : goal.returns-then-not-may_have_expired-clause-numbers
+returns-then-not-may_have_expired-clause-numbers c =
+    c.requires ∙ sym (ap ascending (c.may_have_expired.ensures c.if-not-may_have_expired.true))
     ∙ ap (λ q. expired_numbers q.limits c.args.moment (views_of q.files)) c.self.view_is
 
 pub returns-clause-numbers : goal.returns-clause-numbers

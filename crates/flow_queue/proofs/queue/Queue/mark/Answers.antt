@@ -1,4 +1,4 @@
-use Rattle.std.proofs.Common.{◌≡◌, Some, length, refl, sym, ◌∙◌, ap, subst, arith}
+use Rattle.std.proofs.Common.{◌≡◌, Some, [], length, refl, sym, ◌∙◌, ap, subst, arith}
 use Rattle.flowfile_record.specs.NumberedItems.{item_of, with_item}
 use Rattle.flow_queue.specs.declared.held.Held.{Held}
 use Rattle.flow_queue.specs.Inside.{AreSound}
@@ -31,6 +31,9 @@ invariant_of-self c =
       files = subst (λ fs. AreSound fs queue.bytes) (sym is) (sound-mark c.args.number c.args.in_flight files queue.bytes c.self.invariant.files);
       ranked = still-ranked queue.order _ _ _ _ is refl (ranked-mark queue.order files queue.by_rank.items c.self.invariant.files.apart c.self.invariant.ranked c.args.number c.args.in_flight);
       room = omega (arith, c.self.invariant.room, ap length is, length-mark c.args.number c.args.in_flight files, c.put.ensures.room, c.in-Some.ensures.room);
+      oldest_first = c.self.invariant.oldest_first;
+      ages = λ expire. still-ranked [] _ _ _ _ is refl (ranked-mark [] files queue.by_age.items c.self.invariant.files.apart (c.self.invariant.ages expire) c.args.number c.args.in_flight);
+      age_room = λ expire. omega (arith, c.self.invariant.age_room expire, ap length is, length-mark c.args.number c.args.in_flight files, c.put.ensures.room, c.in-Some.ensures.room);
     }
 
 pub returns : goal.returns

@@ -1,17 +1,29 @@
-use Rattle.std.proofs.Common.{◌+◌, ◌<◌, ◌^◌, false, length, sym, ◌∙◌, ap, subst, arith}
+use Rattle.std.proofs.Common.{◌+◌, ◌<◌, ◌^◌, [], false, length, refl, sym, ◌∙◌, ap, subst, arith}
 use Rattle.flowfile_record.proofs.ByNumber.{length-with}
 use Rattle.flow_queue.specs.declared.held.Held.{Held}
 use Rattle.flow_queue.specs.Inside.{AreSound}
 use Rattle.flow_queue.specs.Queue.{IsApart, held_number}
 use Rattle.flow_queue.proofs.Fields.{new-number, sum_fits, sound-put}
-use Rattle.flow_queue.proofs.Ranks.{ranked-length, ranked-put, still-ranked}
+use Rattle.flow_queue.proofs.Ranks.{ranked-length, still-ranked}
 use Rattle.flow_queue.proofs.queue.Queue.put.Goals as goal
 
-pub unreachable-requires : goal.unreachable-requires
-unreachable-requires c =
+pub put_number-requires-clause-new : goal.put_number-requires-clause-new
+put_number-requires-clause-new c = subst (IsApart c.args.file) (ap (λ q. q.files) (sym c.self.view_is)) c.requires.apart
+
+pub put_number-requires-clause-room : goal.put_number-requires-clause-room
+put_number-requires-clause-room c =
     let queue = c.self.inside in
     let long = ranked-length queue.order queue.files.items queue.by_rank.items c.self.invariant.ranked in
-    omega (arith, c.in_default.ensures.full, c.self.invariant.room, long, queue.by_rank.ok.0, c.requires.room, ap (λ q. q.spare) c.self.view_is)
+    omega (arith, c.self.invariant.room, long, c.requires.room, ap (λ q. q.spare) c.self.view_is)
+
+pub put_age-requires-clause-new : goal.put_age-requires-clause-new
+put_age-requires-clause-new c = subst (IsApart c.args.file) (ap (λ q. q.files) (sym c.self.view_is)) c.requires.apart
+
+pub put_age-requires-clause-room : goal.put_age-requires-clause-room
+put_age-requires-clause-room c expire =
+    let queue = c.self.inside in
+    let long = ranked-length [] queue.files.items queue.by_age.items (c.self.invariant.ages expire) in
+    omega (arith, c.self.invariant.age_room expire, long, c.requires.room, ap (λ q. q.spare) c.self.view_is)
 
 pub put-requires-clause-new : goal.put-requires-clause-new
 put-requires-clause-new c =
@@ -32,9 +44,11 @@ invariant_of-self c =
     let apart : IsApart c.args.file files = subst (IsApart c.args.file) (ap (λ q. q.files) (sym c.self.view_is)) c.requires.apart in
     let small : c.args.file.content.size < 2 ^ 64 = omega (arith, c.size-size.type_inv, c.size-size.ensures) in
     let sound = sound-put c.args.file files apart queue.bytes (queue.bytes + c.from.result) c.self.invariant.files (ap (λ n. queue.bytes + n) (c.from.ensures ∙ c.size-size.ensures)) small in
-    let ranked = ranked-put queue.order files queue.by_rank.items c.self.invariant.files.apart c.self.invariant.ranked c.args.file c.place_in_order-place.result apart c.place_in_order-place.ensures.rank in
     record {
       files = subst (λ fs. AreSound fs (queue.bytes + c.from.result)) (sym c.put.ensures.items) sound;
-      ranked = still-ranked queue.order _ _ _ _ c.put.ensures.items c.in-Ok.ensures.items ranked;
-      room = omega (arith, c.self.invariant.room, ap length c.put.ensures.items, length-with held_number new files, c.put.ensures.room, c.in-Ok.ensures.capacity);
+      ranked = still-ranked queue.order _ _ _ _ c.put.ensures.items refl c.put_number.ensures.ranked;
+      room = omega (arith, c.self.invariant.room, ap length c.put.ensures.items, length-with held_number new files, c.put.ensures.room, c.put_number.ensures.capacity);
+      oldest_first = c.self.invariant.oldest_first;
+      ages = λ expire. still-ranked [] _ _ _ _ c.put.ensures.items refl (c.put_age.ensures.ages expire);
+      age_room = λ expire. omega (arith, c.self.invariant.age_room expire, ap length c.put.ensures.items, length-with held_number new files, c.put.ensures.room, c.put_age.ensures.capacity);
     }
