@@ -2,8 +2,9 @@
 """How the time for a file grows with the files that wait in its queue.
 
 A text of so many lines is split in sessions of 4,000 lines, and a processor takes the lines one by one, each in a
-session of its own, out of a queue with one of the orders. What is told is the processor's time for each line, beside
-that of 1,000 lines in the same order. It runs in memory, if the system has a folder there, so that no disk is waited for.
+session of its own, out of a queue with one of the orders; the last rows are of a queue whose files expire after an
+hour. What is told is the processor's time for each line, beside that of 1,000 lines in the same order. It runs in
+memory, if the system has a folder there, so that no disk is waited for.
 """
 
 import pathlib
@@ -15,8 +16,11 @@ sys.dont_write_bytecode = True
 from flow_texts import flow, processor, queue, source
 from support import DONE, find_program, in_memory, need_status, options, run, work_folder, write_files
 
-ORDERS = {"first in, first out": ["FirstInFirstOut"], "newest first": ["NewestFlowFileFirst"],
-          "oldest first": ["OldestFlowFileFirst"], "by priority": ["PriorityAttribute"]}
+ORDERS = {"first in, first out": {"prioritizers": ["FirstInFirstOut"]},
+          "newest first": {"prioritizers": ["NewestFlowFileFirst"]},
+          "oldest first": {"prioritizers": ["OldestFlowFileFirst"]},
+          "by priority": {"prioritizers": ["PriorityAttribute"]},
+          "first in, first out, expiring": {"prioritizers": ["FirstInFirstOut"], "expiration": 3_600_000}}
 
 # How many lines a session splits at most.
 PART = 4_000
@@ -27,7 +31,7 @@ def text(order):
                  processor("split", "SplitText", {"Line Split Count": "1"}, ["original", "failure"]),
                  processor("note", "UpdateAttribute", {"seen": "yes"}, ["success", "failure"])],
                 [queue("new", "get", "split"),
-                 queue("lines", "split", "note", "splits", prioritizers=ORDERS[order], objects=1_000_000)])
+                 queue("lines", "split", "note", "splits", objects=1_000_000, **ORDERS[order])])
 
 
 def seconds(program, parent, order, count):
