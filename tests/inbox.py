@@ -275,7 +275,8 @@ class Cases:
 
         with self.folder() as folder:
             status, _ = stopped_in(self.program, folder, PATHS, "pread64", 2, append,
-                                   more=["-e", "trace=link,linkat,rename,renameat,renameat2,unlink,unlinkat,pread64", *more])
+                                   more=["-e", "trace=link,linkat,rename,renameat,renameat2,unlink,unlinkat,pread64,fsync",
+                                         *more])
             left = read_files(folder / "in")
             self.to_the_end(folder)
             got = delivered(folder)
@@ -291,13 +292,13 @@ class Cases:
 
     def killed_while_given_back(self):
         # Each is killed before it is made.
-        for call, left in (("rename", {"a"}), ("link", {ASIDE}), ("unlink", {"a", ASIDE})):
+        for call, left in (("rename", {"a"}), ("link", {ASIDE}), ("fsync", {"a", ASIDE}), ("unlink", {"a", ASIDE})):
             status, found = self.put_back(["-e", f"inject={call}:signal=SIGKILL:when=1"])
             need(status == -signal.SIGKILL, f"{call}: status {status}")
             need(set(found) == left | {"b"}, f"{call}: in holds {sorted(found)}")
 
     def refused_while_given_back(self):
-        for call in ("link", "unlink"):
+        for call in ("link", "fsync", "unlink"):
             status, _ = self.put_back(["-e", f"inject={call}:error=EIO:when=1"])
             need(status == INBOX, f"{call}: status {status}")
 

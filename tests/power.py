@@ -315,23 +315,26 @@ def stops(program, parent, top, calls, picks):
     return wrong, tried
 
 
-def recorded(program, parent, body, store=None):
-    """Makes a folder with the files in its inbox, records a run, and goes on with both."""
+def recorded(program, parent, body, store=None, taken=None):
+    """Makes a folder with the files in its inbox, one of them aside as a stop may leave it, records a run, and goes on
+    with both."""
     with new_folder(parent) as folder, new_folder(parent) as start:
         for made in (folder, start):
             put_flow(made)
             write_files(made / "in", FILES)
+            if taken is not None:
+                os.rename(made / "in" / taken, made / "in" / f".flow-taken-0-{taken}")
             if store is not None:
                 write_files(made / "store", store)
         return body(start, record(program, folder))
 
 
-def nothing_is_lost(program, parent, picks, store=None):
+def nothing_is_lost(program, parent, picks, store=None, taken=None):
     def body(start, calls):
         wrong, tried = stops(program, parent, durable_tree(start), calls, picks)
         need(not wrong, f"{len(wrong)} of {tried} stops: {wrong[:3]}")
         return f"{len(calls)} calls, {tried} stops"
-    return recorded(program, parent, body, store)
+    return recorded(program, parent, body, store, taken)
 
 
 def nothing_is_lost_twice(program, parent, picks, rounds):
@@ -395,17 +398,18 @@ def is_sync_of(call, kind):
     path = call[1]
     return {"log": path == b"store/log-1", "snapshot": path == b"store/snapshot-1",
             "claim": path.startswith(b"store/claim-"), "events": path.startswith(b"store/events-"),
-            "store": path == b"store", "out": path == b"out", "part": path.startswith(b"out/.flow-aside-")}[kind]
+            "store": path == b"store", "in": path == b"in", "out": path == b"out",
+            "part": path.startswith(b"out/.flow-aside-")}[kind]
 
 
-def a_loss_is_found(program, parent, picks, kind):
+def a_loss_is_found(program, parent, picks, kind, taken=None):
     def body(start, calls):
         fewer = [call for call in calls if not is_sync_of(call, kind)]
         need(len(fewer) < len(calls), "there was no such sync")
         wrong, tried = stops(program, parent, durable_tree(start), fewer, picks)
         need(wrong, f"none of {tried} stops lost anything")
         return f"{len(wrong)} of {tried} stops lose"
-    return recorded(program, parent, body)
+    return recorded(program, parent, body, taken=taken)
 
 
 def main():
@@ -423,6 +427,8 @@ def main():
                 max(1, given.picks // 10), max(2, given.picks // 2))
     report.case("the power is cut while a store is mended", nothing_is_lost, program, given.folder, given.picks,
                 unmended())
+    report.case("the power is cut while a file gets its name back", nothing_is_lost, program, given.folder, given.picks,
+                None, "a.txt")
     report.case("the power is cut behind a refused sync that left its mark, and nothing is lost",
                 nothing_is_lost_behind_a_mark, program, given.folder, given.picks)
     report.case("without the mark of a refused sync a loss is found", a_loss_is_found_without_it, program,
@@ -432,6 +438,8 @@ def main():
                        ("out", "the outbox's folder")):
         report.case(f"without the syncs of {text} a loss is found", a_loss_is_found, program, given.folder,
                     min(max(given.picks, 4), 20), kind)
+    report.case("without the syncs of the inbox's folder a loss is found", a_loss_is_found, program, given.folder,
+                min(max(given.picks, 4), 20), "in", "a.txt")
     report.end()
 
 

@@ -69,7 +69,7 @@ fn make<R: Files<File = File>>(rt: &R, path: &str) -> io::Result<()> {
     open_folder(rt, parent_of(path))?.sync_all()
 }
 
-fn parent_of(path: &str) -> &str {
+pub(crate) fn parent_of(path: &str) -> &str {
     match path.trim_end_matches('/').rsplit_once('/') {
         Some(("", _)) => "/",
         Some((parent, _)) => parent,

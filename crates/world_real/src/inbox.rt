@@ -229,7 +229,10 @@ fn let_settle<R: Files + Clock>(
 }
 
 /// Gives each of these entries its name back where nothing else has it.
-fn give_all_back<R: Files>(place: &Place<'_, R>, entries: &[String]) -> io::Result<()> {
+fn give_all_back<R: Files<File = File>>(
+    place: &Place<'_, R>,
+    entries: &[String],
+) -> io::Result<()> {
     for entry in entries {
         if let Some(name) = name_before(entry.as_str()) {
             let aside = place.entry(entry.as_str())?;
@@ -391,7 +394,7 @@ fn ends_at(file: &OpenFile, size: u64) -> io::Result<()> {
 
 // The folder isn't synced, which would cost a sync for each file. A removal that a stop takes back
 // makes the file be taken in a second time, which is allowed: it is never lost.
-fn remove<R: Files>(
+fn remove<R: Files<File = File>>(
     place: &Place<'_, R>,
     seen: &mut Option<SeenFile>,
     are_left: &mut bool,

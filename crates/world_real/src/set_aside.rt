@@ -1,9 +1,9 @@
 //! How a file leaves an inbox: it is set aside under a name of ours, looked at, and removed.
-use crate::folder::{Entry, Place, entry_at};
+use crate::folder::{Entry, Place, entry_at, open_folder, parent_of};
 use crate::numbered::read_number;
 use crate::open_file::{FileId, Look};
 use flowfile_record::{NAME_MAX, Name};
-use std::fs;
+use std::fs::{self, File};
 use std::io::{self, ErrorKind};
 use std::rt::Files;
 
@@ -47,7 +47,7 @@ pub(crate) fn may_go<R: Files>(rt: &R, path: &str) -> io::Result<()> {
 ///
 /// Between a look at the name and its removal another file might take it. So the name is changed first: what is looked
 /// at then is what is removed, and who hands in another file meanwhile finds the name free.
-pub(crate) fn take_away<R: Files>(
+pub(crate) fn take_away<R: Files<File = File>>(
     place: &Place<'_, R>,
     are_left: &mut bool,
     name: &Name,
@@ -102,13 +102,13 @@ fn remove_same<R: Files>(rt: &R, path: &str, look: &Look) -> io::Result<()> {
 }
 
 /// Gives the file at a path aside its name back, at another path. It stays aside where anything else stands there.
-pub(crate) fn give_back<R: Files>(rt: &R, aside: &str, path: &str) -> io::Result<()> {
+pub(crate) fn give_back<R: Files<File = File>>(rt: &R, aside: &str, path: &str) -> io::Result<()> {
     match fs::hard_link(rt, aside, path) {
-        Ok(()) => fs::remove_file(rt, aside),
+        Ok(()) => drop_name(rt, aside),
         Err(error) if error.kind() == ErrorKind::AlreadyExists => {
             if is_same(rt, aside, path)? {
                 // A stop came behind the link.
-                return fs::remove_file(rt, aside);
+                return drop_name(rt, aside);
             }
             Ok(())
         }
@@ -117,6 +117,13 @@ pub(crate) fn give_back<R: Files>(rt: &R, aside: &str, path: &str) -> io::Result
         Err(_) if is_free(rt, path)? => fs::rename(rt, aside, path),
         Err(_) => Ok(()),
     }
+}
+
+/// Removes one of the two names that a file has in a folder. The other one is new, so the folder is synced before: a
+/// power cut must not keep the removal and undo the link.
+fn drop_name<R: Files<File = File>>(rt: &R, path: &str) -> io::Result<()> {
+    open_folder(rt, parent_of(path))?.sync_all()?;
+    fs::remove_file(rt, path)
 }
 
 /// Whether two paths are names of one file.
