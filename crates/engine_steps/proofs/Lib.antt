@@ -16,6 +16,7 @@ pub mod NextJob
 pub mod Picked
 pub mod Readied
 pub mod Reread
+pub mod RunsBehind
 pub mod RunsOn
 pub mod Short
 pub mod Stands

@@ -63,8 +63,8 @@ IsUnjournaled old new =
     (new.journal ≡ old.journal) × IsUncounted old new × (kept_by new.store ≡ kept_by old.store)
 
 -- .. but that the session may stand in it, not acknowledged
-abbrev pub IsCutOff : Done → (old new : EngineState) → Type 0
-IsCutOff done old new =
+abbrev pub SessionIsUnacknowledged : Done → (old new : EngineState) → Type 0
+SessionIsUnacknowledged done old new =
     (new.journal ≡ old.journal ++ record { step = step_done done; acked = None } ∷ []) × IsUncounted old new
 
 -- What a commit leaves, at a disk whose moment is then this one. Where the disk failed the journal may have the session,
@@ -72,14 +72,14 @@ IsCutOff done old new =
 abbrev pub IsJournaled : Result Committed EngineError → Done → (now : ℕ) → (old new : EngineState) → Type 0
 IsJournaled (Ok (Acked entry moment)) done now old new =
     (entry ≡ length old.journal) × (moment ≡ now) × SessionIsAcknowledged done moment old new
-IsJournaled (Err Disk) done now old new = IsUnjournaled old new ⊎ IsCutOff done old new
+IsJournaled (Err Disk) done now old new = IsUnjournaled old new ⊎ SessionIsUnacknowledged done old new
 IsJournaled (Err Inbox) done now old new = IsUnjournaled old new ⊎ SessionIsAcknowledged done now old new
 IsJournaled _ done now old new = IsUnjournaled old new
 
 -- the same of work whose job stands
 abbrev pub IsEntered : Result ℕ EngineError → Done → (now : ℕ) → (old new : EngineState) → Type 0
 IsEntered (Ok moment) done now old new = (moment ≡ now) × SessionIsAcknowledged done moment old new
-IsEntered (Err Disk) done now old new = IsUnjournaled old new ⊎ IsCutOff done old new
+IsEntered (Err Disk) done now old new = IsUnjournaled old new ⊎ SessionIsUnacknowledged done old new
 IsEntered (Err Inbox) done now old new = SessionIsAcknowledged done now old new
 IsEntered _ done now old new = IsUnjournaled old new
 

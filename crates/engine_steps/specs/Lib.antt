@@ -3,12 +3,16 @@ pub mod Closing
 pub mod Commit
 pub mod Committing
 pub mod Engine
+pub mod Entering
 pub mod Errors
 pub mod Handing
+pub mod HandingParts
 pub mod Journal
+pub mod Leaving
 pub mod NextJob
 pub mod Opening
 pub mod Ready
 pub mod Running
 pub mod Showing
 pub mod Tending
+pub mod TendingParts

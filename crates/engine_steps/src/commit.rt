@@ -16,6 +16,8 @@ ghost use Rattle.engine_steps.specs.Committing.{HasWritten, IsAtWorkWithQueues, 
 ghost use Rattle.engine_session.specs.Done.{WorkIsDone, step_done};
 ghost use Rattle.engine_session.specs.Sending.{sending_of};
 ghost use Rattle.engine_steps.specs.Engine.{AreTakeable, IsOfSameRun};
+ghost use Rattle.engine_steps.specs.Entering.{EntersRun, EntersSession, FailsToReread, IsReread, MayCommitChange, NotesStep};
+ghost use Rattle.engine_steps.specs.Leaving.{LeavesEngine, MayGoOn};
 ghost use Rattle.engine_steps.specs.Errors.{CountsEachFault, HasCause, IsReadBy, RefusesToCommit};
 ghost use Rattle.engine_steps.specs.Journal.{journaled};
 ghost use Rattle.engine_steps.specs.Ready.{EngineIsReady, IsUsableWith};
@@ -101,48 +103,22 @@ impl Engine<'_> {
         outbox: &mut O,
         done: Done,
     ) -> Result<Committed, EngineError>
-        requires ready { EngineIsReady D.tells D.held D.moment D.images self.old disk.old }
-        requires works { self.old.failed ≡ false }
-        requires left { IsTrue I.tells → AreTakeable (I.left inbox.old) self.old.listing.names }
+        requires may { MayGoOn D.tells D.held D.moment D.images I.tells (I.left inbox.old) self.old disk.old }
         requires done { WorkIsDone self.old.flow (kept_by self.old.store).store done }
-        ensures journal { IsJournaled result done (D.moment disk.new) self.old self.new }
-        ensures inbox { IsTrue I.tells
-            → IsInboxBehind result done.given.file (I.left inbox.old) (I.left inbox.new) }
-        ensures outbox { IsTrue O.tells → IsOutboxBehind result (sending_of done.outcome.sent done.sources)
-            (outgoing O.standing O.puts outbox.old) (outgoing O.standing O.puts outbox.new) }
-        ensures stands { IsLeftOut result self.old self.new
-            ⊎ StandsSo D.tells I.tells O.tells self.old (content_in (D.held disk.old))
-            (I.left inbox.old) (O.standing outbox.old) done }
-        ensures changed { result ≡ Ok Committed.Changed
-            → StandsOtherwise D.tells I.tells O.tells self.old (content_in (D.held disk.old))
-            (I.left inbox.old) (O.standing outbox.old) done }
-        ensures untouched { result ≡ Ok Committed.Changed → (self.new ≡ self.old)
-            × Stays D.held D.moment D.images disk.old disk.new × (I.left inbox.new ≡ I.left inbox.old)
-            × (outgoing O.standing O.puts outbox.new ≡ outgoing O.standing O.puts outbox.old) }
-        ensures goes_on { (IsErrOf result EngineError.Disk → ⊥) → self.new.failed ≡ false
-            → (IsErrOf result EngineError.Inbox → self.new.journal ≡ self.old.journal)
-            → IsTrue D.tells → IsTrue I.tells → IsTrue O.tells
-            → (opened : Machine) (first : D) (start : Start) (time : ℕ) → time ≤ done.given.moment
-            → IsRunning D.moment D.images self.old opened first start time disk.old (I.left inbox.old)
-            (outgoing O.standing O.puts outbox.old)
-            → IsRunning D.moment D.images self.new opened first start done.given.moment disk.new (I.left inbox.new)
+        ensures entered { MakesEntry result done (D.moment disk.new) I.tells O.tells self.old self.new
+            (I.left inbox.old) (I.left inbox.new) (outgoing O.standing O.puts outbox.old)
             (outgoing O.standing O.puts outbox.new) }
-        ensures stopped { (error : TheError) → IsErrOf result error → IsTrue D.tells → IsTrue I.tells → IsTrue O.tells
-            → (opened : Machine) (first : D) (start : Start) (time : ℕ) → time ≤ done.given.moment
-            → IsRunning D.moment D.images self.old opened first start time disk.old (I.left inbox.old)
-            (outgoing O.standing O.puts outbox.old)
-            → Stops error D.tells D.held D.moment D.images self.new opened first start done.given.moment disk.new
-            (I.left inbox.new) (outgoing O.standing O.puts outbox.new) }
-        ensures ready { (IsErrOf result EngineError.Disk → ⊥)
-            → EngineIsReady D.tells D.held D.moment D.images self.new disk.new }
-        ensures left { IsTrue I.tells → AreTakeable (I.left inbox.new) self.new.listing.names }
-        ensures works { IsErrOf result EngineError.MustReopen → ⊥ }
-        ensures failed { self.new.failed ≡ true → IsErrOf result EngineError.Outbox }
-        ensures same { IsOfSameRun self.old self.new }
-        ensures log { self.new.store.log.number ≡ self.old.store.log.number }
-        ensures alone { WritesLog D.moment D.images self.old.store.log.number disk.old disk.new }
-        ensures why { HasCause result self.old.flow D.tells D.held D.moment D.images self.old.store.lot self.old.most
-            self.new.journal self.new.store disk.new }
+        ensures stands { TakesWhatStands result D.tells I.tells O.tells D.held D.moment
+            D.images done self.old self.new disk.old disk.new (I.left inbox.old)
+            (outgoing O.standing O.puts outbox.old) (outgoing O.standing O.puts outbox.new) }
+        ensures inbox { result ≡ Ok Committed.Changed → I.left inbox.new ≡ I.left inbox.old }
+        ensures run { IsTrue D.tells → IsTrue I.tells → IsTrue O.tells
+            → EntersRun result D.tells D.held D.moment D.images done.given.moment self.old self.new disk.old disk.new
+            (I.left inbox.old) (I.left inbox.new) (outgoing O.standing O.puts outbox.old)
+            (outgoing O.standing O.puts outbox.new) }
+        ensures leaves { LeavesEngine result D.tells D.held D.moment D.images I.tells (I.left inbox.new)
+            self.old self.new disk.new }
+        ensures alone { CommitsAlone D.moment D.images self.old self.new disk.old disk.new }
         ensures cause { CountsEachFault result (D.faults disk.old) (D.faults disk.new)
             (I.faults inbox.old) (I.faults inbox.new) (O.faults outbox.old) (O.faults outbox.new) }
     {
@@ -174,15 +150,11 @@ impl Engine<'_> {
         ensures otherwise { result ≡ Ok false
             → StandsOtherwise D.tells I.tells O.tells self.old (content_in (D.held disk.old))
             (I.left inbox.old) (O.standing outbox.old) done.now }
-        ensures store { IsReadBy result self.old.store self.new.store }
-        ensures rest { self.new ≡ record self.old { store = self.new.store } }
-        ensures stays { Stays D.held D.moment D.images disk.old disk.new }
-        ensures left { I.left inbox.new ≡ I.left inbox.old }
-        ensures outbox { outgoing O.standing O.puts outbox.new ≡ outgoing O.standing O.puts outbox.old }
-        ensures unlimited { (limit : TheLimit) → IsErrOf result (EngineError.Limit limit) → ⊥ }
-        ensures works { IsErrOf result EngineError.MustReopen → ⊥ }
-        ensures damaged { (damage : TheDamage) → IsErrOf result (EngineError.Damaged damage)
-            → IsReadDamaged self.old.flow D.tells D.held D.moment D.images self.old.store.lot disk.new }
+        ensures reread { IsReread result D.held D.moment D.images self.old self.new disk.old disk.new
+            (I.left inbox.old) (I.left inbox.new) (outgoing O.standing O.puts outbox.old)
+            (outgoing O.standing O.puts outbox.new) }
+        ensures refusal { FailsToReread result self.old.flow D.tells D.held D.moment D.images self.old.store.lot
+            disk.new }
         ensures cause { CountsEachFault result (D.faults disk.old) (D.faults disk.new)
             (I.faults inbox.old) (I.faults inbox.new) (O.faults outbox.old) (O.faults outbox.new) }
     {
@@ -203,38 +175,20 @@ impl Engine<'_> {
         outbox: &mut O,
         done: Done,
     ) -> Result<u64, EngineError>
-        requires ready { EngineIsReady D.tells D.held D.moment D.images self.old disk.old }
-        requires works { self.old.failed ≡ false }
-        requires left { IsTrue I.tells → AreTakeable (I.left inbox.old) self.old.listing.names }
+        requires may { MayGoOn D.tells D.held D.moment D.images I.tells (I.left inbox.old) self.old disk.old }
         requires stands { StandsSo D.tells I.tells O.tells self.old
             (content_in (D.held disk.old)) (I.left inbox.old) (O.standing outbox.old) done }
-        ensures journal { IsEntered result done (D.moment disk.new) self.old self.new }
-        ensures inbox { IsTrue I.tells → IsInboxLeft result done.given.file (I.left inbox.old) (I.left inbox.new) }
-        ensures outbox { IsTrue O.tells → IsOutboxLeft result (sending_of done.outcome.sent done.sources)
-            (outgoing O.standing O.puts outbox.old) (outgoing O.standing O.puts outbox.new) }
-        ensures goes_on { (IsErrOf result EngineError.Disk → ⊥) → self.new.failed ≡ false
-            → (IsErrOf result EngineError.Inbox → ⊥) → IsTrue D.tells → IsTrue I.tells → IsTrue O.tells
-            → (opened : Machine) (first : D) (start : Start) (time : ℕ) → time ≤ done.given.moment
-            → IsRunning D.moment D.images self.old opened first start time disk.old (I.left inbox.old)
-            (outgoing O.standing O.puts outbox.old)
-            → IsRunning D.moment D.images self.new opened first start done.given.moment disk.new (I.left inbox.new)
+        ensures entered { EntersSession result done (D.moment disk.new) I.tells O.tells self.old self.new
+            (I.left inbox.old) (I.left inbox.new) (outgoing O.standing O.puts outbox.old)
             (outgoing O.standing O.puts outbox.new) }
-        ensures stopped { (error : TheError) → IsErrOf result error → IsTrue D.tells → IsTrue I.tells → IsTrue O.tells
-            → (opened : Machine) (first : D) (start : Start) (time : ℕ) → time ≤ done.given.moment
-            → IsRunning D.moment D.images self.old opened first start time disk.old (I.left inbox.old)
-            (outgoing O.standing O.puts outbox.old)
-            → Stops error D.tells D.held D.moment D.images self.new opened first start done.given.moment disk.new
-            (I.left inbox.new) (outgoing O.standing O.puts outbox.new) }
-        ensures ready { (IsErrOf result EngineError.Disk → ⊥)
-            → EngineIsReady D.tells D.held D.moment D.images self.new disk.new }
-        ensures left { IsTrue I.tells → AreTakeable (I.left inbox.new) self.new.listing.names }
-        ensures works { IsErrOf result EngineError.MustReopen → ⊥ }
-        ensures failed { (self.new.failed ≡ true) ↔ IsErrOf result EngineError.Outbox }
-        ensures same { IsOfSameRun self.old self.new }
-        ensures log { self.new.store.log.number ≡ self.old.store.log.number }
-        ensures alone { WritesLog D.moment D.images self.old.store.log.number disk.old disk.new }
-        ensures why { HasCause result self.old.flow D.tells D.held D.moment D.images self.old.store.lot self.old.most
-            self.new.journal self.new.store disk.new }
+        ensures run { IsTrue D.tells → IsTrue I.tells → IsTrue O.tells
+            → EntersRun result D.tells D.held D.moment D.images done.given.moment self.old self.new disk.old disk.new
+            (I.left inbox.old) (I.left inbox.new) (outgoing O.standing O.puts outbox.old)
+            (outgoing O.standing O.puts outbox.new) }
+        ensures leaves { LeavesEngine result D.tells D.held D.moment D.images I.tells (I.left inbox.new)
+            self.old self.new disk.new }
+        ensures reopens { IsErrOf result EngineError.Outbox → self.new.failed ≡ true }
+        ensures alone { CommitsAlone D.moment D.images self.old self.new disk.old disk.new }
         ensures undamaged { (damage : TheDamage) → IsErrOf result (EngineError.Damaged damage) → ⊥ }
         ensures cause { CountsEachFault result (D.faults disk.old) (D.faults disk.new)
             (I.faults inbox.old) (I.faults inbox.new) (O.faults outbox.old) (O.faults outbox.new) }
@@ -271,23 +225,11 @@ impl Engine<'_> {
     ) -> Result<u64, EngineError>
         requires work { (flow : TheFlow)
             × IsAtWorkWithQueues flow D.tells D.held D.moment D.images self.old.store self.old.queues disk.old }
-        requires may { MayChange (kept_by self.old.store) changed.settled }
-        requires live { HasLiveContents self.old.store changed.settled }
-        requires digests { IsTrue D.tells → HaveDigests (content_in (D.held disk.old)) changed.settled.placed }
-        requires gone { are_active_in (kept_by self.old.store).files changed.connection changed.settled.gone ≡ true }
+        requires change { MayCommitChange D.tells D.held self.old.store changed.connection changed disk.old }
         ensures written { HasWritten result D.tells D.held D.moment D.images O.tells self.old.store self.new.store
             self.old.queues self.new.queues changed (outgoing O.standing O.puts outbox.old)
             (outgoing O.standing O.puts outbox.new) disk.old disk.new }
-        ensures journal { self.new.journal ≡ journaled result step self.old.journal }
-        ensures rest { self.new ≡ record self.old {
-          store = self.new.store;
-          queues = self.new.queues;
-          journal = self.new.journal;
-          failed = self.new.failed;
-          tended = self.new.tended;
-        } }
-        ensures failed { (self.new.failed ≡ true) ↔ ((self.old.failed ≡ true) ⊎ IsErrOf result EngineError.Outbox) }
-        ensures tended { (self.new.tended ≡ None) ⊎ (IsErrOf result EngineError.Memory × (self.new ≡ self.old)) }
+        ensures noted { NotesStep result step self.old self.new }
         ensures alone { WritesLog D.moment D.images self.old.store.log.number disk.old disk.new }
         ensures disk_cause { CountsFaults (D.faults disk.old) (D.faults disk.new) (IsErrOf result EngineError.Disk) }
         ensures outbox_cause { CountsFaults (O.faults outbox.old) (O.faults outbox.new)

@@ -32,6 +32,8 @@ ghost use Rattle.engine_steps.specs.Tending.{GoesTo, HasExpired, HasTended, IsCh
 ghost use Rattle.run_law.specs.Work.{IsAtWork, IsNoEarlier, IsRefused, IsShortOn, WritesLog};
 ghost use Rattle.engine_steps.specs.declared.error.EngineError.{EngineError as TheError};
 ghost use Rattle.run_law.specs.Puts.{Outgoing, Start};
+ghost use Rattle.engine_steps.specs.Committing.{IsAtWorkWithQueues};
+ghost use Rattle.engine_steps.specs.TendingParts.{CommitsExpiry, LeavesTended, LetsExpiredGo, RefusesExpiry, RunsOnTended, StepIsTaken, StoreRefusesExpiry};
 
 use crate::EngineError;
 use crate::engine::Engine;
@@ -59,40 +61,13 @@ impl Engine<'_> {
             done ≡ is_some (due_expiry self.old.flow (queue_seen self.old.queues) moment)) }
         ensures wanted { (limit : TheLimit) → IsErrOf result (EngineError.Limit limit)
             → is_some (due_expiry self.old.flow (queue_seen self.old.queues) moment) ≡ true }
-        ensures goes_on { (IsErrOf result EngineError.Disk → ⊥) → IsTrue D.tells → (opened : Machine) (first : D)
-            (start : Start) (time : ℕ) (left : List NamedFile) (out : Outgoing) → time ≤ moment
-            → IsRunning D.moment D.images self.old opened first start time disk.old left out
-            → IsRunning D.moment D.images self.new opened first start moment disk.new left out }
-        ensures idle { (IsErrOf result EngineError.Disk → ⊥) → (result ≡ Ok true → ⊥) → IsTrue D.tells
-            → (opened : Machine) (first : D) (start : Start) (time : ℕ) (left : List NamedFile)
-            (out : Outgoing)
-            → IsRunning D.moment D.images self.old opened first start time disk.old left out
-            → IsRunning D.moment D.images self.new opened first start time disk.new left out }
-        ensures stopped { (error : TheError) → IsErrOf result error → IsTrue D.tells → (opened : Machine) (first : D)
-            (start : Start) (time : ℕ) (left : List NamedFile) (out : Outgoing) → time ≤ moment
-            → IsRunning D.moment D.images self.old opened first start time disk.old left out
-            → Stops error D.tells D.held D.moment D.images self.new opened first start moment disk.new left out }
-        ensures expired { result ≡ Ok true → HasExpired moment (Some (D.moment disk.new)) self.old self.new
-            × (self.new.since_reclaim ≡ counted_on self.old.since_reclaim) }
-        ensures cut_off { IsErrOf result EngineError.Disk → HasExpired moment None self.old self.new }
-        ensures kept { (error : TheError) → IsErrOf result error → (error ≡ EngineError.Disk → ⊥)
-            → (self.new.journal ≡ self.old.journal) × (kept_by self.new.store ≡ kept_by self.old.store) }
-        ensures since { (error : TheError) → IsErrOf result error → self.new.since_reclaim ≡ self.old.since_reclaim }
-        ensures none { result ≡ Ok false → (self.new ≡ self.old) × (disk.new ≡ disk.old) }
-        ensures ready { (IsErrOf result EngineError.Disk → ⊥)
-            → EngineIsReady D.tells D.held D.moment D.images self.new disk.new }
-        ensures names { (self.new.listing ≡ self.old.listing) × (self.new.last ≡ self.old.last)
-            × (self.new.failed ≡ self.old.failed) }
-        ensures same { IsOfSameRun self.old self.new }
+        ensures lets_go { LetsExpiredGo result moment (D.moment disk.new) self.old self.new disk.old disk.new }
+        ensures run { IsTrue D.tells → RunsOnTended result true D.tells D.held D.moment D.images moment
+            self.old self.new disk.old disk.new }
+        ensures leaves { LeavesTended result D.tells D.held D.moment D.images D.faults self.old self.new
+            disk.old disk.new }
         ensures log { self.new.store.log.number ≡ self.old.store.log.number }
-        ensures alone { WritesLog D.moment D.images self.old.store.log.number disk.old disk.new }
-        ensures refused { (limit : TheLimit) → IsErrOf result (EngineError.Limit limit)
-            → IsRefused self.old.flow D.tells D.held D.moment D.images limit self.new.store disk.new
-            ⊎ (IsJournalFull limit self.old.most self.new.journal
-            × IsAtWork self.old.flow D.tells D.held D.moment D.images self.new.store disk.new) }
-        ensures kinds { IfErr result (λ error. (error ≡ EngineError.Disk) ⊎ (error ≡ EngineError.Memory)
-            ⊎ ((limit : TheLimit) × (error ≡ EngineError.Limit limit))) }
-        ensures cause { CountsFaults (D.faults disk.old) (D.faults disk.new) (IsErrOf result EngineError.Disk) }
+        ensures refusal { RefusesExpiry result D.tells D.held D.moment D.images self.old self.new disk.new }
     {
         holds_its_state(&self.store, disk);
         what_is_kept_is_seen();
@@ -148,36 +123,18 @@ fn expire<D: Disk>(
     expiry: Expiry,
 ) -> Result<u64, EngineError>
     requires sound { IsSound flow.now }
-    requires work { IsAtWork flow.now D.tells D.held D.moment D.images store.old disk.old }
-    requires queues { AreQueuesOf flow.now (kept_by store.old) queues.old }
+    requires work { IsAtWorkWithQueues flow.now D.tells D.held D.moment D.images store.old queues.old disk.old }
     requires due { due_expiry flow.now (queue_seen queues.old) moment ≡ Some (expiry.connection, expiry.numbers) }
-    ensures done { OnOk result (IsTrue D.tells → (before : Machine)
+    ensures step { IsTrue D.tells → (before : Machine)
         → InEach (D.images disk.old (D.moment disk.old)) (StandsFor flow.now store.old.lot before)
-        → StepIsDone flow.now D.moment D.images store.old.lot before (Expire expiry.connection expiry.numbers moment)
-        disk.old disk.new) }
-    ensures cut_off { IsErrOf result EngineError.Disk → IsTrue D.tells → (before : Machine)
-        → InEach (D.images disk.old (D.moment disk.old)) (StandsFor flow.now store.old.lot before)
-        → IsCutOff flow.now D.moment D.images store.old.lot before (Expire expiry.connection expiry.numbers moment)
+        → StepIsTaken result flow.now D.tells D.held D.moment D.images store.old.lot before
+        (Expire expiry.connection expiry.numbers moment) disk.old disk.new }
+    ensures commits { CommitsExpiry result D.moment D.images store.old store.new queues.old queues.new
         disk.old disk.new }
-    ensures limited { (limit : TheLimit) → IsErrOf result (EngineError.Limit limit) → IsTrue D.tells
-        → (before : Machine)
-        → InEach (D.images disk.old (D.moment disk.old)) (StandsFor flow.now store.old.lot before)
-        → GoesTo flow.now before (Expire expiry.connection expiry.numbers moment) (λ after.
-        StandsFor flow.now store.old.lot before (D.held disk.old)
-        × IsAtStoreLimit D.tells D.held D.moment D.images limit before after disk.old) }
-    // Any error but the disk's comes before the commit.
-    ensures unwritten { (error : TheError) → IsErrOf result error → (error ≡ EngineError.Disk → ⊥)
-        → (disk.new ≡ disk.old) × (store.new ≡ store.old) × (queues.new ≡ queues.old) }
-    ensures moment { IfOk result (λ moment. moment ≡ D.moment disk.new) }
-    ensures work { OnOk result (IsAtWork flow.now D.tells D.held D.moment D.images store.new disk.new) }
-    ensures queues { OnOk result (AreQueuesOf flow.now (kept_by store.new) queues.new) }
-    ensures same { (store.new.lot ≡ store.old.lot) × (store.new.log.number ≡ store.old.log.number) }
-    ensures alone { WritesLog D.moment D.images store.old.log.number disk.old disk.new }
-    ensures refused { (limit : TheLimit) → IsErrOf result (EngineError.Limit limit)
-        → IsRefused flow.now D.tells D.held D.moment D.images limit store.new disk.new }
-    ensures kinds { IfErr result (λ error. (error ≡ EngineError.Disk) ⊎ (error ≡ EngineError.Memory)
-        ⊎ ((limit : TheLimit) × (error ≡ EngineError.Limit limit))) }
-    ensures cause { CountsFaults (D.faults disk.old) (D.faults disk.new) (IsErrOf result EngineError.Disk) }
+    ensures work { OnOk result (IsAtWorkWithQueues flow.now D.tells D.held D.moment D.images store.new queues.new
+        disk.new) }
+    ensures refusal { StoreRefusesExpiry result flow.now D.tells D.held D.moment D.images D.faults store.new
+        disk.old disk.new }
 {
     holds_its_state(store, disk);
     held_contents_are_read();

@@ -21,6 +21,7 @@ ghost use Rattle.engine_steps.specs.NextJob.{IsNextJob};
 ghost use Rattle.engine_steps.specs.Ready.{EngineIsReady, IsUsableWith};
 ghost use Rattle.run_law.specs.Work.{IsAtWork, IsReadDamaged};
 ghost use Rattle.run_law.specs.Puts.{outgoing};
+ghost use Rattle.engine_steps.specs.HandingParts.{AsksInbox, AsksOutbox, LeavesAsRead, ReadsContents};
 
 use crate::EngineError;
 use crate::engine::Engine;
@@ -86,17 +87,10 @@ impl Engine<'_> {
         ensures job { IfOk result (IsNextJob D.tells I.tells O.tells self.old
             (content_in (D.held disk.old)) (I.left inbox.old) (O.standing outbox.old) moment) }
         ensures may { IfOk result (MayWorkOn self.old.flow (kept_by self.old.store).store) }
-        ensures store { IsReadBy result self.old.store self.new.store }
         ensures rest { self.new ≡ record self.old { store = self.new.store } }
-        ensures stays { Stays D.held D.moment D.images disk.old disk.new }
-        ensures left { I.left inbox.new ≡ I.left inbox.old }
-        ensures outbox { outgoing O.standing O.puts outbox.new ≡ outgoing O.standing O.puts outbox.old }
-        ensures unlimited { (limit : TheLimit) → IsErrOf result (EngineError.Limit limit) → ⊥ }
-        ensures works { IsErrOf result EngineError.MustReopen → ⊥ }
-        ensures damaged { (damage : TheDamage) → IsErrOf result (EngineError.Damaged damage)
-            → IsReadDamaged self.old.flow D.tells D.held D.moment D.images self.old.store.lot disk.new }
-        ensures cause { CountsEachFault result (D.faults disk.old) (D.faults disk.new)
-            (I.faults inbox.old) (I.faults inbox.new) (O.faults outbox.old) (O.faults outbox.new) }
+        ensures leaves { LeavesAsRead result D.tells D.held D.moment D.images D.faults I.left I.faults
+            O.standing O.puts O.faults self.old.store self.new.store disk.old disk.new inbox.old inbox.new
+            outbox.old outbox.new }
     {
         holds_its_state(&self.store, disk);
         what_is_kept_is_seen();
@@ -121,17 +115,8 @@ fn hand<D: Disk, I: Inbox, O: Outbox>(
     ensures handed { IfOk result (JobIsHanded (kept_by store.old) moment choice) }
     ensures told { IfOk result (IsHandedAs D.tells I.tells O.tells (kept_by store.old) (content_in (D.held disk.old))
         (I.left inbox.old) (O.standing outbox.old) choice) }
-    ensures store { IsReadBy result store.old store.new }
-    ensures stays { Stays D.held D.moment D.images disk.old disk.new }
-    ensures left { I.left inbox.new ≡ I.left inbox.old }
-    ensures outbox { outgoing O.standing O.puts outbox.new ≡ outgoing O.standing O.puts outbox.old }
-    ensures unlimited { (limit : TheLimit) → IsErrOf result (EngineError.Limit limit) → ⊥ }
-    ensures works { IsErrOf result EngineError.MustReopen → ⊥ }
-    ensures damaged { (damage : TheDamage) → IsErrOf result (EngineError.Damaged damage) → (flow : TheFlow)
-        → IsAtWork flow D.tells D.held D.moment D.images store.old disk.old
-        → IsReadDamaged flow D.tells D.held D.moment D.images store.old.lot disk.new }
-    ensures cause { CountsEachFault result (D.faults disk.old) (D.faults disk.new)
-        (I.faults inbox.old) (I.faults inbox.new) (O.faults outbox.old) (O.faults outbox.new) }
+    ensures leaves { LeavesAsRead result D.tells D.held D.moment D.images D.faults I.left I.faults
+        O.standing O.puts O.faults store.old store.new disk.old disk.new inbox.old inbox.new outbox.old outbox.new }
 {
     let Choice { processor, taking } = choice;
     match taking {
@@ -195,9 +180,8 @@ fn receive<I: Inbox>(alloc: Global, inbox: &mut I, name: &Name) -> Result<Bytes,
     requires { IsTrue I.tells → MayBeReceived (I.left inbox.old) (Receive name.now) }
     ensures bytes { IfOk result (λ bytes. IsTrue I.tells → bytes_of (I.left inbox.old) name.now ≡ Some bytes) }
     ensures most { IfOk result (λ bytes. length bytes ≤ CONTENT_MAX) }
-    ensures left { I.left inbox.new ≡ I.left inbox.old }
+    ensures inbox { AsksInbox result I.left I.faults inbox.old inbox.new }
     ensures kinds { IfErr result (λ error. (error ≡ EngineError.Inbox) ⊎ (error ≡ EngineError.Memory)) }
-    ensures cause { CountsFaults (I.faults inbox.old) (I.faults inbox.new) (IsErrOf result EngineError.Inbox) }
 {
     let mut bytes = Vec::new(alloc);
     inbox.read(name, &mut bytes)?;
@@ -222,17 +206,11 @@ fn hand_files<D: Disk, O: Outbox>(
     ensures told { IfOk result (λ job. (in_tells : Bool) (left : List NamedFile)
         → IsHandedAs D.tells in_tells O.tells (kept_by store.old) (content_in (D.held disk.old)) left
         (O.standing outbox.old) (record { processor = processor; taking = Files connection numbers }) job) }
-    ensures store { IsReadBy result store.old store.new }
-    ensures stays { Stays D.held D.moment D.images disk.old disk.new }
-    ensures outbox { outgoing O.standing O.puts outbox.new ≡ outgoing O.standing O.puts outbox.old }
+    ensures contents { ReadsContents result D.tells D.held D.moment D.images D.faults store.old store.new
+        disk.old disk.new }
+    ensures outbox { AsksOutbox result O.standing O.puts O.faults outbox.old outbox.new }
     ensures kinds { IfErr result (λ error. (error ≡ EngineError.Disk) ⊎ (error ≡ EngineError.Memory)
         ⊎ (error ≡ EngineError.Outbox) ⊎ ((damage : TheDamage) × (error ≡ EngineError.Damaged damage))) }
-    ensures damaged { (damage : TheDamage) → IsErrOf result (EngineError.Damaged damage) → (flow : TheFlow)
-        → IsAtWork flow D.tells D.held D.moment D.images store.old disk.old
-        → IsReadDamaged flow D.tells D.held D.moment D.images store.old.lot disk.new }
-    ensures disk_cause { CountsFaults (D.faults disk.old) (D.faults disk.new) (IsErrOf result EngineError.Disk) }
-    ensures outbox_cause { CountsFaults (O.faults outbox.old) (O.faults outbox.new)
-        (IsErrOf result EngineError.Outbox) }
 {
     let files = live_files(alloc, store, numbers.as_slice())?;
     let contents = read_contents(alloc, store, disk, files.as_slice())?;
@@ -263,9 +241,8 @@ fn is_there<O: Outbox>(
     ensures there { IfOk result (λ there. IsTrue O.tells → there ≡ option_map_or (λ file.
         option_map_or (λ name. is_some (O.standing outbox.old name)) (name_in file.attributes) false)
         (slice_get files.now 0) false) }
-    ensures outbox { outgoing O.standing O.puts outbox.new ≡ outgoing O.standing O.puts outbox.old }
+    ensures outbox { AsksOutbox result O.standing O.puts O.faults outbox.old outbox.new }
     ensures kinds { IfErr result (λ error. (error ≡ EngineError.Outbox) ⊎ (error ≡ EngineError.Memory)) }
-    ensures cause { CountsFaults (O.faults outbox.old) (O.faults outbox.new) (IsErrOf result EngineError.Outbox) }
 {
     match files.first() {
         Some(file) => has_file(alloc, outbox, &file.attributes),
@@ -281,9 +258,8 @@ fn has_file<O: Outbox>(
 ) -> Result<bool, EngineError>
     ensures there { IfOk result (λ there. IsTrue O.tells
         → there ≡ option_map_or (λ name. is_some (O.standing outbox.old name)) (name_in attributes.now) false) }
-    ensures outbox { outgoing O.standing O.puts outbox.new ≡ outgoing O.standing O.puts outbox.old }
+    ensures outbox { AsksOutbox result O.standing O.puts O.faults outbox.old outbox.new }
     ensures kinds { IfErr result (λ error. (error ≡ EngineError.Outbox) ⊎ (error ≡ EngineError.Memory)) }
-    ensures cause { CountsFaults (O.faults outbox.old) (O.faults outbox.new) (IsErrOf result EngineError.Outbox) }
 {
     let Some(name) = attributes.get("filename") else {
         return Ok(false);

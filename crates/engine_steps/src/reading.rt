@@ -11,6 +11,7 @@ ghost use Rattle.store_core.specs.Store.{live_in};
 ghost use Rattle.engine_steps.specs.Errors.{IsReadBy};
 ghost use Rattle.engine_steps.specs.Handing.{HaveRead};
 ghost use Rattle.run_law.specs.Work.{IsAtWork, IsReadDamaged};
+ghost use Rattle.engine_steps.specs.HandingParts.{ReadsContents};
 
 use crate::EngineError;
 use disk_trait::Disk;
@@ -32,14 +33,10 @@ pub(crate) fn read_contents<D: Disk>(
     ensures read { IfOk result (HaveRead (files_fit_a_content files.now) files.now) }
     ensures told { IfOk result (λ contents. IsTrue D.tells
         → AreReadOf (content_in (D.held disk.old)) (files_fit_a_content files.now) files.now contents) }
-    ensures store { IsReadBy result store.old store.new }
-    ensures stays { Stays D.held D.moment D.images disk.old disk.new }
+    ensures contents { ReadsContents result D.tells D.held D.moment D.images D.faults store.old store.new
+        disk.old disk.new }
     ensures kinds { IfErr result (λ error. (error ≡ EngineError.Disk) ⊎ (error ≡ EngineError.Memory)
         ⊎ ((damage : TheDamage) × (error ≡ EngineError.Damaged damage))) }
-    ensures damaged { (damage : TheDamage) → IsErrOf result (EngineError.Damaged damage) → (flow : TheFlow)
-        → IsAtWork flow D.tells D.held D.moment D.images store.old disk.old
-        → IsReadDamaged flow D.tells D.held D.moment D.images store.old.lot disk.new }
-    ensures cause { CountsFaults (D.faults disk.old) (D.faults disk.new) (IsErrOf result EngineError.Disk) }
 {
     let fits = fit_a_content(files);
     let mut contents = ReadList::new(alloc);
@@ -76,14 +73,10 @@ fn read_next<D: Disk>(
     ensures told { IfOk result (λ read. IsTrue D.tells
         → AreReadOf (content_in (D.held disk.old)) fits files.now contents.now
         → AreReadOf (content_in (D.held disk.old)) fits (files.now ++ file.now ∷ []) (contents.now ++ read ∷ [])) }
-    ensures store { IsReadBy result store.old store.new }
-    ensures stays { Stays D.held D.moment D.images disk.old disk.new }
+    ensures contents { ReadsContents result D.tells D.held D.moment D.images D.faults store.old store.new
+        disk.old disk.new }
     ensures kinds { IfErr result (λ error. (error ≡ EngineError.Disk) ⊎ (error ≡ EngineError.Memory)
         ⊎ ((damage : TheDamage) × (error ≡ EngineError.Damaged damage))) }
-    ensures damaged { (damage : TheDamage) → IsErrOf result (EngineError.Damaged damage) → (flow : TheFlow)
-        → IsAtWork flow D.tells D.held D.moment D.images store.old disk.old
-        → IsReadDamaged flow D.tells D.held D.moment D.images store.old.lot disk.new }
-    ensures cause { CountsFaults (D.faults disk.old) (D.faults disk.new) (IsErrOf result EngineError.Disk) }
 {
     match place_of(files, &file.content) {
         Some(place) => Ok(copy_of(alloc, &contents[place])?),

@@ -12,6 +12,7 @@ ghost use Rattle.store_core.specs.Change.{HasLiveContents, MayChange};
 ghost use Rattle.store_core.specs.Store.{kept_by};
 ghost use Rattle.engine_session.specs.Change.{names_without, with_sending, without_received};
 ghost use Rattle.engine_steps.specs.Committing.{HasWritten, IsLeftBySend, IsAtWorkWithQueues};
+ghost use Rattle.engine_steps.specs.Entering.{MayCommitChange};
 ghost use Rattle.run_law.specs.Work.{WritesLog};
 ghost use Rattle.run_law.specs.Puts.{outgoing};
 
@@ -35,10 +36,7 @@ pub(crate) fn commit<D: Disk, O: Outbox>(
 ) -> Result<u64, EngineError>
     requires work { (flow : TheFlow)
         × IsAtWorkWithQueues flow D.tells D.held D.moment D.images store.old queues.old disk.old }
-    requires may { MayChange (kept_by store.old) changed.settled }
-    requires live { HasLiveContents store.old changed.settled }
-    requires digests { IsTrue D.tells → HaveDigests (content_in (D.held disk.old)) changed.settled.placed }
-    requires gone { are_active_in (kept_by store.old).files connection changed.settled.gone ≡ true }
+    requires change { MayCommitChange D.tells D.held store.old connection changed disk.old }
     ensures written { HasWritten result D.tells D.held D.moment D.images O.tells store.old store.new queues.old
         queues.new changed (outgoing O.standing O.puts outbox.old)
         (outgoing O.standing O.puts outbox.new) disk.old disk.new }

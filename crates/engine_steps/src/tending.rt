@@ -32,6 +32,7 @@ ghost use Rattle.run_law.specs.Work.{IsAtWork, IsNoEarlier, IsRefused, IsShortOn
 ghost use Rattle.engine_steps.specs.declared.error.EngineError.{EngineError as TheError};
 ghost use Rattle.engine_steps.specs.declared.tending.Tended.TheVariants.{Expired, Nothing};
 ghost use Rattle.run_law.specs.Puts.{Outgoing, Start};
+ghost use Rattle.engine_steps.specs.TendingParts.{BeginsLog, LeavesTended, LogIsBegun, ReclaimsClaims, RefusesExpiry, RunsOnSpared, RunsOnTended, SparesStore};
 
 use crate::EngineError;
 use crate::engine::Engine;
@@ -93,39 +94,13 @@ impl Engine<'_> {
         moment: u64,
     ) -> Result<Tended, EngineError>
         requires ready { EngineIsReady D.tells D.held D.moment D.images self.old disk.old }
-        ensures due { IfOk result (λ tended. due_behind tended ≡ due_in self.old moment) }
-        ensures wanted { (limit : TheLimit) → IsErrOf result (EngineError.Limit limit)
-            → due_in self.old moment ≡ Some Expiry }
-        ensures done { HasTended result moment (D.moment disk.new) self.old self.new }
-        ensures nothing { result ≡ Ok Nothing
-            → (disk.new ≡ disk.old) × IsShortOn D.moment D.images self.old.checkpoint disk.old }
-        ensures goes_on { (IsErrOf result EngineError.Disk → ⊥) → IsTrue D.tells → (opened : Machine) (first : D)
-            (start : Start) (time : ℕ) (left : List NamedFile) (out : Outgoing) → time ≤ moment
-            → IsRunning D.moment D.images self.old opened first start time disk.old left out
-            → IsRunning D.moment D.images self.new opened first start moment disk.new left out }
-        ensures idle { (IsErrOf result EngineError.Disk → ⊥) → (result ≡ Ok Expired → ⊥) → IsTrue D.tells
-            → (opened : Machine) (first : D) (start : Start) (time : ℕ) (left : List NamedFile)
-            (out : Outgoing)
-            → IsRunning D.moment D.images self.old opened first start time disk.old left out
-            → IsRunning D.moment D.images self.new opened first start time disk.new left out }
-        ensures stopped { (error : TheError) → IsErrOf result error → IsTrue D.tells → (opened : Machine) (first : D)
-            (start : Start) (time : ℕ) (left : List NamedFile) (out : Outgoing) → time ≤ moment
-            → IsRunning D.moment D.images self.old opened first start time disk.old left out
-            → Stops error D.tells D.held D.moment D.images self.new opened first start moment disk.new left out }
-        ensures ready { (IsErrOf result EngineError.Disk → ⊥)
-            → EngineIsReady D.tells D.held D.moment D.images self.new disk.new }
-        ensures names { (self.new.listing ≡ self.old.listing) × (self.new.last ≡ self.old.last)
-            × (self.new.failed ≡ self.old.failed) }
-        ensures same { IsOfSameRun self.old self.new }
+        ensures tended { TendsFirst result D.moment D.images moment self.old self.new disk.old disk.new }
+        ensures run { IsTrue D.tells → RunsOnTended result Expired D.tells D.held D.moment D.images moment
+            self.old self.new disk.old disk.new }
+        ensures leaves { LeavesTended result D.tells D.held D.moment D.images D.faults self.old self.new
+            disk.old disk.new }
         ensures log { OnOk result (IsNoEarlier self.old.store.log.number self.new.store.log.number) }
-        ensures alone { WritesLog D.moment D.images self.old.store.log.number disk.old disk.new }
-        ensures refused { (limit : TheLimit) → IsErrOf result (EngineError.Limit limit)
-            → IsRefused self.old.flow D.tells D.held D.moment D.images limit self.new.store disk.new
-            ⊎ (IsJournalFull limit self.old.most self.new.journal
-            × IsAtWork self.old.flow D.tells D.held D.moment D.images self.new.store disk.new) }
-        ensures kinds { IfErr result (λ error. (error ≡ EngineError.Disk) ⊎ (error ≡ EngineError.Memory)
-            ⊎ ((limit : TheLimit) × (error ≡ EngineError.Limit limit))) }
-        ensures cause { CountsFaults (D.faults disk.old) (D.faults disk.new) (IsErrOf result EngineError.Disk) }
+        ensures refusal { RefusesExpiry result D.tells D.held D.moment D.images self.old self.new disk.new }
     {
         if self.expire_due(alloc, disk, moment)? {
             return Ok(Tended::Expired);
@@ -145,29 +120,12 @@ impl Engine<'_> {
     fn checkpoint_due<D: Disk>(&mut self, disk: &mut D) -> Result<bool, EngineError>
         requires { EngineIsReady D.tells D.held D.moment D.images self.old disk.old }
         ensures due { IfOk result (λ made. made ≡ is_log_due self.old.checkpoint self.old.store) }
-        ensures goes_on { (IsErrOf result EngineError.Disk → ⊥) → (opened : Machine) (first : D) (start : Start)
-            (time : ℕ)
-            (left : List NamedFile) (out : Outgoing)
-            → IsRunning D.moment D.images self.old opened first start time disk.old left out
-            → IsRunning D.moment D.images self.new opened first start time disk.new left out }
-        ensures stopped { (error : TheError) → IsErrOf result error → (opened : Machine) (first : D) (start : Start)
-            (time : ℕ)
-            (left : List NamedFile) (out : Outgoing)
-            → IsRunning D.moment D.images self.old opened first start time disk.old left out
-            → Stops error D.tells D.held D.moment D.images self.new opened first start time disk.new left out }
-        ensures made { result ≡ Ok true → IsCheckpointed self.old.store self.new.store }
-        ensures kept { kept_by self.new.store ≡ kept_by self.old.store }
-        ensures none { result ≡ Ok false → (self.new ≡ self.old) × (disk.new ≡ disk.old) }
-        ensures short { result ≡ Ok false → IsShortOn D.moment D.images self.old.checkpoint disk.old }
-        ensures ready { (IsErrOf result EngineError.Disk → ⊥)
-            → EngineIsReady D.tells D.held D.moment D.images self.new disk.new }
-        ensures rest { self.new ≡ record self.old { store = self.new.store; tended = self.new.tended } }
-        ensures same { IsOfSameRun self.old self.new }
+        ensures begins { BeginsLog result D.moment D.images self.old self.new disk.old disk.new }
+        ensures run { RunsOnSpared result D.tells D.held D.moment D.images self.old self.new disk.old disk.new }
+        ensures leaves { LeavesTended result D.tells D.held D.moment D.images D.faults self.old self.new
+            disk.old disk.new }
         ensures log { OnOk result (IsNoEarlier self.old.store.log.number self.new.store.log.number) }
-        ensures unwritten { IsErrOf result EngineError.Memory → disk.new ≡ disk.old }
-        ensures alone { WritesLog D.moment D.images self.old.store.log.number disk.old disk.new }
         ensures kinds { IfErr result (λ error. (error ≡ EngineError.Disk) ⊎ (error ≡ EngineError.Memory)) }
-        ensures cause { CountsFaults (D.faults disk.old) (D.faults disk.new) (IsErrOf result EngineError.Disk) }
     {
         if !wants_checkpoint(&self.store, self.checkpoint) {
             return Ok(false);
@@ -183,30 +141,12 @@ impl Engine<'_> {
     fn reclaim_due<D: Disk>(&mut self, disk: &mut D) -> Result<Option<Reclaimed>, EngineError>
         requires { EngineIsReady D.tells D.held D.moment D.images self.old disk.old }
         ensures due { IfOk result (λ answer. is_some answer ≡ nat_le RECLAIM_ENTRIES self.old.since_reclaim) }
-        ensures goes_on { (IsErrOf result EngineError.Disk → ⊥) → (opened : Machine) (first : D) (start : Start)
-            (time : ℕ)
-            (left : List NamedFile) (out : Outgoing)
-            → IsRunning D.moment D.images self.old opened first start time disk.old left out
-            → IsRunning D.moment D.images self.new opened first start time disk.new left out }
-        ensures stopped { IsErrOf result EngineError.Disk → (opened : Machine) (first : D) (start : Start) (time : ℕ)
-            (left : List NamedFile) (out : Outgoing)
-            → IsRunning D.moment D.images self.old opened first start time disk.old left out
-            → Stops EngineError.Disk D.tells D.held D.moment D.images self.new opened first start time disk.new left
-            out }
-        ensures done { (answer : TheCount) → result ≡ Ok (Some answer)
-            → IsReclaimed self.old.store.slots self.new.store.slots answer × (self.new.since_reclaim ≡ 0) }
-        ensures none { result ≡ Ok None → (self.new ≡ self.old) × (disk.new ≡ disk.old) }
-        ensures since { IsErrOf result EngineError.Disk → self.new.since_reclaim ≡ self.old.since_reclaim }
-        ensures kept { kept_by self.new.store ≡ kept_by self.old.store }
-        ensures ready { (IsErrOf result EngineError.Disk → ⊥)
-            → EngineIsReady D.tells D.held D.moment D.images self.new disk.new }
-        ensures rest { self.new ≡ record self.old
-            { store = self.new.store; since_reclaim = self.new.since_reclaim; tended = self.new.tended } }
-        ensures same { IsOfSameRun self.old self.new }
+        ensures reclaims { ReclaimsClaims result self.old self.new disk.old disk.new }
+        ensures run { RunsOnSpared result D.tells D.held D.moment D.images self.old self.new disk.old disk.new }
+        ensures leaves { LeavesTended result D.tells D.held D.moment D.images D.faults self.old self.new
+            disk.old disk.new }
         ensures log { self.new.store.log.number ≡ self.old.store.log.number }
-        ensures alone { WritesLog D.moment D.images self.old.store.log.number disk.old disk.new }
         ensures kinds { IfErr result (λ error. error ≡ EngineError.Disk) }
-        ensures cause { CountsFaults (D.faults disk.old) (D.faults disk.new) (IsErrOf result EngineError.Disk) }
     {
         if self.since_reclaim < RECLAIM_ENTRIES {
             return Ok(None);
@@ -234,19 +174,8 @@ pub(crate) fn wants_checkpoint(store: &Store, checkpoint: u64) -> bool
 fn checkpoint<D: Disk>(store: &mut Store, disk: &mut D) -> Result<(), EngineError>
     requires work { (flow : TheFlow) × IsAtWork flow D.tells D.held D.moment D.images store.old disk.old }
     requires number { (number : ℕ) → store.old.log.number ≡ Some number → IsNumber (number + 1) }
-    ensures spared { (flow : TheFlow) (before : Machine)
-        → IsAtWork flow D.tells D.held D.moment D.images store.old disk.old
-        → InEach (D.images disk.old (D.moment disk.old)) (StandsFor flow store.old.lot before)
-        → IsSpared flow D.moment D.images store.old.lot before disk.old disk.new }
-    ensures work { OnOk result ((flow : TheFlow)
-        → IsAtWork flow D.tells D.held D.moment D.images store.old disk.old
-        → IsAtWork flow D.tells D.held D.moment D.images store.new disk.new) }
-    ensures same { (kept_by store.new ≡ kept_by store.old) × (store.new.lot ≡ store.old.lot) }
-    ensures next { OnOk result (IsCheckpointed store.old store.new) }
-    ensures short { OnOk result ((checkpoint : ℕ) → IsShortOn D.moment D.images checkpoint disk.new) }
-    ensures log { OnOk result (IsNoEarlier store.old.log.number store.new.log.number) }
-    ensures unwritten { IsErrOf result EngineError.Memory → (disk.new ≡ disk.old) × (store.new ≡ store.old) }
-    ensures alone { WritesLog D.moment D.images store.old.log.number disk.old disk.new }
+    ensures spares { SparesStore result D.tells D.held D.moment D.images store.old store.new disk.old disk.new }
+    ensures begun { LogIsBegun result D.moment D.images store.old store.new disk.old disk.new }
     ensures kinds { IfErr result (λ error. (error ≡ EngineError.Disk) ⊎ (error ≡ EngineError.Memory)) }
     ensures cause { CountsFaults (D.faults disk.old) (D.faults disk.new) (IsErrOf result EngineError.Disk) }
 {
@@ -258,17 +187,9 @@ fn checkpoint<D: Disk>(store: &mut Store, disk: &mut D) -> Result<(), EngineErro
 // Empties the claims that no live content stands in. Whatever a stop leaves stands for the same state.
 fn reclaim<D: Disk>(store: &mut Store, disk: &mut D) -> Result<Reclaimed, EngineError>
     requires { (flow : TheFlow) × IsAtWork flow D.tells D.held D.moment D.images store.old disk.old }
-    ensures spared { (flow : TheFlow) (before : Machine)
-        → IsAtWork flow D.tells D.held D.moment D.images store.old disk.old
-        → InEach (D.images disk.old (D.moment disk.old)) (StandsFor flow store.old.lot before)
-        → IsSpared flow D.moment D.images store.old.lot before disk.old disk.new }
-    ensures work { OnOk result ((flow : TheFlow)
-        → IsAtWork flow D.tells D.held D.moment D.images store.old disk.old
-        → IsAtWork flow D.tells D.held D.moment D.images store.new disk.new) }
-    ensures same { (kept_by store.new ≡ kept_by store.old) × (store.new.lot ≡ store.old.lot)
-        × (store.new.log.number ≡ store.old.log.number) }
+    ensures spares { SparesStore result D.tells D.held D.moment D.images store.old store.new disk.old disk.new }
+    ensures log { store.new.log.number ≡ store.old.log.number }
     ensures reclaimed { IfOk result (IsReclaimed store.old.slots store.new.slots) }
-    ensures alone { WritesLog D.moment D.images store.old.log.number disk.old disk.new }
     ensures kinds { IfErr result (λ error. error ≡ EngineError.Disk) }
     ensures cause { CountsFaults (D.faults disk.old) (D.faults disk.new) (IsErrOf result EngineError.Disk) }
 {

@@ -1,4 +1,4 @@
-use Rattle.std.proofs.Common.{◌≡◌, ℕ, true, List, length, ap, refl, subst, sym, ◌∙◌}
+use Rattle.std.proofs.Common.{◌≡◌, ℕ, true, List, length, ap, refl, rules, subst, sym, ◌∙◌}
 use Rattle.std.specs.Prelude.{Err}
 use Rattle.std.proofs.lemmas.List.{length-map}
 use Rattle.std.proofs.lemmas.List.Elements.{All-nil}
@@ -18,98 +18,130 @@ use Rattle.run_law.proofs.Writing.{touches_log}
 use Rattle.engine_steps.proofs.Tends.{committed, committed_between, kept_after, limit_of, passes, refuses}
 use Rattle.engine_steps.proofs.expiring.expire.Goals as goal
 
-pub returns-in_err-prepared-clause-limited : goal.returns-in_err-prepared-clause-limited
-returns-in_err-prepared-clause-limited g c limit is telling before stands =
-    let disk = c.args.disk.now in
-    let held = g.D.Disk.held disk in
-    let s = c.args.store.now in
-    let flow = c.args.flow.now in
-    let laws = g.met.D.Disk g.world.𝓛 g.world.𝓜 g.world.𝓡 ((λ s x. x), (λ x. x), (λ x. x), λ x. x) in
-    let tied = c.holds_its_state.ensures.tied telling flow c.requires.work before stands in
-    let have = c.held_contents_are_read.ensures s held (c.holds_its_state.ensures.held telling) in
-    let goes = c.in_ok-expiry.ensures.step (content_in held) before have tied in
-    let p = err_from_is_err_and c.from_residual-in_err-prepared.result c.from_residual-in_err-prepared.ensures.1 in
-    let was : c.in_err-prepared.field-0.0 ≡ StoreError.Limit limit = limit_of c.in_err-prepared.field-0.0 limit (cc (p.1, p.2, is)) in
-    record {
-      after = goes.after;
-      goes = goes.goes;
-      is_so = (
-        stands held (laws.held_is_left disk telling),
-        record {
-          store = s;
-          works = c.requires.work.works;
-          kept = c.requires.work.kept;
-          tied = tied;
-          settled = c.in_ok-expiry.expiry.settled;
-          makes = goes.is_so;
-          passes = passes s c.in_ok-expiry.expiry limit c.holds_its_state.ensures.kept.0 c.in_ok-expiry.ensures.may (c.prepare_expiry.ensures.limit limit (c.in_err-prepared.was ∙ ap Err was));
-        },
-      );
-    }
+pub returns-in_err-prepared-clause-step : goal.returns-in_err-prepared-clause-step
+returns-in_err-prepared-clause-step g c telling before stands = record {
+  done = search rules;
+  cut_off = search rules;
+  limited = λ limit is.
+      let disk = c.args.disk.now in
+      let held = g.D.Disk.held disk in
+      let s = c.args.store.now in
+      let flow = c.args.flow.now in
+      let laws = g.met.D.Disk g.world.𝓛 g.world.𝓜 g.world.𝓡 ((λ s x. x), (λ x. x), (λ x. x), λ x. x) in
+      let tied = c.holds_its_state.ensures.tied telling flow c.requires.work.work before stands in
+      let have = c.held_contents_are_read.ensures s held (c.holds_its_state.ensures.held telling) in
+      let goes = c.in_ok-expiry.ensures.step (content_in held) before have tied in
+      let p = err_from_is_err_and c.from_residual-in_err-prepared.result c.from_residual-in_err-prepared.ensures.1 in
+      let was : c.in_err-prepared.field-0.0 ≡ StoreError.Limit limit = limit_of c.in_err-prepared.field-0.0 limit (cc (p.1, p.2, is)) in
+      record {
+        after = goes.after;
+        goes = goes.goes;
+        is_so = (
+          stands held (laws.held_is_left disk telling),
+          record {
+            store = s;
+            works = c.requires.work.work.works;
+            kept = c.requires.work.work.kept;
+            tied = tied;
+            settled = c.in_ok-expiry.expiry.settled;
+            makes = goes.is_so;
+            passes = passes s c.in_ok-expiry.expiry limit c.holds_its_state.ensures.kept.0 c.in_ok-expiry.ensures.may (c.prepare_expiry.ensures.limit limit (c.in_err-prepared.was ∙ ap Err was));
+          },
+        );
+      };
+}
 
-pub returns-in_err-prepared-clause-refused : goal.returns-in_err-prepared-clause-refused
-returns-in_err-prepared-clause-refused g c limit is =
-    let p = err_from_is_err_and c.from_residual-in_err-prepared.result c.from_residual-in_err-prepared.ensures.1 in
-    let was : c.in_err-prepared.field-0.0 ≡ StoreError.Limit limit = limit_of c.in_err-prepared.field-0.0 limit (cc (p.1, p.2, is)) in
-    refuses c.args.flow.now g.D.Disk.tells g.D.Disk.held g.D.Disk.moment g.D.Disk.images c.args.store.now c.in_ok-expiry.expiry limit c.args.disk.now c.requires.work
-    c.holds_its_state.ensures.kept.0 c.in_ok-expiry.ensures.may (c.prepare_expiry.ensures.limit limit (c.in_err-prepared.was ∙ ap Err was))
+pub returns-in_err-prepared-clause-refusal : goal.returns-in_err-prepared-clause-refusal
+returns-in_err-prepared-clause-refusal g c = record {
+  kinds = search rules;
+  limited = λ limit is.
+      let p = err_from_is_err_and c.from_residual-in_err-prepared.result c.from_residual-in_err-prepared.ensures.1 in
+      let was : c.in_err-prepared.field-0.0 ≡ StoreError.Limit limit = limit_of c.in_err-prepared.field-0.0 limit (cc (p.1, p.2, is)) in
+      refuses c.args.flow.now g.D.Disk.tells g.D.Disk.held g.D.Disk.moment g.D.Disk.images c.args.store.now c.in_ok-expiry.expiry limit c.args.disk.now c.requires.work.work
+      c.holds_its_state.ensures.kept.0 c.in_ok-expiry.ensures.may (c.prepare_expiry.ensures.limit limit (c.in_err-prepared.was ∙ ap Err was));
+  cause = search rules;
+}
 
-pub returns-in_err-moment-clause-cut_off : goal.returns-in_err-moment-clause-cut_off
-returns-in_err-moment-clause-cut_off g c is telling before stands =
-    let disk = c.args.disk.now in
-    let held = g.D.Disk.held disk in
-    let s = c.args.store.now in
-    let flow = c.args.flow.now in
-    let tied = c.holds_its_state.ensures.tied telling flow c.requires.work before stands in
-    let have = c.held_contents_are_read.ensures s held (c.holds_its_state.ensures.held telling) in
-    let goes = c.in_ok-expiry.ensures.step (content_in held) before have tied in
-    record {
-      after = goes.after;
-      goes = goes.goes;
-      is_so = committed_between g.D.Disk.moment g.D.Disk.images flow s disk c.commit.new.disk before c.requires.work.flow_is stands g.D.Disk.held goes.after c.in_ok-prepared.prepared.settled
-          (ap (state_after (content_in held) before.state) c.in_ok-prepared.ensures.prepared.0 ∙ goes.is_so) (c.commit.ensures.changed c.requires.work.works).states;
-    }
+pub returns-in_err-moment-clause-step : goal.returns-in_err-moment-clause-step
+returns-in_err-moment-clause-step g c telling before stands = record {
+  done = search rules;
+  cut_off = λ is.
+      let disk = c.args.disk.now in
+      let held = g.D.Disk.held disk in
+      let s = c.args.store.now in
+      let flow = c.args.flow.now in
+      let tied = c.holds_its_state.ensures.tied telling flow c.requires.work.work before stands in
+      let have = c.held_contents_are_read.ensures s held (c.holds_its_state.ensures.held telling) in
+      let goes = c.in_ok-expiry.ensures.step (content_in held) before have tied in
+      record {
+        after = goes.after;
+        goes = goes.goes;
+        is_so = committed_between g.D.Disk.moment g.D.Disk.images flow s disk c.commit.new.disk before c.requires.work.work.flow_is stands g.D.Disk.held goes.after c.in_ok-prepared.prepared.settled
+            (ap (state_after (content_in held) before.state) c.in_ok-prepared.ensures.prepared.0 ∙ goes.is_so) (c.commit.ensures.changed c.requires.work.work.works).states;
+      };
+  limited = search rules;
+}
 
-pub returns-clause-done : goal.returns-clause-done
-returns-clause-done g c telling before stands =
-    let disk = c.args.disk.now in
-    let held = g.D.Disk.held disk in
-    let s = c.args.store.now in
-    let flow = c.args.flow.now in
-    let tied = c.holds_its_state.ensures.tied telling flow c.requires.work before stands in
-    let have = c.held_contents_are_read.ensures s held (c.holds_its_state.ensures.held telling) in
-    let goes = c.in_ok-expiry.ensures.step (content_in held) before have tied in
-    record {
-      after = goes.after;
-      goes = goes.goes;
-      is_so = committed g.D.Disk.moment g.D.Disk.images flow s disk c.commit.new.disk before c.requires.work.flow_is stands g.D.Disk.held goes.after c.in_ok-prepared.prepared.settled
-          (ap (state_after (content_in held) before.state) c.in_ok-prepared.ensures.prepared.0 ∙ goes.is_so) (c.commit.ensures.changed c.requires.work.works).states c.in_ok-moment.ensures.acknowledged.states;
-    }
+pub returns-clause-step : goal.returns-clause-step
+returns-clause-step g c telling before stands = record {
+  done =
+      let disk = c.args.disk.now in
+      let held = g.D.Disk.held disk in
+      let s = c.args.store.now in
+      let flow = c.args.flow.now in
+      let tied = c.holds_its_state.ensures.tied telling flow c.requires.work.work before stands in
+      let have = c.held_contents_are_read.ensures s held (c.holds_its_state.ensures.held telling) in
+      let goes = c.in_ok-expiry.ensures.step (content_in held) before have tied in
+      record {
+        after = goes.after;
+        goes = goes.goes;
+        is_so = committed g.D.Disk.moment g.D.Disk.images flow s disk c.commit.new.disk before c.requires.work.work.flow_is stands g.D.Disk.held goes.after c.in_ok-prepared.prepared.settled
+            (ap (state_after (content_in held) before.state) c.in_ok-prepared.ensures.prepared.0 ∙ goes.is_so) (c.commit.ensures.changed c.requires.work.work.works).states c.in_ok-moment.ensures.acknowledged.states;
+      };
+  cut_off = search rules;
+  limited = search rules;
+}
 
-pub returns-clause-queues : goal.returns-clause-queues
-returns-clause-queues g c =
+pub returns-clause-work : goal.returns-clause-work
+returns-clause-work g c =
     let s = c.args.store.now in
     let flow = c.args.flow.now in
     let x = c.in_ok-expiry.expiry in
     let there = c.in_ok-expiry.ensures.there in
-    let left = kept_after c.in_ok-prepared.prepared s c.commit.new.self x (c.commit.ensures.changed c.requires.work.works).change c.in_ok-prepared.ensures.entry in
+    let left = kept_after c.in_ok-prepared.prepared s c.commit.new.self x (c.commit.ensures.changed c.requires.work.work.works).change c.in_ok-prepared.ensures.entry in
     let same : c.as_slice.result.now ≡ x.settled.gone = c.as_slice.ensures in
     let may : MayExpireInQueues flow (kept_by s) x.connection x.settled.gone c.args.queues.now = record {
-      of_kept = c.requires.queues;
-      connections = ap (λ (f : store.Flow). length f.connections) c.requires.work.flow_is ∙ length-map flow.connections (λ c. c.id);
+      of_kept = c.requires.work.are;
+      connections = ap (λ (f : store.Flow). length f.connections) c.requires.work.work.flow_is ∙ length-map flow.connections (λ c. c.id);
       consistent = c.holds_its_state.ensures.kept.0;
       distinct = there.distinct;
       active = there.active;
     } in
-    c.expire.ensures flow (kept_by s) (kept_by c.commit.new.self)
-    (subst (λ (ns : List ℕ). MayExpireInQueues flow (kept_by s) x.connection ns c.args.queues.now) (sym same) may)
-    (left.files ∙ ap (λ (ns : List ℕ). left_after ns (kept_by s).files) (sym same))
+    record {
+      work = search rules;
+      are =
+          c.expire.ensures flow (kept_by s) (kept_by c.commit.new.self)
+          (subst (λ (ns : List ℕ). MayExpireInQueues flow (kept_by s) x.connection ns c.args.queues.now) (sym same) may)
+          (left.files ∙ ap (λ (ns : List ℕ). left_after ns (kept_by s).files) (sym same));
+    }
 
-pub returns-in_err-moment-clause-alone : goal.returns-in_err-moment-clause-alone
-returns-in_err-moment-clause-alone g c = touches_log g.D.Disk.moment g.D.Disk.images c.args.store.now.log.number c.args.store.now.log.number c.args.disk.now c.commit.new.disk refl c.commit.ensures.touched.alone
+pub returns-in_err-moment-clause-commits : goal.returns-in_err-moment-clause-commits
+returns-in_err-moment-clause-commits g c = record {
+  moment_is = search rules;
+  unwritten = search rules;
+  lot = search rules;
+  log = search rules;
+  alone = touches_log g.D.Disk.moment g.D.Disk.images c.args.store.now.log.number c.args.store.now.log.number c.args.disk.now c.commit.new.disk refl c.commit.ensures.touched.alone;
+}
 
-pub returns-clause-alone : goal.returns-clause-alone
-returns-clause-alone g c = touches_log g.D.Disk.moment g.D.Disk.images c.args.store.now.log.number c.args.store.now.log.number c.args.disk.now c.commit.new.disk refl c.commit.ensures.touched.alone
+pub returns-clause-commits : goal.returns-clause-commits
+returns-clause-commits g c = record {
+  moment_is = search rules;
+  unwritten = search rules;
+  lot = search rules;
+  log = search rules;
+  alone = touches_log g.D.Disk.moment g.D.Disk.images c.args.store.now.log.number c.args.store.now.log.number c.args.disk.now c.commit.new.disk refl c.commit.ensures.touched.alone;
+}
 
 -- no file is placed
 pub commit-requires-clause-digests : goal.commit-requires-clause-digests

@@ -1,4 +1,4 @@
-use Rattle.std.proofs.Common.{◌≡◌, ap, ◌∙◌, sym, subst, refl, List, false}
+use Rattle.std.proofs.Common.{◌≡◌, ap, ◌∙◌, sym, subst, refl, rules, List, false}
 use Rattle.std.specs.Prelude.{Err, All, Contains, is_some, slice_get}
 use Rattle.std.specs.Option.{option_map_or}
 use Rattle.std.proofs.lemmas.Result.{err_from_is_err_and}
@@ -18,11 +18,16 @@ read_contents-requires-clause-live g c κs within =
     subst (λ (files : List FlowFile). All (λ (file : FlowFile). Contains (live_in c.args.store.now) file.content) files) (sym are)
     (all_are_live k c.args.connection c.args.numbers c.requires.taken)
 
-pub returns-in_err-contents-clause-damaged : goal.returns-in_err-contents-clause-damaged
-returns-in_err-contents-clause-damaged g c damage is =
-    let p = err_from_is_err_and c.from_residual-in_err-contents.result c.from_residual-in_err-contents.ensures.1 in
-    let was : c.in_err-contents.field-0.0 ≡ EngineError.Damaged damage = cc (p.1, p.2, is) in
-    c.in_err-contents.ensures.damaged damage (ap Err was)
+pub returns-in_err-contents-clause-contents : goal.returns-in_err-contents-clause-contents
+returns-in_err-contents-clause-contents g c = record {
+  store = search rules;
+  stays = search rules;
+  damaged = λ damage is.
+      let p = err_from_is_err_and c.from_residual-in_err-contents.result c.from_residual-in_err-contents.ensures.1 in
+      let was : c.in_err-contents.field-0.0 ≡ EngineError.Damaged damage = cc (p.1, p.2, is) in
+      c.in_err-contents.ensures.contents.damaged damage (ap Err was);
+  cause = search rules;
+}
 
 pub returns-clause-handed : goal.returns-clause-handed
 returns-clause-handed g c =

@@ -30,13 +30,18 @@ read_next-requires-clause-live g c κs within =
     (c.requires.live c.loop-place.place c.index-files-place.result (omega (arith, c.loop-place-test.true))) in
     subst (λ (s : StoreState). Contains (live_in s) c.index-files-place.result.content) (sym c.loop-place.invariant.same) here
 
-pub returns-in_err-read-clause-damaged : goal.returns-in_err-read-clause-damaged
-returns-in_err-read-clause-damaged g c damage is flow work =
-    let D = g.D.Disk in
-    let inv = c.loop-place.invariant in
-    let p = err_from_is_err_and c.from_residual.result c.from_residual.ensures.1 in
-    let was : c.in_err-read.field-0.0 ≡ EngineError.Damaged damage = cc (p.1, p.2, is) in
-    let at_work = subst (λ (s : StoreState). IsAtWork flow D.tells D.held D.moment D.images s c.loop-place.disk) (sym inv.same)
-    (work_read flow D.tells D.held D.moment D.images c.args.store.now c.args.disk.now c.loop-place.disk inv.stays work) in
-    subst (λ (s : StoreState). IsReadDamaged flow D.tells D.held D.moment D.images s.lot c.read_next.new.disk) inv.same
-    (c.in_err-read.ensures.damaged damage (ap Err was) flow at_work)
+pub returns-in_err-read-clause-contents : goal.returns-in_err-read-clause-contents
+returns-in_err-read-clause-contents g c = record {
+  store = search rules;
+  stays = search rules;
+  damaged = λ damage is flow work.
+      let D = g.D.Disk in
+      let inv = c.loop-place.invariant in
+      let p = err_from_is_err_and c.from_residual.result c.from_residual.ensures.1 in
+      let was : c.in_err-read.field-0.0 ≡ EngineError.Damaged damage = cc (p.1, p.2, is) in
+      let at_work = subst (λ (s : StoreState). IsAtWork flow D.tells D.held D.moment D.images s c.loop-place.disk) (sym inv.same)
+      (work_read flow D.tells D.held D.moment D.images c.args.store.now c.args.disk.now c.loop-place.disk inv.stays work) in
+      subst (λ (s : StoreState). IsReadDamaged flow D.tells D.held D.moment D.images s.lot c.read_next.new.disk) inv.same
+      (c.in_err-read.ensures.contents.damaged damage (ap Err was) flow at_work);
+  cause = search rules;
+}

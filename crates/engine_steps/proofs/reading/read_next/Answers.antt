@@ -1,4 +1,4 @@
-use Rattle.std.proofs.Common.{ap, refl, ◌∙◌, ◌≡◌, ◌∷◌, ◌++◌, [], subst, sym, List, ℕ}
+use Rattle.std.proofs.Common.{ap, refl, rules, ◌∙◌, ◌≡◌, ◌∷◌, ◌++◌, [], subst, sym, List, ℕ}
 use Rattle.std.specs.Prelude.{Err, Option}
 use Rattle.std.proofs.lemmas.Result.{err_from_is_err_and}
 use Rattle.content_repo.specs.Claims.{content_in}
@@ -32,17 +32,22 @@ returns-in_ok-bytes-in-None-clause-told g c telling are =
     subst (λ (read : Option (List ℕ)). AreReadOf (content_in held) c.args.fits (c.args.files.now ++ c.args.file.now ∷ []) (c.args.contents.now ++ read ∷ [])) (sym c.handed.ensures)
     (read_held g.D.Disk.tells held c.args.fits c.args.files.now c.args.contents.now c.args.file.now c.in_ok-bytes-in-None.bytes.items c.in_ok-bytes-in-None.ensures.read telling are)
 
-pub returns-in_err-bytes-in-None-clause-damaged : goal.returns-in_err-bytes-in-None-clause-damaged
-returns-in_err-bytes-in-None-clause-damaged g c damage is flow work =
-    let p = err_from_is_err_and c.from_residual-in_err-bytes-in-None.result c.from_residual-in_err-bytes-in-None.ensures.1 in
-    let was : c.in_err-bytes-in-None.field-0.0 ≡ EngineError.Damaged damage = cc (p.1, p.2, is) in
-    record {
-      at = c.args.disk.now;
-      store = c.args.store.now;
-      lot_is = refl;
-      work = work;
-      content = c.args.file.now.content;
-      live = c.requires.live;
-      untold = c.read_content.ensures.undamaged damage (c.in_err-bytes-in-None.was ∙ ap Err was);
-      stays = c.read_content.ensures.stays;
-    }
+pub returns-in_err-bytes-in-None-clause-contents : goal.returns-in_err-bytes-in-None-clause-contents
+returns-in_err-bytes-in-None-clause-contents g c = record {
+  store = search rules;
+  stays = search rules;
+  damaged = λ damage is flow work.
+      let p = err_from_is_err_and c.from_residual-in_err-bytes-in-None.result c.from_residual-in_err-bytes-in-None.ensures.1 in
+      let was : c.in_err-bytes-in-None.field-0.0 ≡ EngineError.Damaged damage = cc (p.1, p.2, is) in
+      record {
+        at = c.args.disk.now;
+        store = c.args.store.now;
+        lot_is = refl;
+        work = work;
+        content = c.args.file.now.content;
+        live = c.requires.live;
+        untold = c.read_content.ensures.undamaged damage (c.in_err-bytes-in-None.was ∙ ap Err was);
+        stays = c.read_content.ensures.stays;
+      };
+  cause = search rules;
+}

@@ -38,14 +38,14 @@ settle-requires-clause-kept g c =
       connections = ap (λ (f : store.Flow). length f.connections) queued.work.flow_is ∙ length-map flow.connections (λ c. c.id);
       consistent = c.holds_its_state.ensures.kept.0;
       no_batches = c.holds_its_state.ensures.kept.1;
-      may = c.requires.may.settles;
+      may = c.requires.change.may.settles;
     } in (
       flow,
       kept_by s,
       may_still_settle c.args.queues.now c.reserve.new.self c.reserve.ensures.same flow (kept_by s) c.args.changed.settled over,
       subst (λ (k : Kept). IsKeptAfter (kept_by s) c.args.connection c.args.changed.settled k) (sym c.state.ensures.kept)
           (kept_after c.in_ok-prepared.prepared s t c.commit.new.self t.memory.room c.args.changed.settled c.args.connection c.prepare.ensures.same (c.commit.ensures.changed works).change
-          c.in_ok-prepared.ensures.entry c.requires.gone),
+          c.in_ok-prepared.ensures.entry c.requires.change.gone),
     )
 
 pub returns-in_err-reserve-clause-written : goal.returns-in_err-reserve-clause-written
@@ -111,11 +111,11 @@ returns-clause-written g c =
             connections = ap (λ (f : store.Flow). length f.connections) queued.work.flow_is ∙ length-map flow.connections (λ c. c.id);
             consistent = c.holds_its_state.ensures.kept.0;
             no_batches = c.holds_its_state.ensures.kept.1;
-            may = c.requires.may.settles;
+            may = c.requires.change.may.settles;
           } in
           let after = subst (λ (k : Kept). IsKeptAfter (kept_by s) c.args.connection c.args.changed.settled k) (sym c.state.ensures.kept)
           (kept_after c.in_ok-prepared.prepared s t c.commit.new.self t.memory.room c.args.changed.settled c.args.connection same (c.commit.ensures.changed works).change
-          c.in_ok-prepared.ensures.entry c.requires.gone) in
+          c.in_ok-prepared.ensures.entry c.requires.change.gone) in
           record {
             work = record {
               works = still_works c.commit.result t c.commit.new.self c.in_ok-moment.moment c.in_ok-moment.was works c.commit.ensures.refusal.failed;

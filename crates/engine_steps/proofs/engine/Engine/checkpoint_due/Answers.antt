@@ -1,4 +1,4 @@
-use Rattle.std.proofs.Common.{◌≡◌, ◌⊎◌, ◌∙◌, refl, sym, subst, arith}
+use Rattle.std.proofs.Common.{◌≡◌, ◌⊎◌, ◌∙◌, refl, rules, sym, subst, arith}
 use Rattle.std.specs.Prelude.{None}
 use Rattle.std.proofs.lemmas.Result.{err_from_is_err_and}
 use Rattle.run_law.specs.Work.{IsAtWork, IsNoEarlier, HasShortLog, WritesLog}
@@ -13,8 +13,22 @@ use Rattle.engine_steps.proofs.engine.Engine.checkpoint_due.Goals as goal
 pub checkpoint-requires-clause-number : goal.checkpoint-requires-clause-number
 checkpoint-requires-clause-number g c κs within number is = c.wants_checkpoint.ensures.next c.if-not-wants_checkpoint.false number is
 
-pub returns-in_err-checkpoint-clause-stopped : goal.returns-in_err-checkpoint-clause-stopped
-returns-in_err-checkpoint-clause-stopped g c error is opened first start time left out run =
+pub returns-then-not-wants_checkpoint-clause-begins : goal.returns-then-not-wants_checkpoint-clause-begins
+returns-then-not-wants_checkpoint-clause-begins g c = record {
+  made = search rules;
+  none = search rules;
+  short = λ is image left.
+      let i = c.self.inside in
+      let work = subst (λ (u : EngineState). IsAtWork u.flow g.D.Disk.tells g.D.Disk.held g.D.Disk.moment g.D.Disk.images u.store c.args.disk.now) (sym c.self.view_is) c.requires.work in
+      subst (λ (u : EngineState). HasShortLog u.checkpoint image) c.self.view_is
+      (no_log_due i.checkpoint i.store image c.wants_checkpoint.ensures.counted (sym c.wants_checkpoint.ensures.due ∙ c.if-not-wants_checkpoint.true) (work.kept.log work.works image left));
+  unwritten = search rules;
+  kept = search rules;
+  rest = search rules;
+}
+
+pub returns-in_err-checkpoint-clause-run : goal.returns-in_err-checkpoint-clause-run
+returns-in_err-checkpoint-clause-run g c =
     let tells = g.D.Disk.tells in
     let held = g.D.Disk.held in
     let moment = g.D.Disk.moment in
@@ -24,21 +38,46 @@ returns-in_err-checkpoint-clause-stopped g c error is opened first start time le
     let i = c.self.inside in
     let e : EngineState = record { flow = i.flow.now; store = i.store; queues = i.queues; listing = i.listing; last = i.last; journal = i.journal.items; most = i.most; checkpoint = i.checkpoint; since_reclaim = i.since_reclaim; failed = i.has_failed; tended = i.tended } in
     let f : EngineState = record e { store = c.checkpoint.new.store; tended = None } in
-    let same : IsOfSameRun e f = record { flow = refl; most = refl; checkpoint = refl; too_large = refl; lot = c.checkpoint.ensures.same.1 } in
+    let same : IsOfSameRun e f = record { flow = refl; most = refl; checkpoint = refl; too_large = refl; lot = c.checkpoint.ensures.spares.lot } in
     let work = subst (λ (u : EngineState). IsAtWork u.flow tells held moment images u.store old) (sym c.self.view_is) c.requires.work in
     let p = err_from_is_err_and c.from_residual.result c.from_residual.ensures.1 in
-    let told : c.in_err-checkpoint.field-0.0 ≡ error = cc (p.1, p.2, is) in
-    stops_by tells held moment images e f same opened first old new start time left out c.faults_end_a_run.ensures.between error
-    (subst (λ (er : EngineError). (er ≡ EngineError.Disk) ⊎ (er ≡ EngineError.Memory)) told c.in_err-checkpoint.ensures.kinds) time (omega arith) refl
-    (λ m stands. c.checkpoint.ensures.spared i.flow.now m work stands)
-    (subst (λ (u : EngineState). IsRunning moment images u opened first start time old left out) (sym c.self.view_is) run)
+    record {
+      goes_on = λ well opened first start time left out run.
+          runs_spared tells held moment images e f same opened first old new start time left out c.run_goes_on.ensures.spared time (omega arith) refl refl refl
+          (λ m stands. c.checkpoint.ensures.spares.spared i.flow.now m work stands)
+          (subst (λ (u : EngineState). IsRunning moment images u opened first start time old left out) (sym c.self.view_is) run);
+      stopped = λ error is opened first start time left out run.
+          let told : c.in_err-checkpoint.field-0.0 ≡ error = cc (p.1, p.2, is) in
+          stops_by tells held moment images e f same opened first old new start time left out c.faults_end_a_run.ensures.between error
+          (subst (λ (er : EngineError). (er ≡ EngineError.Disk) ⊎ (er ≡ EngineError.Memory)) told c.in_err-checkpoint.ensures.kinds) time (omega arith) refl
+          (λ m stands. c.checkpoint.ensures.spares.spared i.flow.now m work stands)
+          (subst (λ (u : EngineState). IsRunning moment images u opened first start time old left out) (sym c.self.view_is) run);
+    }
 
-pub returns-in_err-checkpoint-clause-alone : goal.returns-in_err-checkpoint-clause-alone
-returns-in_err-checkpoint-clause-alone g c =
-    subst (λ (u : EngineState). WritesLog g.D.Disk.moment g.D.Disk.images u.store.log.number c.args.disk.now c.checkpoint.new.disk) c.self.view_is c.checkpoint.ensures.alone
+pub returns-in_err-checkpoint-clause-leaves : goal.returns-in_err-checkpoint-clause-leaves
+returns-in_err-checkpoint-clause-leaves g c =
+    record {
+      ready = search rules;
+      same = search rules;
+      listing = search rules;
+      last = search rules;
+      failed = search rules;
+      alone = subst (λ (u : EngineState). WritesLog g.D.Disk.moment g.D.Disk.images u.store.log.number c.args.disk.now c.checkpoint.new.disk) c.self.view_is c.checkpoint.ensures.spares.alone;
+      cause = search rules;
+    }
 
-pub returns-in_err-checkpoint-clause-goes_on : goal.returns-in_err-checkpoint-clause-goes_on
-returns-in_err-checkpoint-clause-goes_on g c well opened first start time left out run =
+pub returns-clause-begins : goal.returns-clause-begins
+returns-clause-begins g c = record {
+  made = λ is. subst (λ (u : EngineState). IsCheckpointed u.store c.checkpoint.new.store) c.self.view_is c.in_ok-checkpoint.ensures.begun.next;
+  none = search rules;
+  short = search rules;
+  unwritten = search rules;
+  kept = search rules;
+  rest = search rules;
+}
+
+pub returns-clause-run : goal.returns-clause-run
+returns-clause-run g c =
     let tells = g.D.Disk.tells in
     let held = g.D.Disk.held in
     let moment = g.D.Disk.moment in
@@ -48,44 +87,28 @@ returns-in_err-checkpoint-clause-goes_on g c well opened first start time left o
     let i = c.self.inside in
     let e : EngineState = record { flow = i.flow.now; store = i.store; queues = i.queues; listing = i.listing; last = i.last; journal = i.journal.items; most = i.most; checkpoint = i.checkpoint; since_reclaim = i.since_reclaim; failed = i.has_failed; tended = i.tended } in
     let f : EngineState = record e { store = c.checkpoint.new.store; tended = None } in
-    let same : IsOfSameRun e f = record { flow = refl; most = refl; checkpoint = refl; too_large = refl; lot = c.checkpoint.ensures.same.1 } in
+    let same : IsOfSameRun e f = record { flow = refl; most = refl; checkpoint = refl; too_large = refl; lot = c.checkpoint.ensures.spares.lot } in
     let work = subst (λ (u : EngineState). IsAtWork u.flow tells held moment images u.store old) (sym c.self.view_is) c.requires.work in
-    runs_spared tells held moment images e f same opened first old new start time left out c.run_goes_on.ensures.spared time (omega arith) refl refl refl
-    (λ m stands. c.checkpoint.ensures.spared i.flow.now m work stands)
-    (subst (λ (u : EngineState). IsRunning moment images u opened first start time old left out) (sym c.self.view_is) run)
+    record {
+      goes_on = λ well opened first start time left out run.
+          runs_spared tells held moment images e f same opened first old new start time left out c.run_goes_on.ensures.spared time (omega arith) refl refl refl
+          (λ m stands. c.checkpoint.ensures.spares.spared i.flow.now m work stands)
+          (subst (λ (u : EngineState). IsRunning moment images u opened first start time old left out) (sym c.self.view_is) run);
+      stopped = λ error is opened first start time left out run. absurd cc;
+    }
 
-pub returns-clause-goes_on : goal.returns-clause-goes_on
-returns-clause-goes_on g c well opened first start time left out run =
-    let tells = g.D.Disk.tells in
-    let held = g.D.Disk.held in
-    let moment = g.D.Disk.moment in
-    let images = g.D.Disk.images in
-    let old = c.args.disk.now in
-    let new = c.checkpoint.new.disk in
-    let i = c.self.inside in
-    let e : EngineState = record { flow = i.flow.now; store = i.store; queues = i.queues; listing = i.listing; last = i.last; journal = i.journal.items; most = i.most; checkpoint = i.checkpoint; since_reclaim = i.since_reclaim; failed = i.has_failed; tended = i.tended } in
-    let f : EngineState = record e { store = c.checkpoint.new.store; tended = None } in
-    let same : IsOfSameRun e f = record { flow = refl; most = refl; checkpoint = refl; too_large = refl; lot = c.checkpoint.ensures.same.1 } in
-    let work = subst (λ (u : EngineState). IsAtWork u.flow tells held moment images u.store old) (sym c.self.view_is) c.requires.work in
-    runs_spared tells held moment images e f same opened first old new start time left out c.run_goes_on.ensures.spared time (omega arith) refl refl refl
-    (λ m stands. c.checkpoint.ensures.spared i.flow.now m work stands)
-    (subst (λ (u : EngineState). IsRunning moment images u opened first start time old left out) (sym c.self.view_is) run)
+pub returns-clause-leaves : goal.returns-clause-leaves
+returns-clause-leaves g c =
+    record {
+      ready = search rules;
+      same = search rules;
+      listing = search rules;
+      last = search rules;
+      failed = search rules;
+      alone = subst (λ (u : EngineState). WritesLog g.D.Disk.moment g.D.Disk.images u.store.log.number c.args.disk.now c.checkpoint.new.disk) c.self.view_is c.checkpoint.ensures.spares.alone;
+      cause = search rules;
+    }
 
 pub returns-clause-log : goal.returns-clause-log
 returns-clause-log g c =
-    subst (λ (u : EngineState). IsNoEarlier u.store.log.number c.checkpoint.new.store.log.number) c.self.view_is c.in_ok-checkpoint.ensures.log
-
-pub returns-clause-alone : goal.returns-clause-alone
-returns-clause-alone g c =
-    subst (λ (u : EngineState). WritesLog g.D.Disk.moment g.D.Disk.images u.store.log.number c.args.disk.now c.checkpoint.new.disk) c.self.view_is c.checkpoint.ensures.alone
-
-pub returns-clause-made : goal.returns-clause-made
-returns-clause-made g c is =
-    subst (λ (u : EngineState). IsCheckpointed u.store c.checkpoint.new.store) c.self.view_is c.in_ok-checkpoint.ensures.next
-
-pub returns-then-not-wants_checkpoint-clause-short : goal.returns-then-not-wants_checkpoint-clause-short
-returns-then-not-wants_checkpoint-clause-short g c is image left =
-    let i = c.self.inside in
-    let work = subst (λ (u : EngineState). IsAtWork u.flow g.D.Disk.tells g.D.Disk.held g.D.Disk.moment g.D.Disk.images u.store c.args.disk.now) (sym c.self.view_is) c.requires.work in
-    subst (λ (u : EngineState). HasShortLog u.checkpoint image) c.self.view_is
-    (no_log_due i.checkpoint i.store image c.wants_checkpoint.ensures.counted (sym c.wants_checkpoint.ensures.due ∙ c.if-not-wants_checkpoint.true) (work.kept.log work.works image left))
+    subst (λ (u : EngineState). IsNoEarlier u.store.log.number c.checkpoint.new.store.log.number) c.self.view_is c.in_ok-checkpoint.ensures.begun.log

@@ -20,21 +20,21 @@ returns-in-Err-Disk-clause-run g c telling in_telling out_telling =
           let told : error ≡ EngineError.Disk = cc (is, c.in-Err-Disk.field-0-is) in
           subst (λ (er : EngineError). Stops er D.tells D.held D.moment D.images (record e { failed = true }) opened first start c.args.done.given.moment new left out) (sym told)
           (subst (λ (u : EngineState). Stops EngineError.Disk D.tells D.held D.moment D.images u opened first start c.args.done.given.moment new left out) (sym c.self-2.view_is)
-          (c.commit_job-committed.ensures.stopped EngineError.Disk (is ∙ ap Err told) telling in_telling out_telling opened first start time le run));
+          ((c.commit_job-committed.ensures.run telling in_telling out_telling).stopped EngineError.Disk (is ∙ ap Err told) opened first start time le run));
     }
 
 pub returns-else-self-clause-run : goal.returns-else-self-clause-run
 returns-else-self-clause-run g c telling in_telling out_telling =
     let other : c.commit_job-committed.result ≡ Err EngineError.Disk → ⊥ = λ is. search rules in
     record {
-      goes_on = λ works unmoved opened first start time le run. c.commit_job-committed.ensures.goes_on other works unmoved telling in_telling out_telling opened first start time le run;
-      stopped = λ error is works opened first start time le run. c.commit_job-committed.ensures.stopped error is telling in_telling out_telling opened first start time le run;
+      goes_on = λ works unmoved. (c.commit_job-committed.ensures.run telling in_telling out_telling).goes_on other works unmoved;
+      stopped = λ error is works. (c.commit_job-committed.ensures.run telling in_telling out_telling).stopped error is;
     }
 
 pub returns-else-self-2-clause-run : goal.returns-else-self-2-clause-run
 returns-else-self-2-clause-run g c telling in_telling out_telling =
     let other : c.commit_job-committed.result ≡ Err EngineError.Disk → ⊥ = λ is. search rules in
     record {
-      goes_on = λ works unmoved opened first start time le run. c.commit_job-committed.ensures.goes_on other works unmoved telling in_telling out_telling opened first start time le run;
-      stopped = λ error is works opened first start time le run. c.commit_job-committed.ensures.stopped error is telling in_telling out_telling opened first start time le run;
+      goes_on = λ works unmoved. (c.commit_job-committed.ensures.run telling in_telling out_telling).goes_on other works unmoved;
+      stopped = λ error is works. (c.commit_job-committed.ensures.run telling in_telling out_telling).stopped error is;
     }

@@ -1,64 +1,77 @@
-use Rattle.std.proofs.Common.{◌≡◌, ℕ, true, ap, subst, sym, ◌∙◌, IsTrue, arith}
-use Rattle.std.specs.Prelude.{Err, IsErrOf, Ok, Result}
+use Rattle.std.proofs.Common.{◌≡◌, ℕ, true, ap, subst, sym, ◌∙◌, IsTrue, arith, rules}
+use Rattle.std.specs.Prelude.{Err, IsErrOf, Ok}
 use Rattle.std.proofs.lemmas.Result.{err_from_is_err_and}
 use Rattle.run_law.proofs.Writing.{reads_only}
-use Rattle.engine_steps.specs.Commit.{IsEntered}
 use Rattle.engine_steps.specs.Engine.{EngineState}
 use Rattle.engine_steps.specs.declared.error.EngineError.{EngineError}
 use Rattle.engine_steps.proofs.Goes.{spared_by_read, stops_unmoved}
-use Rattle.engine_steps.proofs.AsRead.{as_read, longer, lot_read, read_well, same_error}
+use Rattle.engine_steps.proofs.AsRead.{as_read, lot_read, read_well, same_error}
 use Rattle.engine_steps.proofs.Reread.{still_ready, still_runs, still_stands}
 use Rattle.run_law.specs.Puts.{outgoing}
 use Rattle.engine_steps.proofs.engine.Engine.commit_job.Goals as goal
 
-pub returns-in_err-stands-clause-goes_on : goal.returns-in_err-stands-clause-goes_on
-returns-in_err-stands-clause-goes_on g c other works unmoved telling in_telling out_telling opened first start time le run =
+pub returns-in_err-stands-clause-run : goal.returns-in_err-stands-clause-run
+returns-in_err-stands-clause-run g c telling in_telling out_telling =
     let D = g.D.Disk in
     let e : EngineState = c.args.self.now in
     let left = g.I.Inbox.left c.args.inbox.now in
     let out = outgoing g.O.Outbox.standing g.O.Outbox.puts c.args.outbox.now in
     let p = err_from_is_err_and c.from_residual.result c.from_residual.ensures.1 in
-    let same = as_read c.stands.result e c.stands.new.self c.stands.ensures.store c.stands.ensures.rest (λ disk. other (p.1 ∙ ap Err (p.2 ∙ same_error c.in_err-stands.field-0.0 EngineError.Disk (sym c.in_err-stands.was ∙ disk)))) in
-    still_runs D.tells D.held D.moment D.images c.args.disk.now c.stands.new.disk c.stands.ensures.stays c.run_goes_on.ensures.spared e c.stands.new.self same opened first start time c.args.done.given.moment le
-    left (g.I.Inbox.left c.stands.new.inbox) out (outgoing g.O.Outbox.standing g.O.Outbox.puts c.stands.new.outbox) c.stands.ensures.left c.stands.ensures.outbox run
+    record {
+      goes_on = λ other works unmoved opened first start time le run.
+          let same = as_read c.stands.result e c.stands.new.self c.stands.ensures.reread.store c.stands.ensures.reread.rest (λ disk. other (p.1 ∙ ap Err (p.2 ∙ same_error c.in_err-stands.field-0.0 EngineError.Disk (sym c.in_err-stands.was ∙ disk)))) in
+          still_runs D.tells D.held D.moment D.images c.args.disk.now c.stands.new.disk c.stands.ensures.reread.disk c.run_goes_on.ensures.spared e c.stands.new.self same opened first start time c.args.done.given.moment le
+          left (g.I.Inbox.left c.stands.new.inbox) out (outgoing g.O.Outbox.standing g.O.Outbox.puts c.stands.new.outbox) c.stands.ensures.reread.inbox c.stands.ensures.reread.outbox run;
+      stopped = λ error is opened first start time le run.
+          let same : c.in_err-stands.field-0.0 ≡ error = cc (p.1, p.2, is) in
+          stops_unmoved D.tells D.held D.moment D.images e c.stands.new.self opened first start time c.args.disk.now c.stands.new.disk left out run
+          (ap (λ (x : EngineState). x.flow) c.stands.ensures.reread.rest) (lot_read c.stands.result e.store c.stands.new.self.store c.stands.ensures.reread.store) c.faults_end_a_run.ensures.between (ap (λ (x : EngineState). x.journal) c.stands.ensures.reread.rest)
+          (spared_by_read D.tells D.held D.moment D.images e.flow e.store.lot run.reached c.args.disk.now c.stands.new.disk c.stands.ensures.reread.disk run.to.run.holds)
+          error (λ limit limited. c.in_err-stands.ensures.refusal.unlimited limit (ap Err (same ∙ limited))) c.args.done.given.moment le
+          (g.I.Inbox.left c.stands.new.inbox) (outgoing g.O.Outbox.standing g.O.Outbox.puts c.stands.new.outbox) c.stands.ensures.reread.inbox c.stands.ensures.reread.outbox;
+    }
 
-pub returns-in_err-stands-clause-stopped : goal.returns-in_err-stands-clause-stopped
-returns-in_err-stands-clause-stopped g c error is telling in_telling out_telling opened first start time le run =
-    let D = g.D.Disk in
-    let e : EngineState = c.args.self.now in
-    let left = g.I.Inbox.left c.args.inbox.now in
-    let out = outgoing g.O.Outbox.standing g.O.Outbox.puts c.args.outbox.now in
-    let p = err_from_is_err_and c.from_residual.result c.from_residual.ensures.1 in
-    let same : c.in_err-stands.field-0.0 ≡ error = cc (p.1, p.2, is) in
-    stops_unmoved D.tells D.held D.moment D.images e c.stands.new.self opened first start time c.args.disk.now c.stands.new.disk left out run
-    (ap (λ (x : EngineState). x.flow) c.stands.ensures.rest) (lot_read c.stands.result e.store c.stands.new.self.store c.stands.ensures.store) c.faults_end_a_run.ensures.between (ap (λ (x : EngineState). x.journal) c.stands.ensures.rest)
-    (spared_by_read D.tells D.held D.moment D.images e.flow e.store.lot run.reached c.args.disk.now c.stands.new.disk c.stands.ensures.stays run.to.run.holds)
-    error (λ limit limited. c.in_err-stands.ensures.unlimited limit (ap Err (same ∙ limited))) c.args.done.given.moment le
-    (g.I.Inbox.left c.stands.new.inbox) (outgoing g.O.Outbox.standing g.O.Outbox.puts c.stands.new.outbox) c.stands.ensures.left c.stands.ensures.outbox
-
-pub returns-in_err-stands-clause-ready : goal.returns-in_err-stands-clause-ready
-returns-in_err-stands-clause-ready g c other =
-    let D = g.D.Disk in
-    let e : EngineState = c.args.self.now in
-    let p = err_from_is_err_and c.from_residual.result c.from_residual.ensures.1 in
-    let same = as_read c.stands.result e c.stands.new.self c.stands.ensures.store c.stands.ensures.rest (λ disk. other (p.1 ∙ ap Err (p.2 ∙ same_error c.in_err-stands.field-0.0 EngineError.Disk (sym c.in_err-stands.was ∙ disk)))) in
-    still_ready D.tells D.held D.moment D.images c.args.disk.now c.stands.new.disk c.stands.ensures.stays e c.stands.new.self same c.requires.ready
+pub returns-in_err-stands-clause-leaves : goal.returns-in_err-stands-clause-leaves
+returns-in_err-stands-clause-leaves g c = record {
+  ready = λ other.
+      let D = g.D.Disk in
+      let e : EngineState = c.args.self.now in
+      let p = err_from_is_err_and c.from_residual.result c.from_residual.ensures.1 in
+      let same = as_read c.stands.result e c.stands.new.self c.stands.ensures.reread.store c.stands.ensures.reread.rest (λ disk. other (p.1 ∙ ap Err (p.2 ∙ same_error c.in_err-stands.field-0.0 EngineError.Disk (sym c.in_err-stands.was ∙ disk)))) in
+      still_ready D.tells D.held D.moment D.images c.args.disk.now c.stands.new.disk c.stands.ensures.reread.disk e c.stands.new.self same c.requires.may.ready;
+  left = search rules;
+  works = search rules;
+  failed = search rules;
+  why = search rules;
+}
 
 pub returns-in_err-stands-clause-alone : goal.returns-in_err-stands-clause-alone
-returns-in_err-stands-clause-alone g c = reads_only g.D.Disk.moment g.D.Disk.images c.args.self.now.store.log.number g.D.Disk.held c.args.disk.now c.stands.new.disk c.stands.ensures.stays
+returns-in_err-stands-clause-alone g c = record {
+  same = search rules;
+  log = search rules;
+  alone = reads_only g.D.Disk.moment g.D.Disk.images c.args.self.now.store.log.number g.D.Disk.held c.args.disk.now c.stands.new.disk c.stands.ensures.reread.disk;
+}
 
-pub returns-then-not-branch-clause-alone : goal.returns-then-not-branch-clause-alone
-returns-then-not-branch-clause-alone g c = reads_only g.D.Disk.moment g.D.Disk.images c.args.self.now.store.log.number g.D.Disk.held c.args.disk.now c.stands.new.disk c.stands.ensures.stays
-
-pub returns-then-not-branch-clause-goes_on : goal.returns-then-not-branch-clause-goes_on
-returns-then-not-branch-clause-goes_on g c other works unmoved telling in_telling out_telling opened first start time le run =
+pub returns-then-not-branch-clause-run : goal.returns-then-not-branch-clause-run
+returns-then-not-branch-clause-run g c telling in_telling out_telling =
     let D = g.D.Disk in
     let e : EngineState = c.args.self.now in
     let left = g.I.Inbox.left c.args.inbox.now in
     let out = outgoing g.O.Outbox.standing g.O.Outbox.puts c.args.outbox.now in
-    let same = as_read c.stands.result e c.stands.new.self c.stands.ensures.store c.stands.ensures.rest (λ disk. read_well c.in_ok-stands.field-0 EngineError.Disk (sym c.in_ok-stands.was ∙ disk)) in
-    still_runs D.tells D.held D.moment D.images c.args.disk.now c.stands.new.disk c.stands.ensures.stays c.run_goes_on.ensures.spared e c.stands.new.self same opened first start time c.args.done.given.moment le
-    left (g.I.Inbox.left c.stands.new.inbox) out (outgoing g.O.Outbox.standing g.O.Outbox.puts c.stands.new.outbox) c.stands.ensures.left c.stands.ensures.outbox run
+    let same = as_read c.stands.result e c.stands.new.self c.stands.ensures.reread.store c.stands.ensures.reread.rest (λ disk. read_well c.in_ok-stands.field-0 EngineError.Disk (sym c.in_ok-stands.was ∙ disk)) in
+    record {
+      goes_on = λ other works unmoved opened first start time le run.
+          still_runs D.tells D.held D.moment D.images c.args.disk.now c.stands.new.disk c.stands.ensures.reread.disk c.run_goes_on.ensures.spared e c.stands.new.self same opened first start time c.args.done.given.moment le
+          left (g.I.Inbox.left c.stands.new.inbox) out (outgoing g.O.Outbox.standing g.O.Outbox.puts c.stands.new.outbox) c.stands.ensures.reread.inbox c.stands.ensures.reread.outbox run;
+      stopped = λ error is. absurd cc;
+    }
+
+pub returns-then-not-branch-clause-alone : goal.returns-then-not-branch-clause-alone
+returns-then-not-branch-clause-alone g c = record {
+  same = search rules;
+  log = search rules;
+  alone = reads_only g.D.Disk.moment g.D.Disk.images c.args.self.now.store.log.number g.D.Disk.held c.args.disk.now c.stands.new.disk c.stands.ensures.reread.disk;
+}
 
 pub enter-requires-clause-stands : goal.enter-requires-clause-stands
 enter-requires-clause-stands g c κs within =
@@ -69,48 +82,43 @@ enter-requires-clause-stands g c κs within =
     let was = c.in_ok-stands.was in
     let there = c.in_ok-stands.is in
     let so : c.stands.result ≡ Ok true = cc in
-    let same = as_read c.stands.result e c.stands.new.self c.stands.ensures.store c.stands.ensures.rest (λ disk. read_well true EngineError.Disk (sym so ∙ disk)) in
-    still_stands D.tells D.held D.moment D.images c.args.disk.now c.stands.new.disk c.stands.ensures.stays e c.stands.new.self same
+    let same = as_read c.stands.result e c.stands.new.self c.stands.ensures.reread.store c.stands.ensures.reread.rest (λ disk. read_well true EngineError.Disk (sym so ∙ disk)) in
+    still_stands D.tells D.held D.moment D.images c.args.disk.now c.stands.new.disk c.stands.ensures.reread.disk e c.stands.new.self same
     g.I.Inbox.tells g.O.Outbox.tells left (g.I.Inbox.left c.stands.new.inbox) out (outgoing g.O.Outbox.standing g.O.Outbox.puts c.stands.new.outbox)
-    c.stands.ensures.left c.stands.ensures.outbox c.args.done (c.stands.ensures.so so)
+    c.stands.ensures.reread.inbox c.stands.ensures.reread.outbox c.args.done (c.stands.ensures.so so)
 
-pub returns-in_err-moment-clause-goes_on : goal.returns-in_err-moment-clause-goes_on
-returns-in_err-moment-clause-goes_on g c other works unmoved telling in_telling out_telling opened first start time le run =
+pub returns-in_err-moment-clause-run : goal.returns-in_err-moment-clause-run
+returns-in_err-moment-clause-run g c telling in_telling out_telling =
     let D = g.D.Disk in
     let e : EngineState = c.args.self.now in
     let left = g.I.Inbox.left c.args.inbox.now in
     let out = outgoing g.O.Outbox.standing g.O.Outbox.puts c.args.outbox.now in
     let p = err_from_is_err_and c.from_residual-in_err-moment.result c.from_residual-in_err-moment.ensures.1 in
-    let same = as_read c.stands.result e c.stands.new.self c.stands.ensures.store c.stands.ensures.rest (λ disk. read_well c.in_ok-stands.field-0 EngineError.Disk (sym c.in_ok-stands.was ∙ disk)) in
-    let told : (a : EngineError) → IsErrOf c.enter.result a → IsErrOf c.from_residual-in_err-moment.result a = λ a is. p.1 ∙ ap Err (p.2 ∙ same_error c.in_err-moment.field-0.0 a (sym c.in_err-moment.was ∙ is)) in
-    c.enter.ensures.goes_on (λ disk. other (told EngineError.Disk disk)) works
-    (λ inbox. longer c.args.done e.journal c.enter.new.self.journal c.stands.new.self.journal (D.moment c.enter.new.disk) (ap (λ (x : EngineState). x.journal) same) (unmoved (told EngineError.Inbox inbox))
-    (subst (λ (r : Result ℕ EngineError). IsEntered r c.args.done (D.moment c.enter.new.disk) c.stands.new.self c.enter.new.self) inbox c.enter.ensures.journal).journal)
-    telling in_telling out_telling opened first start time le
-    (still_runs D.tells D.held D.moment D.images c.args.disk.now c.stands.new.disk c.stands.ensures.stays c.run_goes_on.ensures.spared e c.stands.new.self same opened first start time time (omega arith)
-    left (g.I.Inbox.left c.stands.new.inbox) out (outgoing g.O.Outbox.standing g.O.Outbox.puts c.stands.new.outbox) c.stands.ensures.left c.stands.ensures.outbox run)
+    let same = as_read c.stands.result e c.stands.new.self c.stands.ensures.reread.store c.stands.ensures.reread.rest (λ disk. read_well c.in_ok-stands.field-0 EngineError.Disk (sym c.in_ok-stands.was ∙ disk)) in
+    record {
+      goes_on = λ other works unmoved opened first start time le run.
+          let told : (a : EngineError) → IsErrOf c.enter.result a → IsErrOf c.from_residual-in_err-moment.result a = λ a is. p.1 ∙ ap Err (p.2 ∙ same_error c.in_err-moment.field-0.0 a (sym c.in_err-moment.was ∙ is)) in
+          (c.enter.ensures.run telling in_telling out_telling).goes_on (λ disk. other (told EngineError.Disk disk)) works (λ inbox. unmoved (told EngineError.Inbox inbox) ∙ sym (ap (λ (x : EngineState). x.journal) same)) opened first start time le
+          (still_runs D.tells D.held D.moment D.images c.args.disk.now c.stands.new.disk c.stands.ensures.reread.disk c.run_goes_on.ensures.spared e c.stands.new.self same opened first start time time (omega arith)
+          left (g.I.Inbox.left c.stands.new.inbox) out (outgoing g.O.Outbox.standing g.O.Outbox.puts c.stands.new.outbox) c.stands.ensures.reread.inbox c.stands.ensures.reread.outbox run);
+      stopped = λ error is opened first start time le run.
+          let told : c.in_err-moment.field-0.0 ≡ error = cc (p.1, p.2, is) in
+          (c.enter.ensures.run telling in_telling out_telling).stopped error (c.in_err-moment.was ∙ ap Err told) opened first start time le
+          (still_runs D.tells D.held D.moment D.images c.args.disk.now c.stands.new.disk c.stands.ensures.reread.disk c.run_goes_on.ensures.spared e c.stands.new.self same opened first start time time (omega arith)
+          left (g.I.Inbox.left c.stands.new.inbox) out (outgoing g.O.Outbox.standing g.O.Outbox.puts c.stands.new.outbox) c.stands.ensures.reread.inbox c.stands.ensures.reread.outbox run);
+    }
 
-pub returns-in_err-moment-clause-stopped : goal.returns-in_err-moment-clause-stopped
-returns-in_err-moment-clause-stopped g c error is telling in_telling out_telling opened first start time le run =
+pub returns-clause-run : goal.returns-clause-run
+returns-clause-run g c telling in_telling out_telling =
     let D = g.D.Disk in
     let e : EngineState = c.args.self.now in
     let left = g.I.Inbox.left c.args.inbox.now in
     let out = outgoing g.O.Outbox.standing g.O.Outbox.puts c.args.outbox.now in
-    let p = err_from_is_err_and c.from_residual-in_err-moment.result c.from_residual-in_err-moment.ensures.1 in
-    let told : c.in_err-moment.field-0.0 ≡ error = cc (p.1, p.2, is) in
-    let same = as_read c.stands.result e c.stands.new.self c.stands.ensures.store c.stands.ensures.rest (λ disk. read_well c.in_ok-stands.field-0 EngineError.Disk (sym c.in_ok-stands.was ∙ disk)) in
-    c.enter.ensures.stopped error (c.in_err-moment.was ∙ ap Err told) telling in_telling out_telling opened first start time le
-    (still_runs D.tells D.held D.moment D.images c.args.disk.now c.stands.new.disk c.stands.ensures.stays c.run_goes_on.ensures.spared e c.stands.new.self same opened first start time time (omega arith)
-    left (g.I.Inbox.left c.stands.new.inbox) out (outgoing g.O.Outbox.standing g.O.Outbox.puts c.stands.new.outbox) c.stands.ensures.left c.stands.ensures.outbox run)
-
-pub returns-clause-goes_on : goal.returns-clause-goes_on
-returns-clause-goes_on g c other works unmoved telling in_telling out_telling opened first start time le run =
-    let D = g.D.Disk in
-    let e : EngineState = c.args.self.now in
-    let left = g.I.Inbox.left c.args.inbox.now in
-    let out = outgoing g.O.Outbox.standing g.O.Outbox.puts c.args.outbox.now in
-    let same = as_read c.stands.result e c.stands.new.self c.stands.ensures.store c.stands.ensures.rest (λ disk. read_well c.in_ok-stands.field-0 EngineError.Disk (sym c.in_ok-stands.was ∙ disk)) in
-    c.enter.ensures.goes_on (λ disk. read_well c.in_ok-moment.moment EngineError.Disk (sym c.in_ok-moment.was ∙ disk)) works (λ inbox. read_well c.in_ok-moment.moment EngineError.Inbox (sym c.in_ok-moment.was ∙ inbox))
-    telling in_telling out_telling opened first start time le
-    (still_runs D.tells D.held D.moment D.images c.args.disk.now c.stands.new.disk c.stands.ensures.stays c.run_goes_on.ensures.spared e c.stands.new.self same opened first start time time (omega arith)
-    left (g.I.Inbox.left c.stands.new.inbox) out (outgoing g.O.Outbox.standing g.O.Outbox.puts c.stands.new.outbox) c.stands.ensures.left c.stands.ensures.outbox run)
+    let same = as_read c.stands.result e c.stands.new.self c.stands.ensures.reread.store c.stands.ensures.reread.rest (λ disk. read_well c.in_ok-stands.field-0 EngineError.Disk (sym c.in_ok-stands.was ∙ disk)) in
+    record {
+      goes_on = λ other works unmoved opened first start time le run.
+          (c.enter.ensures.run telling in_telling out_telling).goes_on (λ disk. read_well c.in_ok-moment.moment EngineError.Disk (sym c.in_ok-moment.was ∙ disk)) works (λ inbox. read_well c.in_ok-moment.moment EngineError.Inbox (sym c.in_ok-moment.was ∙ inbox)) opened first start time le
+          (still_runs D.tells D.held D.moment D.images c.args.disk.now c.stands.new.disk c.stands.ensures.reread.disk c.run_goes_on.ensures.spared e c.stands.new.self same opened first start time time (omega arith)
+          left (g.I.Inbox.left c.stands.new.inbox) out (outgoing g.O.Outbox.standing g.O.Outbox.puts c.stands.new.outbox) c.stands.ensures.reread.inbox c.stands.ensures.reread.outbox run);
+      stopped = λ error is. absurd cc;
+    }

@@ -3,9 +3,9 @@ use Rattle.std.proofs.lemmas.Result.{IfOk-weaker}
 use Rattle.content_repo.specs.Claims.{content_in}
 use Rattle.machine_model.specs.Sound.{IsSound}
 use Rattle.store_core.specs.Store.{kept_by}
-use Rattle.run_law.specs.Work.{IsAtWork, IsReadDamaged}
 use Rattle.engine_session.specs.Done.{MayWorkOn}
 use Rattle.engine_steps.specs.Engine.{AreTakeable, EngineState}
+use Rattle.engine_steps.specs.HandingParts.{LeavesAsRead}
 use Rattle.engine_session.specs.declared.job.Job.{Job}
 use Rattle.engine_steps.proofs.Chosen.{may_hand, next_is_left}
 use Rattle.engine_steps.proofs.NextJob.{next_job, next_session}
@@ -44,9 +44,10 @@ returns-clause-may g c =
     (may_hand c.self.inside.flow.now (kept_by c.self.inside.store) c.self.inside.listing.names c.args.moment c.args.choice job next handed)))
     c.hand.ensures.handed
 
-pub returns-clause-damaged : goal.returns-clause-damaged
-returns-clause-damaged g c damage is =
-    let e = c.args.self.now in
-    subst (λ (x : EngineState). IsReadDamaged e.flow g.D.Disk.tells g.D.Disk.held g.D.Disk.moment g.D.Disk.images x.store.lot c.hand.new.disk) c.self.view_is
-    (c.hand.ensures.damaged damage is e.flow
-    (subst (λ (x : EngineState). IsAtWork e.flow g.D.Disk.tells g.D.Disk.held g.D.Disk.moment g.D.Disk.images x.store c.args.disk.now) (sym c.self.view_is) c.requires.ready.work))
+pub returns-clause-leaves : goal.returns-clause-leaves
+returns-clause-leaves g c =
+    let D = g.D.Disk in
+    let I = g.I.Inbox in
+    let O = g.O.Outbox in
+    subst (λ (x : EngineState). LeavesAsRead c.hand.result D.tells D.held D.moment D.images D.faults I.left I.faults O.standing O.puts O.faults x.store c.hand.new.store
+    c.args.disk.now c.hand.new.disk c.args.inbox.now c.hand.new.inbox c.args.outbox.now c.hand.new.outbox) c.self.view_is c.hand.ensures.leaves

@@ -1,4 +1,4 @@
-use Rattle.std.proofs.Common.{◌≡◌, sym, ◌∙◌, inr, true, false, true≢false}
+use Rattle.std.proofs.Common.{rules, ◌≡◌, sym, ◌∙◌, inr, true, false, true≢false}
 use Rattle.store_core.specs.Store.{kept_by}
 use Rattle.engine_steps.proofs.Worked.{none_given, same_work}
 use Rattle.engine_steps.proofs.engine.Engine.stands.Goals as goal
@@ -18,3 +18,10 @@ pub returns-clause-otherwise : goal.returns-clause-otherwise
 returns-clause-otherwise g c is =
     let not : c.is_work_on.result ≡ false = cc in
     inr (c.in_ok-job.job, c.in_ok-job.ensures.job, λ same. let told : c.is_work_on.result ≡ true = c.is_work_on.ensures.1 same in true≢false (sym told ∙ not))
+
+pub returns-in_err-job-clause-refusal : goal.returns-in_err-job-clause-refusal
+returns-in_err-job-clause-refusal g c = record {
+  unlimited = search rules;
+  works = search rules;
+  damaged = λ damage is. c.in_err-job.ensures.leaves.contents.damaged damage (search rules) c.args.self.now.flow c.requires.ready.work;
+}

@@ -21,23 +21,23 @@ returns-in-Err-Disk-clause-run g c telling =
           let told : error ≡ EngineError.Disk = cc (is, c.in-Err-Disk.field-0-is) in
           subst (λ (er : EngineError). Stops er tells held moment images (record e { failed = true }) opened first start c.args.moment new left out) (sym told)
           (subst (λ (u : EngineState). Stops EngineError.Disk tells held moment images u opened first start c.args.moment new left out) (sym c.self-2.view_is)
-          (c.tend_first-tended.ensures.stopped EngineError.Disk (is ∙ ap Err told) telling opened first start time left out by run));
+          ((c.tend_first-tended.ensures.run telling).stopped EngineError.Disk (is ∙ ap Err told) opened first start time left out by run));
     }
 
 pub returns-else-self-clause-run : goal.returns-else-self-clause-run
 returns-else-self-clause-run g c telling =
     let other : c.tend_first-tended.result ≡ Err EngineError.Disk → ⊥ = λ is. search rules in
     record {
-      goes_on = λ works opened first start time left out by run. c.tend_first-tended.ensures.goes_on other telling opened first start time left out by run;
-      idle = λ works none opened first start time left out run. c.tend_first-tended.ensures.idle other none telling opened first start time left out run;
-      stopped = λ error is works opened first start time left out by run. c.tend_first-tended.ensures.stopped error is telling opened first start time left out by run;
+      goes_on = λ works opened first start time left out by run. (c.tend_first-tended.ensures.run telling).goes_on other opened first start time left out by run;
+      idle = λ works none opened first start time left out run. (c.tend_first-tended.ensures.run telling).idle other none opened first start time left out run;
+      stopped = λ error is works opened first start time left out by run. (c.tend_first-tended.ensures.run telling).stopped error is opened first start time left out by run;
     }
 
 pub returns-else-self-2-clause-run : goal.returns-else-self-2-clause-run
 returns-else-self-2-clause-run g c telling =
     let other : c.tend_first-tended.result ≡ Err EngineError.Disk → ⊥ = λ is. cc in
     record {
-      goes_on = λ works opened first start time left out by run. c.tend_first-tended.ensures.goes_on other telling opened first start time left out by run;
-      idle = λ works none opened first start time left out run. c.tend_first-tended.ensures.idle other none telling opened first start time left out run;
-      stopped = λ error is works opened first start time left out by run. c.tend_first-tended.ensures.stopped error is telling opened first start time left out by run;
+      goes_on = λ works opened first start time left out by run. (c.tend_first-tended.ensures.run telling).goes_on other opened first start time left out by run;
+      idle = λ works none opened first start time left out run. (c.tend_first-tended.ensures.run telling).idle other none opened first start time left out run;
+      stopped = λ error is works opened first start time left out by run. (c.tend_first-tended.ensures.run telling).stopped error is opened first start time left out by run;
     }
