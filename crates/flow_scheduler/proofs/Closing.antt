@@ -73,14 +73,6 @@ still_works : (failed : Bool) → (failed ≡ true → ⊥) → failed ≡ false
 still_works false none = refl
 still_works true none = absurd (none refl)
 
-pub works_behind : {A : Type 0} (result : Result A EngineError) (failed : Bool) (answer : A) → result ≡ Ok answer → (failed ≡ true → IsErrOf result Disk ⊎ IsErrOf result Outbox) → failed ≡ false
-works_behind {A = A} result failed answer is fails =
-    still_works failed (λ so.
-    ⊎_elim
-    (λ (disk : result ≡ Err Disk). let both : ◌≡◌ {A = Result A EngineError} (Ok answer) (Err Disk) = sym is ∙ disk in cc)
-    (λ (outbox : result ≡ Err Outbox). let both : ◌≡◌ {A = Result A EngineError} (Ok answer) (Err Outbox) = sym is ∙ outbox in cc)
-    (fails so))
-
 pub works_at_limit : {A : Type 0} (result : Result A EngineError) (failed : Bool) (limit : TheLimit) → result ≡ Err (Limit limit) → (failed ≡ true → IsErrOf result Disk ⊎ IsErrOf result Outbox) → failed ≡ false
 works_at_limit {A = A} result failed limit is fails =
     still_works failed (λ so.
@@ -122,13 +114,13 @@ module _ {D : Type 0} (tells : Bool) (held : D → Files) (moment : D → ℕ) (
       subst Ran (sym fails.0) (faults e.flow start time time e.store.lot opened reached first old new e.journal left out fault.Disk run (omega arith) (spared_by reached run)))
       closes)
 
-  pub closes_blocked : {A : Type 0} (closed : Result A EngineError) → BlockedRunsEnd tells held moment images → (connection : ℕ) → IsEnded moment images e opened first start time old left out (Blocked connection)
+  pub closes_blocked : {A : Type 0} (closed : Result A EngineError) → BlockedRunsEnd tells held moment images → (connection : ℕ) → IsEnded (Blocked connection) moment images e opened first start time old left out
       → ClosesSo closed result (ended.Blocked connection) (IsTrue tells → IsTidied e.flow e.store.lot (held new)) → IsTrue tells → HasRun flow result start time tells held moment images lot opened first new left out e.journal
   closes_blocked closed law connection end closes telling =
       by_wanted closed (ended.Blocked connection) end.reached end.to.run closes telling (λ tidied.
       law e.flow start time time e.store.lot connection opened end.reached first old new e.journal left out end.to.run (omega arith) (spared_by end.reached end.to.run) is_left tidied end.ends)
 
-  pub closes_quiet : {A : Type 0} (closed : Result A EngineError) → QuietRunsEnd tells held moment images → IsEnded moment images e opened first start time old left out Quiet
+  pub closes_quiet : {A : Type 0} (closed : Result A EngineError) → QuietRunsEnd tells held moment images → IsEnded Quiet moment images e opened first start time old left out
       → ClosesSo closed result ended.Quiet (IsTrue tells → IsTidied e.flow e.store.lot (held new)) → IsTrue tells → HasRun flow result start time tells held moment images lot opened first new left out e.journal
   closes_quiet closed law end closes telling =
       by_wanted closed ended.Quiet end.reached end.to.run closes telling (λ tidied.

@@ -35,14 +35,14 @@ module _ (law : EndsAreMachineEnds) {D : Type 0} (moment : D → ℕ) (images : 
       law e.flow (queue_seen e.queues) run.reached.state run.reached.world time e.last seen (none_expired e time due) (ap choice_of_counts (sym counts) ∙ ap choice_of_names run.to.coming ∙ none) in
       subst (IsMachineEnd e.flow run.reached.state run.reached.world time) (ap end_of_counts (sym counts) ∙ ap end_of_names run.to.coming) is
 
-  ended : (ending : Ending) → IsEndAt e.flow run.reached.state run.reached.world time ending → IsEnded moment images e opened first start time now left out ending
+  ended : (ending : Ending) → IsEndAt e.flow run.reached.state run.reached.world time ending → IsEnded ending moment images e opened first start time now left out
   ended ending ends = record {
     reached = run.reached;
     to = run.to;
     ends = ends;
   }
 
-  pub turned_at_end : (ending : Ending) → ending ≡ ending_in e time → choice_in e time ≡ None → IsTurned moment images e opened first start time now left out (Some ending)
+  pub turned_at_end : (ending : Ending) → ending ≡ ending_in e time → choice_in e time ≡ None → IsTurned (Some ending) moment images e opened first start time now left out
   turned_at_end (Rest until) is none = run
   turned_at_end (Blocked connection) is none = ended (Blocked connection) (((machine_end none).is_blocked connection).0 (sym is))
   turned_at_end Quiet is none = ended Quiet ((machine_end none).is_quiet.0 (sym is))
@@ -50,21 +50,21 @@ module _ (law : EndsAreMachineEnds) {D : Type 0} (moment : D → ℕ) (images : 
 -- ---- what a turn answered
 
 module _ {D : Type 0} (moment : D → ℕ) (images : D → ℕ → Files → Type 0) (e : EngineState) (opened : Machine) (first now : D) (start : Start) (left : List NamedFile) (out : Outgoing) (time : ℕ) (answer : Option Ending)
-    (turned : IsTurned moment images e opened first start time now left out answer) where
+    (turned : IsTurned answer moment images e opened first start time now left out) where
   -- it went on, or it rests
   pub went_on : answer ≡ None → IsRunning moment images e opened first start time now left out
-  went_on is = subst (λ (a : Option Ending). IsTurned moment images e opened first start time now left out a) is turned
+  went_on is = subst (λ (a : Option Ending). IsTurned a moment images e opened first start time now left out) is turned
 
   pub rests : (until : ℕ) → answer ≡ Some (Rest until) → IsRunning moment images e opened first start time now left out
-  rests until is = subst (λ (a : Option Ending). IsTurned moment images e opened first start time now left out a) is turned
+  rests until is = subst (λ (a : Option Ending). IsTurned a moment images e opened first start time now left out) is turned
 
   -- it ended, by a clock that tells this moment
-  pub ends_blocked : (connection later : ℕ) → answer ≡ Some (Blocked connection) → time ≡ later → IsEnded moment images e opened first start later now left out (Blocked connection)
+  pub ends_blocked : (connection later : ℕ) → answer ≡ Some (Blocked connection) → time ≡ later → IsEnded (Blocked connection) moment images e opened first start later now left out
   ends_blocked connection later is same =
-      subst (λ (t : ℕ). IsEnded moment images e opened first start t now left out (Blocked connection)) same
-      (subst (λ (a : Option Ending). IsTurned moment images e opened first start time now left out a) is turned)
+      subst (λ (t : ℕ). IsEnded (Blocked connection) moment images e opened first start t now left out) same
+      (subst (λ (a : Option Ending). IsTurned a moment images e opened first start time now left out) is turned)
 
-  pub ends_quiet : (later : ℕ) → answer ≡ Some Quiet → time ≡ later → IsEnded moment images e opened first start later now left out Quiet
+  pub ends_quiet : (later : ℕ) → answer ≡ Some Quiet → time ≡ later → IsEnded Quiet moment images e opened first start later now left out
   ends_quiet later is same =
-      subst (λ (t : ℕ). IsEnded moment images e opened first start t now left out Quiet) same
-      (subst (λ (a : Option Ending). IsTurned moment images e opened first start time now left out a) is turned)
+      subst (λ (t : ℕ). IsEnded Quiet moment images e opened first start t now left out) same
+      (subst (λ (a : Option Ending). IsTurned a moment images e opened first start time now left out) is turned)

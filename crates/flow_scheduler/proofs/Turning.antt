@@ -1,6 +1,6 @@
 -- What holds from turn to turn of an engine, and how a turn stops.
 use Rattle.std.proofs.Common.{◌≡◌, ◌⊎◌, inl, inr, ℕ, ◌≤◌, Bool, true, false, true≢false, List, length, refl, sym, ◌∙◌, ap, subst, arith}
-use Rattle.std.specs.Prelude.{Option, Ok, Result, IsErrOf}
+use Rattle.std.specs.Prelude.{Option, Ok, Err, Result, IsErrOf, MatchResult}
 use Rattle.disk_trait.specs.Faults.{CountsFaults}
 use Rattle.disk_trait.specs.Files.{Files}
 use Rattle.flowfile_record.specs.NamedFile.{NamedFile}
@@ -56,14 +56,6 @@ still_works answer e f old new works reopen = not_so f.failed (λ fails. of (reo
     of (inr (inl disk)) = cc
     of (inr (inr outbox)) = cc
 
--- .. which tells each failure by its error
-pub works_on : {A : Type 0} (answer : A) (e : EngineState) → (e.failed ≡ true → IsErrOf (Ok answer) Disk ⊎ IsErrOf (Ok answer) Outbox) → e.failed ≡ false
-works_on answer e only = not_so e.failed (λ fails. of (only fails))
-  where
-    of : IsErrOf (Ok answer) Disk ⊎ IsErrOf (Ok answer) Outbox → ⊥
-    of (inl disk) = cc
-    of (inr outbox) = cc
-
 -- ---- faults are counted
 
 pub counts_after : (failed : Type 0) (old mid new : ℕ) → old ≤ mid → CountsFaults mid new failed → CountsFaults old new failed
@@ -91,7 +83,13 @@ no_fault answer disk_old disk_new inbox_old inbox_new outbox_old outbox_new disk
   outbox = record { never_falls = outbox; rose = λ is below. absurd cc };
 }
 
--- ---- a run stops between two steps
+-- ---- a run is stopped
+
+-- the exit of a `?` answers this error, which stops the run
+pub stopped_at : {A : Type 0} (result : Result A EngineError) (behind : A → Type 0) (stops : EngineError → Type 0) (error : EngineError) → result ≡ Err error → stops error → MatchResult result behind stops
+stopped_at {A = A} result behind stops error is stopped = subst (λ (r : Result A EngineError). MatchResult r behind stops) (sym is) stopped
+
+-- ---- .. between two steps
 
 -- neither want of memory nor a store that must be opened anew is a limit
 pub no_limit : (one error : EngineError) → one ≡ error → (one ≡ MustReopen) ⊎ (one ≡ Memory) → IsNoLimit error

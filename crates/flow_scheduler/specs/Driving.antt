@@ -1,5 +1,5 @@
--- How a turn of an engine ends.
-use Rattle.std.specs.Prelude.{◌≡◌, ◌⊎◌, ℕ, List, [], ◌∷◌, ◌++◌, Option, None, Some}
+-- What a call that drives an engine's run needs, and what it leaves.
+use Rattle.std.specs.Prelude.{◌≡◌, ◌⊎◌, ℕ, ◌≤◌, Bool, true, IsTrue, List, [], ◌∷◌, ◌++◌, Option, None, Some, Result, MatchResult, OnOk, IsErrOf}
 use Rattle.disk_trait.specs.Files.{Files}
 use Rattle.flowfile_record.specs.NamedFile.{NamedFile}
 use Rattle.machine_model.specs.declared.journal.Entry.{Entry}
@@ -8,29 +8,76 @@ use Rattle.engine_choice.specs.Laws.{IsEndAt}
 use Rattle.engine_choice.specs.declared.choice.Ending.{Ending}
 use Rattle.engine_choice.specs.declared.choice.Ending.TheVariants.{Rest}
 use Rattle.run_law.specs.Puts.{Outgoing, Start}
-use Rattle.run_law.specs.Turns.{step_moment}
-use Rattle.engine_steps.specs.Engine.{EngineState}
-use Rattle.engine_steps.specs.Running.{IsRunning, IsRunningTo}
+use Rattle.run_law.specs.Turns.{AreMadeAt, step_moment}
+use Rattle.run_law.specs.Work.{WritesLog}
+use Rattle.engine_steps.specs.Engine.{EngineState, IsOfSameRun}
+use Rattle.engine_steps.specs.Errors.{HasCause}
+use Rattle.engine_steps.specs.Leaving.{MayGoOn}
+use Rattle.engine_steps.specs.Running.{IsRunning, IsRunningTo, Stops}
+use Rattle.engine_steps.specs.declared.error.EngineError.{EngineError}
+use Rattle.engine_steps.specs.declared.error.EngineError.TheVariants.{Disk, MustReopen, Outbox}
 
--- Nothing is left to do, or all of it is held back, at this moment of the clock.
-pub record IsEnded {D : Type 0} (moment : D → ℕ) (images : D → ℕ → Files → Type 0) (e : EngineState)
-    (opened : Machine) (first : D) (start : Start) (time : ℕ) (now : D) (left : List NamedFile)
-    (out : Outgoing) (ending : Ending) : Type 0 where
-  pub reached : Machine
-  pub to : IsRunningTo moment images e opened first start time now left out reached
-  pub ends : IsEndAt e.flow reached.state reached.world time ending
+-- ---- whatever the devices tell
 
--- what a turn leaves at this moment of the clock: a run that goes on, at once or behind a rest, or one that has ended
-abbrev pub IsTurned : {D : Type 0} → (D → ℕ) → (D → ℕ → Files → Type 0) → EngineState → (opened : Machine)
-    → (first : D) → (start : Start) (time : ℕ) → (now : D) → List NamedFile → Outgoing → Option Ending → Type 0
-IsTurned moment images e opened first start time now left out None =
-    IsRunning moment images e opened first start time now left out
-IsTurned moment images e opened first start time now left out (Some (Rest until)) =
-    IsRunning moment images e opened first start time now left out
-IsTurned moment images e opened first start time now left out (Some ending) =
-    IsEnded moment images e opened first start time now left out ending
+-- What a call leaves. Where it went well, another may follow. The engine has failed only where the disk or the outbox
+-- did, as is answered. The run's constants stay, only what a run writes was written, and each limit and each damage has
+-- its cause.
+pub record LeavesRun {D A : Type 0} (result : Result A EngineError) (tells : Bool) (held : D → Files) (moment : D → ℕ)
+    (images : D → ℕ → Files → Type 0) (in_tells : Bool) (left : List NamedFile) (e_old e_new : EngineState)
+    (old new : D) : Type 0 where
+  pub may : OnOk result (MayGoOn tells held moment images in_tells left e_new new)
+  pub failed : e_new.failed ≡ true → IsErrOf result Disk ⊎ IsErrOf result Outbox
+  pub works : IsErrOf result MustReopen → ⊥
+  pub same : IsOfSameRun e_old e_new
+  pub alone : WritesLog moment images e_old.store.log.number old new
+  pub why : HasCause result e_old.flow tells held moment images e_old.store.lot e_old.most e_new.journal e_new.store
+      new
 
 -- a turn's journal has one entry more at most, of a step that was made at this moment
 abbrev pub GrowsAt : (moment : ℕ) → (old new : List Entry) → Type 0
 GrowsAt moment old new =
     (new ≡ old) ⊎ ((entry : Entry) × (step_moment entry.step ≡ moment) × (new ≡ old ++ entry ∷ []))
+
+-- The clock's time doesn't fall. Where each moment of a step was one that the clock gave, it still is; and so is the
+-- time, where the call went well.
+pub record KeepsTime {A : Type 0} (result : Result A EngineError) (is_given : ℕ → Type 0) (time_old time_new : ℕ)
+    (journal_old journal_new : List Entry) : Type 0 where
+  pub later : time_old ≤ time_new
+  pub moments : AreMadeAt is_given journal_old → AreMadeAt is_given journal_new
+  pub given : OnOk result (is_given time_new)
+
+-- ---- where all devices tell
+
+-- Nothing is left to do, or all of it is held back, at this moment of the clock.
+pub record IsEnded {D : Type 0} (ending : Ending) (moment : D → ℕ) (images : D → ℕ → Files → Type 0) (e : EngineState)
+    (opened : Machine) (first : D) (start : Start) (time : ℕ) (now : D) (left : List NamedFile)
+    (out : Outgoing) : Type 0 where
+  pub reached : Machine
+  pub to : IsRunningTo moment images e opened first start time now left out reached
+  pub ends : IsEndAt e.flow reached.state reached.world time ending
+
+-- what a turn leaves at this moment of the clock: a run that goes on, at once or behind a rest, or one that has ended
+abbrev pub IsTurned : {D : Type 0} → Option Ending → (D → ℕ) → (D → ℕ → Files → Type 0) → EngineState
+    → (opened : Machine) → (first : D) → (start : Start) (time : ℕ) → (now : D) → List NamedFile → Outgoing → Type 0
+IsTurned None moment images e opened first start time now left out =
+    IsRunning moment images e opened first start time now left out
+IsTurned (Some (Rest until)) moment images e opened first start time now left out =
+    IsRunning moment images e opened first start time now left out
+IsTurned (Some ending) moment images e opened first start time now left out =
+    IsEnded ending moment images e opened first start time now left out
+
+-- What a call makes of each run that had come to the engine's old state by this time: at an answer the run is so behind
+-- it, at the new time, and an error has stopped it.
+abbrev pub DrivesRun : {A D : Type 0} → Result A EngineError
+    → (behind : A → (D → ℕ) → (D → ℕ → Files → Type 0) → EngineState → Machine → D → Start → ℕ → D → List NamedFile
+    → Outgoing → Type 0)
+    → (tells in_tells out_tells : Bool) → (D → Files) → (D → ℕ) → (D → ℕ → Files → Type 0)
+    → (e_old e_new : EngineState) → (by at : ℕ) → (old new : D) → (left now_left : List NamedFile)
+    → (out now_out : Outgoing) → Type 0
+DrivesRun {D = D} result behind tells in_tells out_tells held moment images e_old e_new by at old new left now_left
+    out now_out =
+    IsTrue tells → IsTrue in_tells → IsTrue out_tells → (opened : Machine) (first : D) (start : Start) (time : ℕ)
+    → time ≤ by → IsRunning moment images e_old opened first start time old left out
+    → MatchResult result
+    (λ answer. behind answer moment images e_new opened first start at new now_left now_out)
+    (λ error. Stops error tells held moment images e_new opened first start at new now_left now_out)

@@ -1,18 +1,14 @@
 //! An engine goes on until nothing is left to do.
-ghost use Rattle.std.specs.Prelude.{◌≡◌, ◌⊎◌, ℕ, ◌-◌, ◌^◌, ◌<◌, ◌≤◌, true, false, Option, None, Some, IfOk, OnOk, IsErrOf, IsTrue};
-ghost use Rattle.kept_state.specs.declared.limit.Limit.{Limit as TheLimit};
-ghost use Rattle.machine_model.specs.State.{Machine};
+ghost use Rattle.std.specs.Prelude.{◌≡◌, ℕ, None, Some, IfOk, OnOk};
 ghost use Rattle.engine_choice.specs.declared.choice.Ending.{Ending as TheEnding};
 ghost use Rattle.engine_steps.specs.Checkout.{session_in};
-ghost use Rattle.flow_scheduler.specs.Driving.{GrowsAt, IsEnded, IsTurned};
-ghost use Rattle.run_law.specs.Turns.{AreMadeAt};
-ghost use Rattle.engine_steps.specs.Engine.{AreTakeable, IsOfSameRun};
-ghost use Rattle.engine_steps.specs.Errors.{CountsEachFault, HasCause};
-ghost use Rattle.engine_steps.specs.Ready.{EngineIsReady, due_in};
-ghost use Rattle.engine_steps.specs.Running.{IsRunning, Stops};
-ghost use Rattle.run_law.specs.Work.{IsAtWork, IsNoEarlier, IsShortOn, WritesLog};
-ghost use Rattle.engine_steps.specs.declared.error.EngineError.{EngineError as TheError};
-ghost use Rattle.run_law.specs.Puts.{Start, outgoing};
+ghost use Rattle.engine_steps.specs.Errors.{CountsEachFault};
+ghost use Rattle.engine_steps.specs.Leaving.{MayGoOn};
+ghost use Rattle.engine_steps.specs.Ready.{due_in};
+ghost use Rattle.engine_steps.specs.Running.{IsRunning};
+ghost use Rattle.flow_scheduler.specs.Driving.{DrivesRun, GrowsAt, IsEnded, IsTurned, KeepsTime, LeavesRun};
+ghost use Rattle.run_law.specs.Puts.{outgoing};
+ghost use Rattle.run_law.specs.Work.{IsNoEarlier, IsShortOn};
 
 use disk_trait::Disk;
 use engine_choice::{
@@ -35,36 +31,19 @@ pub(crate) fn drive<D: Disk, I: Inbox, O: Outbox, C: Clock, G: Gate>(
     clock: &mut C,
     gate: &G,
 ) -> Result<Ending, EngineError>
-    requires ready { EngineIsReady D.tells D.held D.moment D.images engine.old disk.old }
-    requires works { engine.old.failed ≡ false }
-    requires left { IsTrue I.tells → AreTakeable (I.left inbox.old) engine.old.listing.names }
+    requires may { MayGoOn D.tells D.held D.moment D.images I.tells (I.left inbox.old) engine.old disk.old }
     // The run went on until nothing was left to do, or it was stopped.
-    ensures ended { IfOk result (λ ending. IsTrue D.tells → IsTrue I.tells → IsTrue O.tells
-        → (opened : Machine) (first : D) (start : Start) (time : ℕ) → time ≤ C.time clock.old
-        → IsRunning D.moment D.images engine.old opened first start time disk.old (I.left inbox.old)
-        (outgoing O.standing O.puts outbox.old)
-        → IsEnded D.moment D.images engine.new opened first start (C.time clock.new) disk.new (I.left inbox.new)
-        (outgoing O.standing O.puts outbox.new) ending) }
-    ensures stopped { (error : TheError) → IsErrOf result error → IsTrue D.tells → IsTrue I.tells → IsTrue O.tells
-        → (opened : Machine) (first : D) (start : Start) (time : ℕ) → time ≤ C.time clock.old
-        → IsRunning D.moment D.images engine.old opened first start time disk.old (I.left inbox.old)
-        (outgoing O.standing O.puts outbox.old)
-        → Stops error D.tells D.held D.moment D.images engine.new opened first start (C.time clock.new) disk.new
-        (I.left inbox.new) (outgoing O.standing O.puts outbox.new) }
+    ensures run { DrivesRun result IsEnded D.tells I.tells O.tells D.held D.moment D.images engine.old engine.new
+        (C.time clock.old) (C.time clock.new) disk.old disk.new (I.left inbox.old) (I.left inbox.new)
+        (outgoing O.standing O.puts outbox.old) (outgoing O.standing O.puts outbox.new) }
     ensures no_rest { IfOk result (λ ending. (until : ℕ) → ending ≡ Ending.Rest until → ⊥) }
     ensures short { OnOk result (IsShortOn D.moment D.images engine.new.checkpoint disk.new) }
     // Whatever inbox and outbox tell.
-    ensures work { OnOk result (IsAtWork engine.old.flow D.tells D.held D.moment D.images engine.new.store disk.new) }
-    ensures later { C.time clock.old ≤ C.time clock.new }
+    ensures leaves { LeavesRun result D.tells D.held D.moment D.images I.tells (I.left inbox.new) engine.old engine.new
+        disk.old disk.new }
     // Each moment of a step, and that of the end, is one that the clock gave.
-    ensures moments { AreMadeAt C.given engine.old.journal → AreMadeAt C.given engine.new.journal }
-    ensures given { OnOk result (C.given (C.time clock.new)) }
-    ensures failed { engine.new.failed ≡ true → IsErrOf result EngineError.Disk ⊎ IsErrOf result EngineError.Outbox }
-    ensures works { IsErrOf result EngineError.MustReopen → ⊥ }
-    ensures same { IsOfSameRun engine.old engine.new }
-    ensures alone { WritesLog D.moment D.images engine.old.store.log.number disk.old disk.new }
-    ensures why { HasCause result engine.old.flow D.tells D.held D.moment D.images engine.old.store.lot engine.old.most
-        engine.new.journal engine.new.store disk.new }
+    ensures clock { KeepsTime result C.given (C.time clock.old) (C.time clock.new)
+        engine.old.journal engine.new.journal }
     ensures cause { CountsEachFault result (D.faults disk.old) (D.faults disk.new)
         (I.faults inbox.old) (I.faults inbox.new) (O.faults outbox.old) (O.faults outbox.new) }
 {
@@ -92,33 +71,16 @@ fn turn<D: Disk, I: Inbox, O: Outbox, G: Gate>(
     moment: u64,
     gate: &G,
 ) -> Result<Option<Ending>, EngineError>
-    requires ready { EngineIsReady D.tells D.held D.moment D.images engine.old disk.old }
-    requires works { engine.old.failed ≡ false }
-    requires left { IsTrue I.tells → AreTakeable (I.left inbox.old) engine.old.listing.names }
-    ensures turned { IfOk result (λ ending. IsTrue D.tells → IsTrue I.tells → IsTrue O.tells
-        → (opened : Machine) (first : D) (start : Start) (time : ℕ) → time ≤ moment
-        → IsRunning D.moment D.images engine.old opened first start time disk.old (I.left inbox.old)
-        (outgoing O.standing O.puts outbox.old)
-        → IsTurned D.moment D.images engine.new opened first start moment disk.new (I.left inbox.new)
-        (outgoing O.standing O.puts outbox.new) ending) }
+    requires may { MayGoOn D.tells D.held D.moment D.images I.tells (I.left inbox.old) engine.old disk.old }
+    ensures run { DrivesRun result IsTurned D.tells I.tells O.tells D.held D.moment D.images engine.old engine.new
+        moment moment disk.old disk.new (I.left inbox.old) (I.left inbox.new)
+        (outgoing O.standing O.puts outbox.old) (outgoing O.standing O.puts outbox.new) }
     ensures short { IfOk result (λ ending. (end : TheEnding) → ending ≡ Some end
         → IsShortOn D.moment D.images engine.new.checkpoint disk.new) }
-    ensures stopped { (error : TheError) → IsErrOf result error → IsTrue D.tells → IsTrue I.tells → IsTrue O.tells
-        → (opened : Machine) (first : D) (start : Start) (time : ℕ) → time ≤ moment
-        → IsRunning D.moment D.images engine.old opened first start time disk.old (I.left inbox.old)
-        (outgoing O.standing O.puts outbox.old)
-        → Stops error D.tells D.held D.moment D.images engine.new opened first start moment disk.new
-        (I.left inbox.new) (outgoing O.standing O.puts outbox.new) }
-    ensures ready { OnOk result (EngineIsReady D.tells D.held D.moment D.images engine.new disk.new) }
+    ensures leaves { LeavesRun result D.tells D.held D.moment D.images I.tells (I.left inbox.new) engine.old engine.new
+        disk.old disk.new }
     ensures grows { GrowsAt moment engine.old.journal engine.new.journal }
-    ensures failed { engine.new.failed ≡ true → IsErrOf result EngineError.Disk ⊎ IsErrOf result EngineError.Outbox }
-    ensures works { IsErrOf result EngineError.MustReopen → ⊥ }
-    ensures left { OnOk result (IsTrue I.tells → AreTakeable (I.left inbox.new) engine.new.listing.names) }
-    ensures same { IsOfSameRun engine.old engine.new }
     ensures log { OnOk result (IsNoEarlier engine.old.store.log.number engine.new.store.log.number) }
-    ensures alone { WritesLog D.moment D.images engine.old.store.log.number disk.old disk.new }
-    ensures why { HasCause result engine.old.flow D.tells D.held D.moment D.images engine.old.store.lot engine.old.most
-        engine.new.journal engine.new.store disk.new }
     ensures cause { CountsEachFault result (D.faults disk.old) (D.faults disk.new)
         (I.faults inbox.old) (I.faults inbox.new) (O.faults outbox.old) (O.faults outbox.new) }
 {
@@ -138,35 +100,18 @@ fn go_on<D: Disk, I: Inbox, O: Outbox, G: Gate>(
     moment: u64,
     gate: &G,
 ) -> Result<Option<Ending>, EngineError>
-    requires ready { EngineIsReady D.tells D.held D.moment D.images engine.old disk.old }
-    requires works { engine.old.failed ≡ false }
-    requires left { IsTrue I.tells → AreTakeable (I.left inbox.old) engine.old.listing.names }
+    requires may { MayGoOn D.tells D.held D.moment D.images I.tells (I.left inbox.old) engine.old disk.old }
     requires tended { due_in engine.old moment ≡ None }
     requires short { IsShortOn D.moment D.images engine.old.checkpoint disk.old }
-    ensures turned { IfOk result (λ ending. IsTrue D.tells → IsTrue I.tells → IsTrue O.tells
-        → (opened : Machine) (first : D) (start : Start) (time : ℕ) → time ≤ moment
-        → IsRunning D.moment D.images engine.old opened first start time disk.old (I.left inbox.old)
-        (outgoing O.standing O.puts outbox.old)
-        → IsTurned D.moment D.images engine.new opened first start moment disk.new (I.left inbox.new)
-        (outgoing O.standing O.puts outbox.new) ending) }
+    ensures run { DrivesRun result IsTurned D.tells I.tells O.tells D.held D.moment D.images engine.old engine.new
+        moment moment disk.old disk.new (I.left inbox.old) (I.left inbox.new)
+        (outgoing O.standing O.puts outbox.old) (outgoing O.standing O.puts outbox.new) }
     ensures short { IfOk result (λ ending. (end : TheEnding) → ending ≡ Some end
         → IsShortOn D.moment D.images engine.new.checkpoint disk.new) }
-    ensures stopped { (error : TheError) → IsErrOf result error → IsTrue D.tells → IsTrue I.tells → IsTrue O.tells
-        → (opened : Machine) (first : D) (start : Start) (time : ℕ) → time ≤ moment
-        → IsRunning D.moment D.images engine.old opened first start time disk.old (I.left inbox.old)
-        (outgoing O.standing O.puts outbox.old)
-        → Stops error D.tells D.held D.moment D.images engine.new opened first start moment disk.new
-        (I.left inbox.new) (outgoing O.standing O.puts outbox.new) }
-    ensures ready { OnOk result (EngineIsReady D.tells D.held D.moment D.images engine.new disk.new) }
+    ensures leaves { LeavesRun result D.tells D.held D.moment D.images I.tells (I.left inbox.new) engine.old engine.new
+        disk.old disk.new }
     ensures grows { GrowsAt moment engine.old.journal engine.new.journal }
-    ensures failed { engine.new.failed ≡ true → IsErrOf result EngineError.Disk ⊎ IsErrOf result EngineError.Outbox }
-    ensures works { IsErrOf result EngineError.MustReopen → ⊥ }
-    ensures left { OnOk result (IsTrue I.tells → AreTakeable (I.left inbox.new) engine.new.listing.names) }
-    ensures same { IsOfSameRun engine.old engine.new }
     ensures log { engine.new.store.log.number ≡ engine.old.store.log.number }
-    ensures alone { WritesLog D.moment D.images engine.old.store.log.number disk.old disk.new }
-    ensures why { HasCause result engine.old.flow D.tells D.held D.moment D.images engine.old.store.lot engine.old.most
-        engine.new.journal engine.new.store disk.new }
     ensures cause { CountsEachFault result (D.faults disk.old) (D.faults disk.new)
         (I.faults inbox.old) (I.faults inbox.new) (O.faults outbox.old) (O.faults outbox.new) }
 {
@@ -203,32 +148,15 @@ fn run_session<D: Disk, I: Inbox, O: Outbox, G: Gate>(
     choice: Choice,
     gate: &G,
 ) -> Result<(), EngineError>
-    requires ready { EngineIsReady D.tells D.held D.moment D.images engine.old disk.old }
-    requires works { engine.old.failed ≡ false }
+    requires may { MayGoOn D.tells D.held D.moment D.images I.tells (I.left inbox.old) engine.old disk.old }
     requires chosen { session_in engine.old moment ≡ Some choice }
-    requires left { IsTrue I.tells → AreTakeable (I.left inbox.old) engine.old.listing.names }
-    ensures goes_on { OnOk result (IsTrue D.tells → IsTrue I.tells → IsTrue O.tells
-        → (opened : Machine) (first : D) (start : Start) (time : ℕ) → time ≤ moment
-        → IsRunning D.moment D.images engine.old opened first start time disk.old (I.left inbox.old)
-        (outgoing O.standing O.puts outbox.old)
-        → IsRunning D.moment D.images engine.new opened first start moment disk.new (I.left inbox.new)
-        (outgoing O.standing O.puts outbox.new)) }
-    ensures stopped { (error : TheError) → IsErrOf result error → IsTrue D.tells → IsTrue I.tells → IsTrue O.tells
-        → (opened : Machine) (first : D) (start : Start) (time : ℕ) → time ≤ moment
-        → IsRunning D.moment D.images engine.old opened first start time disk.old (I.left inbox.old)
-        (outgoing O.standing O.puts outbox.old)
-        → Stops error D.tells D.held D.moment D.images engine.new opened first start moment disk.new
-        (I.left inbox.new) (outgoing O.standing O.puts outbox.new) }
-    ensures ready { OnOk result (EngineIsReady D.tells D.held D.moment D.images engine.new disk.new) }
+    ensures run { DrivesRun result (λ done. IsRunning) D.tells I.tells O.tells D.held D.moment D.images
+        engine.old engine.new moment moment disk.old disk.new (I.left inbox.old) (I.left inbox.new)
+        (outgoing O.standing O.puts outbox.old) (outgoing O.standing O.puts outbox.new) }
+    ensures leaves { LeavesRun result D.tells D.held D.moment D.images I.tells (I.left inbox.new) engine.old engine.new
+        disk.old disk.new }
     ensures grows { GrowsAt moment engine.old.journal engine.new.journal }
-    ensures failed { engine.new.failed ≡ true → IsErrOf result EngineError.Disk ⊎ IsErrOf result EngineError.Outbox }
-    ensures works { IsErrOf result EngineError.MustReopen → ⊥ }
-    ensures left { OnOk result (IsTrue I.tells → AreTakeable (I.left inbox.new) engine.new.listing.names) }
-    ensures same { IsOfSameRun engine.old engine.new }
     ensures log { engine.new.store.log.number ≡ engine.old.store.log.number }
-    ensures alone { WritesLog D.moment D.images engine.old.store.log.number disk.old disk.new }
-    ensures why { HasCause result engine.old.flow D.tells D.held D.moment D.images engine.old.store.lot engine.old.most
-        engine.new.journal engine.new.store disk.new }
     ensures cause { CountsEachFault result (D.faults disk.old) (D.faults disk.new)
         (I.faults inbox.old) (I.faults inbox.new) (O.faults outbox.old) (O.faults outbox.new) }
 {

@@ -1,14 +1,11 @@
-use Rattle.std.proofs.Common.{◌≡◌, inr, length, refl, sym, ◌∙◌, ap, subst, arith}
-use Rattle.std.specs.Prelude.{Err}
+use Rattle.std.proofs.Common.{◌≡◌, inr, length, refl, sym, ◌∙◌, ap, subst, arith, rules}
 use Rattle.std.proofs.lemmas.Result.{err_from_is_err_and}
 use Rattle.kept_state.specs.declared.limit.Limit.{Limit as TheLimit}
 use Rattle.engine_choice.specs.declared.choice.Ending.TheVariants.{Blocked, Quiet}
 use Rattle.engine_steps.specs.Checkout.{choice_in, ending_in}
 use Rattle.engine_steps.specs.Engine.{EngineState}
-use Rattle.engine_steps.specs.Running.{IsLimited, Stops}
+use Rattle.engine_steps.specs.Running.{IsLimited}
 use Rattle.engine_steps.specs.declared.checkout.Checkout.TheVariants as next
-use Rattle.engine_steps.specs.declared.error.EngineError.{EngineError}
-use Rattle.engine_steps.specs.declared.error.EngineError.TheVariants.{Limit}
 use Rattle.engine_steps.proofs.Choosing.{goes_on}
 use Rattle.store_core.specs.Flow.{Flow}
 use Rattle.store_core.specs.Store.{kept_by}
@@ -17,14 +14,14 @@ use Rattle.flow_scheduler.proofs.Ending.{turned_at_end}
 use Rattle.engine_steps.proofs.Expired.{are_of}
 use Rattle.engine_steps.proofs.Goes.{stops_unmoved}
 use Rattle.engine_steps.proofs.RunsOn.{runs_idle, spared_by_none}
-use Rattle.flow_scheduler.proofs.Turning.{limited, no_limit}
+use Rattle.flow_scheduler.proofs.Turning.{limited, no_limit, stopped_at}
 use Rattle.run_law.specs.Puts.{outgoing}
 use Rattle.flow_scheduler.proofs.driving.go_on.Goals as goal
 
 pub checkout-requires : goal.checkout-requires
 checkout-requires g c =
     let e : EngineState = c.args.engine.now in
-    let ready = c.requires.ready in
+    let ready = c.requires.may.ready in
     record {
       may = λ works. record {
         choose = record {
@@ -39,27 +36,28 @@ checkout-requires g c =
       };
     }
 
-pub returns-in_err-checkout-clause-stopped : goal.returns-in_err-checkout-clause-stopped
-returns-in_err-checkout-clause-stopped g c error is telling in_telling out_telling opened first start time le run =
+pub returns-in_err-checkout-clause-run : goal.returns-in_err-checkout-clause-run
+returns-in_err-checkout-clause-run g c telling in_telling out_telling opened first start time le run =
     let D = g.D.Disk in
     let e : EngineState = c.args.engine.now in
     let disk = c.args.disk.now in
     let left = g.I.Inbox.left c.args.inbox.now in
     let out = outgoing g.O.Outbox.standing g.O.Outbox.puts c.args.outbox.now in
     let p = err_from_is_err_and c.from_residual.result c.from_residual.ensures.1 in
-    let told : c.in_err-checkout.field-0.0 ≡ error = cc (p.1, p.2, is) in
-    stops_unmoved D.tells D.held D.moment D.images e e opened first start time disk disk left out run refl refl c.faults_end_a_run.ensures.between refl
+    let error = c.in_err-checkout.field-0.0 in
+    stopped_at c.from_residual.result _ _ error (cc (p.1, p.2))
+    (stops_unmoved D.tells D.held D.moment D.images e e opened first start time disk disk left out run refl refl c.faults_end_a_run.ensures.between refl
     (spared_by_none D.tells D.held D.moment D.images e.flow e.store.lot run.reached disk run.to.run.holds)
-    error (no_limit c.in_err-checkout.field-0.0 error told c.in_err-checkout.ensures.kinds) c.args.moment le left out refl refl
+    error (no_limit error error refl c.in_err-checkout.ensures.kinds) c.args.moment le left out refl refl)
 
-pub returns-in_err-run_session-in-Session-clause-stopped : goal.returns-in_err-run_session-in-Session-clause-stopped
-returns-in_err-run_session-in-Session-clause-stopped g c error is =
+pub returns-in_err-run_session-in-Session-clause-run : goal.returns-in_err-run_session-in-Session-clause-run
+returns-in_err-run_session-in-Session-clause-run g c telling in_telling out_telling opened first start time le run =
     let p = err_from_is_err_and c.from_residual-in_err-run_session-in-Session.result c.from_residual-in_err-run_session-in-Session.ensures.1 in
-    let told : c.in_err-run_session-in-Session.field-0.0 ≡ error = cc (p.1, p.2, is) in
-    c.in_err-run_session-in-Session.ensures.stopped error (ap Err told)
+    stopped_at c.from_residual-in_err-run_session-in-Session.result _ _ c.in_err-run_session-in-Session.field-0.0 (cc (p.1, p.2))
+    (c.in_err-run_session-in-Session.ensures.run telling in_telling out_telling opened first start time le run)
 
-pub returns-in-Limit-clause-stopped : goal.returns-in-Limit-clause-stopped
-returns-in-Limit-clause-stopped g c error is telling in_telling out_telling opened first start time le run =
+pub returns-in-Limit-clause-run : goal.returns-in-Limit-clause-run
+returns-in-Limit-clause-run g c telling in_telling out_telling opened first start time le run =
     let D = g.D.Disk in
     let e : EngineState = c.args.engine.now in
     let disk = c.args.disk.now in
@@ -69,31 +67,36 @@ returns-in-Limit-clause-stopped g c error is telling in_telling out_telling open
     let laws = g.met.D.Disk g.world.𝓛 g.world.𝓜 g.world.𝓡 ((λ s x. x), (λ x. x), (λ x. x), λ x. x) in
     let shown = c.shows_its_state.ensures telling run.reached run.to.run.holds in
     let it = full_as (length e.journal) e.most (choice_in e moment) (ending_in e moment) c.in-Limit.limit (comes_next e moment (next.Limit c.in-Limit.limit) c.requires.tended (sym c.in-Limit.is ∙ c.in_ok-checkout.ensures.next)) in
-    let full : length e.journal ≡ e.most = omega (arith, it.3, c.requires.ready.entries) in
+    let full : length e.journal ≡ e.most = omega (arith, it.3, c.requires.may.ready.entries) in
     let step = goes_on c.choices_are_sessions.ensures c.choices_are_seen.ensures c.sessions_are_steps.ensures.steps e run.reached moment it.0 run.to.run.valid shown.seen shown.counts run.to.coming
     (none_expired e moment c.requires.tended) it.1 in
-    let told : Limit c.in-Limit.limit ≡ error = cc in
-    subst (λ (x : EngineError). Stops x D.tells D.held D.moment D.images e opened first start moment disk left out) told
-    (subst (λ (l : TheLimit). IsLimited D.tells D.held D.moment D.images e l opened first start moment disk left out) (sym it.2)
-    (limited D.tells D.held D.moment D.images e opened first start time disk left out c.run_goes_on.ensures.spared moment le c.run_goes_on.ensures.turn run full (laws.held_is_left disk telling) step))
+    subst (λ (l : TheLimit). IsLimited D.tells D.held D.moment D.images e l opened first start moment disk left out) (sym it.2)
+    (limited D.tells D.held D.moment D.images e opened first start time disk left out c.run_goes_on.ensures.spared moment le c.run_goes_on.ensures.turn run full (laws.held_is_left disk telling) step)
 
-pub returns-in-Limit-clause-why : goal.returns-in-Limit-clause-why
-returns-in-Limit-clause-why g c =
+pub returns-in-Limit-clause-leaves : goal.returns-in-Limit-clause-leaves
+returns-in-Limit-clause-leaves g c =
     let e : EngineState = c.args.engine.now in
     let moment = c.args.moment in
     let it = full_as (length e.journal) e.most (choice_in e moment) (ending_in e moment) c.in-Limit.limit (comes_next e moment (next.Limit c.in-Limit.limit) c.requires.tended (sym c.in-Limit.is ∙ c.in_ok-checkout.ensures.next)) in
     record {
-      limited = λ limit is. let same : c.in-Limit.limit ≡ limit = cc in inr (record { told = sym same ∙ it.2; full = it.3 }, c.requires.ready.work);
-      damaged = λ damage is. absurd cc;
+      may = tt;
+      failed = search rules;
+      works = search rules;
+      same = search rules;
+      alone = search rules;
+      why = record {
+        limited = λ limit is. let same : c.in-Limit.limit ≡ limit = cc in inr (record { told = sym same ∙ it.2; full = it.3 }, c.requires.may.ready.work);
+        damaged = λ damage is. absurd cc;
+      };
     }
 
-pub returns-in-Rest-clause-turned : goal.returns-in-Rest-clause-turned
-returns-in-Rest-clause-turned g c telling in_telling out_telling opened first start time le run =
+pub returns-in-Rest-clause-run : goal.returns-in-Rest-clause-run
+returns-in-Rest-clause-run g c telling in_telling out_telling opened first start time le run =
     let D = g.D.Disk in
     runs_idle D.tells D.held D.moment D.images c.args.engine.now opened first c.args.disk.now start time c.args.moment le (g.I.Inbox.left c.args.inbox.now) (outgoing g.O.Outbox.standing g.O.Outbox.puts c.args.outbox.now) run c.run_goes_on.ensures.spared
 
-pub returns-in-Blocked-clause-turned : goal.returns-in-Blocked-clause-turned
-returns-in-Blocked-clause-turned g c telling in_telling out_telling opened first start time le run =
+pub returns-in-Blocked-clause-run : goal.returns-in-Blocked-clause-run
+returns-in-Blocked-clause-run g c telling in_telling out_telling opened first start time le run =
     let D = g.D.Disk in
     let e : EngineState = c.args.engine.now in
     let moment = c.args.moment in
@@ -105,8 +108,8 @@ returns-in-Blocked-clause-turned g c telling in_telling out_telling opened first
     let shown = c.shows_its_state.ensures telling on.reached on.to.run.holds in
     turned_at_end c.ends_are_machine_ends.ensures D.moment D.images e opened first c.args.disk.now left out start moment on shown.seen shown.counts c.requires.tended (Blocked c.in-Blocked.connection) it.1 it.0
 
-pub returns-in-Quiet-clause-turned : goal.returns-in-Quiet-clause-turned
-returns-in-Quiet-clause-turned g c telling in_telling out_telling opened first start time le run =
+pub returns-in-Quiet-clause-run : goal.returns-in-Quiet-clause-run
+returns-in-Quiet-clause-run g c telling in_telling out_telling opened first start time le run =
     let D = g.D.Disk in
     let e : EngineState = c.args.engine.now in
     let moment = c.args.moment in

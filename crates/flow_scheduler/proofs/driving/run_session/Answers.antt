@@ -1,5 +1,6 @@
-use Rattle.std.proofs.Common.{◌≡◌, inl, ℕ, ◌∙◌, ap, subst, arith}
+use Rattle.std.proofs.Common.{◌≡◌, inl, ℕ, refl, ◌∙◌, ap, subst, arith, rules}
 use Rattle.std.specs.Prelude.{false, Err}
+use Rattle.std.proofs.lemmas.Grind.{common_steps}
 use Rattle.std.proofs.lemmas.Result.{err_from_is_err_and}
 use Rattle.store_core.specs.Store.{kept_by}
 use Rattle.run_law.proofs.Writing.{reads_only}
@@ -8,71 +9,98 @@ use Rattle.engine_steps.specs.Running.{IsRunning, Stops}
 use Rattle.engine_steps.specs.declared.error.EngineError.{EngineError}
 use Rattle.engine_steps.proofs.Goes.{spared_by_read, stops_unmoved}
 use Rattle.engine_steps.proofs.Reread.{still_runs}
-use Rattle.flow_scheduler.proofs.Turning.{moment_of_work, read_same, still_works}
+use Rattle.flow_scheduler.proofs.Turning.{moment_of_work, read_same, still_works, stopped_at}
 use Rattle.flow_scheduler.proofs.Growing.{committed_grows, grows_behind}
 use Rattle.run_law.specs.Puts.{outgoing}
 use Rattle.flow_scheduler.proofs.driving.run_session.Goals as goal
 
-pub returns-in_err-job-clause-stopped : goal.returns-in_err-job-clause-stopped
-returns-in_err-job-clause-stopped g c error is telling in_telling out_telling opened first start time le run =
+pub returns-in_err-job-clause-run : goal.returns-in_err-job-clause-run
+returns-in_err-job-clause-run g c telling in_telling out_telling opened first start time le run =
     let D = g.D.Disk in
     let e : EngineState = c.args.engine.now in
     let p = err_from_is_err_and c.from_residual.result c.from_residual.ensures.1 in
-    let told : c.in_err-job.field-0.0 ≡ error = cc (p.1, p.2, is) in
-    let same = read_same c.read.result e c.read.new.self c.read.ensures.engine error (c.in_err-job.was ∙ ap Err told) in
-    stops_unmoved D.tells D.held D.moment D.images e c.read.new.self opened first start time c.args.disk.now c.read.new.disk (g.I.Inbox.left c.args.inbox.now) (outgoing g.O.Outbox.standing g.O.Outbox.puts c.args.outbox.now)
+    let error = c.in_err-job.field-0.0 in
+    let same = read_same c.read.result e c.read.new.self c.read.ensures.engine error c.in_err-job.was in
+    stopped_at c.from_residual.result _ _ error (cc (p.1, p.2))
+    (stops_unmoved D.tells D.held D.moment D.images e c.read.new.self opened first start time c.args.disk.now c.read.new.disk (g.I.Inbox.left c.args.inbox.now) (outgoing g.O.Outbox.standing g.O.Outbox.puts c.args.outbox.now)
     run same.0 same.1 c.faults_end_a_run.ensures.between same.2 (spared_by_read D.tells D.held D.moment D.images e.flow e.store.lot run.reached c.args.disk.now c.read.new.disk c.read.ensures.world.0 run.to.run.holds)
-    error (λ limit limited. c.in_err-job.ensures.refusal.unlimited limit (ap Err (told ∙ limited))) c.args.moment le
-    (g.I.Inbox.left c.read.new.inbox) (outgoing g.O.Outbox.standing g.O.Outbox.puts c.read.new.outbox) c.read.ensures.world.1 c.read.ensures.world.2
+    error (λ limit limited. c.in_err-job.ensures.refusal.unlimited limit (ap Err limited)) c.args.moment le
+    (g.I.Inbox.left c.read.new.inbox) (outgoing g.O.Outbox.standing g.O.Outbox.puts c.read.new.outbox) c.read.ensures.world.1 c.read.ensures.world.2)
 
-pub returns-in_err-done-clause-stopped : goal.returns-in_err-done-clause-stopped
-returns-in_err-done-clause-stopped g c error is telling in_telling out_telling opened first start time le run =
+pub returns-in_err-done-clause-run : goal.returns-in_err-done-clause-run
+returns-in_err-done-clause-run g c telling in_telling out_telling opened first start time le run =
     let D = g.D.Disk in
     let e : EngineState = c.args.engine.now in
     let same : c.read.new.self ≡ e = c.in_ok-job.ensures.engine.unchanged (λ disk. cc) in
     let p = err_from_is_err_and c.from_residual-in_err-done.result c.from_residual-in_err-done.ensures.1 in
-    let told : EngineError.Memory ≡ error = cc (p.1, p.2, is) in
-    stops_unmoved D.tells D.held D.moment D.images e c.read.new.self opened first start time c.args.disk.now c.read.new.disk (g.I.Inbox.left c.args.inbox.now) (outgoing g.O.Outbox.standing g.O.Outbox.puts c.args.outbox.now)
+    stopped_at c.from_residual-in_err-done.result _ _ EngineError.Memory (cc (p.1, p.2))
+    (stops_unmoved D.tells D.held D.moment D.images e c.read.new.self opened first start time c.args.disk.now c.read.new.disk (g.I.Inbox.left c.args.inbox.now) (outgoing g.O.Outbox.standing g.O.Outbox.puts c.args.outbox.now)
     run (ap (λ (x : EngineState). x.flow) same) (ap (λ (x : EngineState). x.store.lot) same) c.faults_end_a_run.ensures.between (ap (λ (x : EngineState). x.journal) same)
     (spared_by_read D.tells D.held D.moment D.images e.flow e.store.lot run.reached c.args.disk.now c.read.new.disk c.read.ensures.world.0 run.to.run.holds)
-    error (λ limit limited. let both : EngineError.Memory ≡ EngineError.Limit limit = told ∙ limited in cc) c.args.moment le
-    (g.I.Inbox.left c.read.new.inbox) (outgoing g.O.Outbox.standing g.O.Outbox.puts c.read.new.outbox) c.read.ensures.world.1 c.read.ensures.world.2
+    EngineError.Memory (λ limit limited. cc) c.args.moment le
+    (g.I.Inbox.left c.read.new.inbox) (outgoing g.O.Outbox.standing g.O.Outbox.puts c.read.new.outbox) c.read.ensures.world.1 c.read.ensures.world.2)
 
-pub returns-in_err-done-clause-alone : goal.returns-in_err-done-clause-alone
-returns-in_err-done-clause-alone g c = reads_only g.D.Disk.moment g.D.Disk.images c.args.engine.now.store.log.number g.D.Disk.held c.args.disk.now c.read.new.disk c.read.ensures.world.0
+pub returns-in_err-done-clause-leaves : goal.returns-in_err-done-clause-leaves
+returns-in_err-done-clause-leaves g c = record {
+  may = search rules;
+  failed = search rules;
+  works = search rules;
+  same = search rules;
+  alone = reads_only g.D.Disk.moment g.D.Disk.images c.args.engine.now.store.log.number g.D.Disk.held c.args.disk.now c.read.new.disk c.read.ensures.world.0;
+  why = search rules;
+}
 
-pub returns-in_err-commit-clause-stopped : goal.returns-in_err-commit-clause-stopped
-returns-in_err-commit-clause-stopped g c error is telling in_telling out_telling opened first start time le run =
+pub returns-in_err-commit-clause-run : goal.returns-in_err-commit-clause-run
+returns-in_err-commit-clause-run g c telling in_telling out_telling opened first start time le run =
     let D = g.D.Disk in
     let e : EngineState = c.args.engine.now in
     let next = c.in_ok-job.ensures.job.0 in
     let p = err_from_is_err_and c.from_residual-in_err-commit.result c.from_residual-in_err-commit.ensures.1 in
-    let told : c.in_err-commit.field-0.0 ≡ error = cc (p.1, p.2, is) in
+    let error = c.in_err-commit.field-0.0 in
     let same : c.read.new.self ≡ e = c.in_ok-job.ensures.engine.unchanged (λ disk. cc) in
     let at : c.in_ok-done.done.given.moment ≡ c.args.moment = moment_of_work (kept_by e.store) c.args.moment next.choice c.in_ok-job.job c.in_ok-done.done.given next.handed c.in_ok-done.ensures.given in
-    subst (λ (t : ℕ). Stops error D.tells D.held D.moment D.images c.commit.new.self opened first start t c.commit.new.disk (g.I.Inbox.left c.commit.new.inbox) (outgoing g.O.Outbox.standing g.O.Outbox.puts c.commit.new.outbox)) at
-    ((c.in_err-commit.ensures.run telling in_telling out_telling).stopped error (ap Err told) (ap (λ (x : EngineState). x.failed) same ∙ c.requires.works) opened first start time (omega (arith, le, at))
+    stopped_at c.from_residual-in_err-commit.result _ _ error (cc (p.1, p.2))
+    (subst (λ (t : ℕ). Stops error D.tells D.held D.moment D.images c.commit.new.self opened first start t c.commit.new.disk (g.I.Inbox.left c.commit.new.inbox) (outgoing g.O.Outbox.standing g.O.Outbox.puts c.commit.new.outbox)) at
+    ((c.in_err-commit.ensures.run telling in_telling out_telling).stopped error refl (ap (λ (x : EngineState). x.failed) same ∙ c.requires.may.works) opened first start time (omega (arith, le, at))
     (still_runs D.tells D.held D.moment D.images c.args.disk.now c.read.new.disk c.read.ensures.world.0 c.run_goes_on.ensures.spared e c.read.new.self same opened first start time time (omega arith)
-    (g.I.Inbox.left c.args.inbox.now) (g.I.Inbox.left c.read.new.inbox) (outgoing g.O.Outbox.standing g.O.Outbox.puts c.args.outbox.now) (outgoing g.O.Outbox.standing g.O.Outbox.puts c.read.new.outbox) c.read.ensures.world.1 c.read.ensures.world.2 run))
+    (g.I.Inbox.left c.args.inbox.now) (g.I.Inbox.left c.read.new.inbox) (outgoing g.O.Outbox.standing g.O.Outbox.puts c.args.outbox.now) (outgoing g.O.Outbox.standing g.O.Outbox.puts c.read.new.outbox) c.read.ensures.world.1 c.read.ensures.world.2 run)))
 
-pub returns-clause-goes_on : goal.returns-clause-goes_on
-returns-clause-goes_on g c telling in_telling out_telling opened first start time le run =
+pub returns-in_err-commit-clause-leaves : goal.returns-in_err-commit-clause-leaves
+returns-in_err-commit-clause-leaves g c = record {
+  may = search rules;
+  failed = grind (arith, common_steps);
+  works = search rules;
+  same = search rules;
+  alone = search rules;
+  why = search rules;
+}
+
+pub returns-clause-run : goal.returns-clause-run
+returns-clause-run g c telling in_telling out_telling opened first start time le run =
     let D = g.D.Disk in
     let e : EngineState = c.args.engine.now in
     let next = c.in_ok-job.ensures.job.0 in
     let same : c.read.new.self ≡ e = c.in_ok-job.ensures.engine.unchanged (λ disk. cc) in
-    let works : c.read.new.self.failed ≡ false = ap (λ (x : EngineState). x.failed) same ∙ c.requires.works in
+    let works : c.read.new.self.failed ≡ false = ap (λ (x : EngineState). x.failed) same ∙ c.requires.may.works in
     let at : c.in_ok-done.done.given.moment ≡ c.args.moment = moment_of_work (kept_by e.store) c.args.moment next.choice c.in_ok-job.job c.in_ok-done.done.given next.handed c.in_ok-done.ensures.given in
     subst (λ (t : ℕ). IsRunning D.moment D.images c.commit.new.self opened first start t c.commit.new.disk (g.I.Inbox.left c.commit.new.inbox) (outgoing g.O.Outbox.standing g.O.Outbox.puts c.commit.new.outbox)) at
     ((c.in_ok-commit.ensures.run telling in_telling out_telling).goes_on (still_works c.in_ok-commit.field-0 c.read.new.self c.commit.new.self _ _ works c.in_ok-commit.ensures.refusal.reopen) (λ inbox. absurd cc) opened first start time (omega (arith, le, at))
     (still_runs D.tells D.held D.moment D.images c.args.disk.now c.read.new.disk c.read.ensures.world.0 c.run_goes_on.ensures.spared e c.read.new.self same opened first start time time (omega arith)
     (g.I.Inbox.left c.args.inbox.now) (g.I.Inbox.left c.read.new.inbox) (outgoing g.O.Outbox.standing g.O.Outbox.puts c.args.outbox.now) (outgoing g.O.Outbox.standing g.O.Outbox.puts c.read.new.outbox) c.read.ensures.world.1 c.read.ensures.world.2 run))
 
-pub returns-clause-ready : goal.returns-clause-ready
-returns-clause-ready g c =
+pub returns-clause-leaves : goal.returns-clause-leaves
+returns-clause-leaves g c =
     let same : c.read.new.self ≡ c.args.engine.now = c.in_ok-job.ensures.engine.unchanged (λ disk. cc) in
-    let works : c.read.new.self.failed ≡ false = ap (λ (x : EngineState). x.failed) same ∙ c.requires.works in
-    c.commit.ensures.usable.usable (still_works c.in_ok-commit.field-0 c.read.new.self c.commit.new.self _ _ works c.in_ok-commit.ensures.refusal.reopen)
+    let works : c.read.new.self.failed ≡ false = ap (λ (x : EngineState). x.failed) same ∙ c.requires.may.works in
+    let well = still_works c.in_ok-commit.field-0 c.read.new.self c.commit.new.self _ _ works c.in_ok-commit.ensures.refusal.reopen in
+    record {
+      may = record { ready = c.commit.ensures.usable.usable well; works = well; left = c.commit.ensures.usable.takeable };
+      failed = search rules;
+      works = search rules;
+      same = search rules;
+      alone = search rules;
+      why = search rules;
+    }
 
 pub returns-in_err-job-clause-grows : goal.returns-in_err-job-clause-grows
 returns-in_err-job-clause-grows g c =

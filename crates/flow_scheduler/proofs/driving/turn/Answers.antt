@@ -1,6 +1,6 @@
-use Rattle.std.proofs.Common.{◌≡◌, ℕ, false, sym, ap, subst, arith}
-use Rattle.std.specs.Prelude.{Err, Ok, None, Result}
-use Rattle.std.proofs.lemmas.Result.{IfOk-weaker, err_from_is_err_and}
+use Rattle.std.proofs.Common.{◌≡◌, ℕ, false, refl, sym, ap, subst, arith}
+use Rattle.std.specs.Prelude.{Ok, None, Result}
+use Rattle.std.proofs.lemmas.Result.{err_from_is_err_and}
 use Rattle.engine_queues.specs.Listing.{Left}
 use Rattle.run_law.specs.Work.{IsShortOn}
 use Rattle.engine_steps.specs.Engine.{AreTakeable, EngineState}
@@ -8,16 +8,16 @@ use Rattle.engine_steps.specs.Tending.{HasTended}
 use Rattle.engine_steps.specs.declared.error.EngineError.{EngineError}
 use Rattle.engine_steps.specs.declared.tending.Tended.{Tended}
 use Rattle.engine_steps.specs.declared.tending.Tended.TheVariants.{Nothing}
-use Rattle.flow_scheduler.proofs.Turning.{no_fault, still_works}
+use Rattle.flow_scheduler.proofs.Turning.{no_fault, still_works, stopped_at}
 use Rattle.flow_scheduler.proofs.Growing.{grows_behind, tended_grows}
 use Rattle.run_law.specs.Puts.{outgoing}
 use Rattle.flow_scheduler.proofs.driving.turn.Goals as goal
 
-pub returns-in_err-tend-clause-stopped : goal.returns-in_err-tend-clause-stopped
-returns-in_err-tend-clause-stopped g c error is telling in_telling out_telling opened first start time le run =
+pub returns-in_err-tend-clause-run : goal.returns-in_err-tend-clause-run
+returns-in_err-tend-clause-run g c telling in_telling out_telling opened first start time le run =
     let p = err_from_is_err_and c.from_residual.result c.from_residual.ensures.1 in
-    let told : c.in_err-tend.field-0.0 ≡ error = cc (p.1, p.2, is) in
-    (c.in_err-tend.ensures.run telling).stopped error (ap Err told) c.requires.works opened first start time (g.I.Inbox.left c.args.inbox.now) (outgoing g.O.Outbox.standing g.O.Outbox.puts c.args.outbox.now) le run
+    stopped_at c.from_residual.result _ _ c.in_err-tend.field-0.0 (cc (p.1, p.2))
+    ((c.in_err-tend.ensures.run telling).stopped c.in_err-tend.field-0.0 refl c.requires.may.works opened first start time (g.I.Inbox.left c.args.inbox.now) (outgoing g.O.Outbox.standing g.O.Outbox.puts c.args.outbox.now) le run)
 
 pub go_on-requires-clause-short : goal.go_on-requires-clause-short
 go_on-requires-clause-short g c κs within =
@@ -28,39 +28,43 @@ go_on-requires-clause-short g c κs within =
     subst (λ (checkpoint : ℕ). IsShortOn g.D.Disk.moment g.D.Disk.images checkpoint c.tend.new.disk) (sym c.tend.ensures.alone.same.checkpoint)
     (subst (λ (d : _). IsShortOn g.D.Disk.moment g.D.Disk.images c.args.engine.now.checkpoint d) (sym none.0) none.1)
 
-pub returns-in-Nothing-clause-turned : goal.returns-in-Nothing-clause-turned
-returns-in-Nothing-clause-turned g c =
-    let well : c.tend.new.self.failed ≡ false = still_works c.in_ok-tend.field-0 c.args.engine.now c.tend.new.self _ _ c.requires.works c.in_ok-tend.ensures.refusal.reopen in
-    IfOk-weaker c.go_on.result _ _
-    (λ ending turned telling in_telling out_telling opened first start time le run.
-    turned telling in_telling out_telling opened first start c.args.moment (omega arith)
-    ((c.in_ok-tend.ensures.run telling).goes_on well opened first start time (g.I.Inbox.left c.args.inbox.now) (outgoing g.O.Outbox.standing g.O.Outbox.puts c.args.outbox.now) le run))
-    c.go_on.ensures.turned
+pub go_on-requires-clause-may : goal.go_on-requires-clause-may
+go_on-requires-clause-may g c κs within =
+    let well : c.tend.new.self.failed ≡ false = still_works c.in_ok-tend.field-0 c.args.engine.now c.tend.new.self _ _ c.requires.may.works c.in_ok-tend.ensures.refusal.reopen in
+    record {
+      ready = c.in_ok-tend.ensures.usable well;
+      works = well;
+      left = λ telling. subst (λ (l : Left). AreTakeable (g.I.Inbox.left c.args.inbox.now) l.names) (sym c.tend.ensures.alone.listing) (c.requires.may.left telling);
+    }
 
-pub returns-in-Nothing-clause-stopped : goal.returns-in-Nothing-clause-stopped
-returns-in-Nothing-clause-stopped g c error is telling in_telling out_telling opened first start time le run =
-    let well : c.tend.new.self.failed ≡ false = still_works c.in_ok-tend.field-0 c.args.engine.now c.tend.new.self _ _ c.requires.works c.in_ok-tend.ensures.refusal.reopen in
-    c.go_on.ensures.stopped error is telling in_telling out_telling opened first start c.args.moment (omega arith)
+pub returns-in-Nothing-clause-run : goal.returns-in-Nothing-clause-run
+returns-in-Nothing-clause-run g c telling in_telling out_telling opened first start time le run =
+    let well : c.tend.new.self.failed ≡ false = still_works c.in_ok-tend.field-0 c.args.engine.now c.tend.new.self _ _ c.requires.may.works c.in_ok-tend.ensures.refusal.reopen in
+    c.go_on.ensures.run telling in_telling out_telling opened first start c.args.moment (omega arith)
     ((c.in_ok-tend.ensures.run telling).goes_on well opened first start time (g.I.Inbox.left c.args.inbox.now) (outgoing g.O.Outbox.standing g.O.Outbox.puts c.args.outbox.now) le run)
 
 pub returns-in-Expired : goal.returns-in-Expired
 returns-in-Expired g c =
     let D = g.D.Disk in
-    let well : c.tend.new.self.failed ≡ false = still_works c.in_ok-tend.field-0 c.args.engine.now c.tend.new.self _ _ c.requires.works c.in_ok-tend.ensures.refusal.reopen in
+    let well : c.tend.new.self.failed ≡ false = still_works c.in_ok-tend.field-0 c.args.engine.now c.tend.new.self _ _ c.requires.may.works c.in_ok-tend.ensures.refusal.reopen in
     record {
-      turned = λ telling in_telling out_telling opened first start time le run.
+      run = λ telling in_telling out_telling opened first start time le run.
           (c.in_ok-tend.ensures.run telling).goes_on well opened first start time (g.I.Inbox.left c.args.inbox.now) (outgoing g.O.Outbox.standing g.O.Outbox.puts c.args.outbox.now) le run;
       short = λ end is. absurd cc;
-      stopped = λ error is. absurd cc;
-      ready = c.in_ok-tend.ensures.usable well;
+      leaves = record {
+        may = record {
+          ready = c.in_ok-tend.ensures.usable well;
+          works = well;
+          left = λ telling. subst (λ (l : Left). AreTakeable (g.I.Inbox.left c.args.inbox.now) l.names) (sym c.tend.ensures.alone.listing) (c.requires.may.left telling);
+        };
+        failed = λ fails. absurd cc;
+        works = λ is. absurd cc;
+        same = c.tend.ensures.alone.same;
+        alone = c.tend.ensures.alone.alone;
+        why = record { limited = λ limit is. absurd cc; damaged = λ damage is. absurd cc };
+      };
       grows = tended_grows c.tend.result c.args.moment (D.moment c.tend.new.disk) c.args.engine.now c.tend.new.self c.tend.ensures.tended.done;
-      failed = λ fails. absurd cc;
-      works = λ is. absurd cc;
-      left = λ telling. subst (λ (l : Left). AreTakeable (g.I.Inbox.left c.args.inbox.now) l.names) (sym c.tend.ensures.alone.listing) (c.requires.left telling);
-      same = c.tend.ensures.alone.same;
       log = c.in_ok-tend.ensures.alone.log;
-      alone = c.tend.ensures.alone.alone;
-      why = record { limited = λ limit is. absurd cc; damaged = λ damage is. absurd cc };
       cause =
           no_fault None (D.faults c.args.disk.now) (D.faults c.tend.new.disk) (g.I.Inbox.faults c.args.inbox.now) (g.I.Inbox.faults c.args.inbox.now) (g.O.Outbox.faults c.args.outbox.now) (g.O.Outbox.faults c.args.outbox.now)
           c.tend.ensures.refusal.disk.never_falls (omega arith) (omega arith);
