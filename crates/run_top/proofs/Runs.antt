@@ -18,7 +18,7 @@ use Rattle.engine_steps.specs.declared.close.Closed.{Closed}
 use Rattle.flow_scheduler.specs.declared.run.Ran.{Ran}
 use Rattle.run_top.specs.Opening.{IsOfFlow}
 use Rattle.run_top.specs.Printing.{IsLine, AnswerIsPrinted, IsRefusingAnswer, closing_text, end_text, refusal_line}
-use Rattle.run_top.specs.Run.{RunCountsFaults, AnswerHasCause, HasEnded, HasFailed, HasShownEnd, RunHasWritten, IsLeftShut, IsNotOpened, IsShownAs, IsToldAs, Runs}
+use Rattle.run_top.specs.Run.{RunCountsFaults, AnswerHasCause, HasFailed, HasNotRun, HasRunOver, HasShownEnd, RunHasWritten, IsLeftShut, IsNotOpened, IsShownAs, IsToldAs, Runs}
 use Rattle.run_top.specs.Status.{answer_of_run, answer_of_end}
 use Rattle.run_top.specs.declared.answer.Answer.{Answer}
 use Rattle.run_top.specs.declared.answer.Answer.TheVariants.{Sink}
@@ -78,8 +78,11 @@ module _ {D I O S : Type 0} (flow : Flow) (answer : Answer) (given : ℕ → Typ
   abbrev LeftShut : Answer → Type 0
   LeftShut a = IsLeftShut (identity_of flow) a held moment images lot old new inbox_old inbox_new outbox_old outbox_new
 
-  abbrev EndedBy : Ran → State → Type 0
-  EndedBy ran state = HasEnded flow ran given from_start time tells held moment images lot options.max_commits options.checkpoint (Opened state) old new (left inbox_new) (outgoing standing puts outbox_new)
+  abbrev RanOver : Ran → Type 0
+  RanOver ran = HasRunOver flow ran given start time lot options.max_commits options.checkpoint tells held moment images old new in_tells left inbox_old inbox_new out_tells standing puts outbox_old outbox_new
+
+  abbrev NotRun : Answer → Type 0
+  NotRun a = HasNotRun flow a given start time lot options.max_commits options.checkpoint tells held moment images old new left inbox_old inbox_new standing puts outbox_old outbox_new
 
   abbrev Failed : Answer → State → Type 0
   Failed a state = HasFailed flow a given from_start time tells held moment images lot options.max_commits options.checkpoint (Opened state) old new (left inbox_new) (outgoing standing puts outbox_new)
@@ -91,24 +94,23 @@ module _ {D I O S : Type 0} (flow : Flow) (answer : Answer) (given : ℕ → Typ
   Line = IsRefusingAnswer answer → IsTrue sink_tells → IsLine sink_faults written (refusal_line answer) sink_old sink_new
 
   -- its store was opened
-  ran_runs : (ran : Ran) → (IsTrue tells → IsTrue in_tells → IsTrue out_tells → (state : State) → IsOfFlow flow lot (held old) state → EndedBy ran state)
-      → MatchOption ran.closed (IsFault ran.ended) (λ closed. IsFault ran.ended → ⊥) → (IsTrue tells → IsShut (identity_of flow) lot (held old) → ⊥)
-      → Written (answer_of_end ran.ended) → Caused (answer_of_end ran.ended) → IsToldAs ran.ended answer
+  ran_runs : (ran : Ran) → RanOver ran → (IsTrue tells → IsShut (identity_of flow) lot (held old) → ⊥)
+      → Caused (answer_of_end ran.ended) → IsToldAs ran.ended answer
       → IfSome ran.closed (λ closed. IsTrue sink_tells → AnswerIsPrinted answer (closing_text flow ran.ended closed) (written sink_old) (written sink_new)) → Line
       → Runs flow answer given start time lot options tells held moment images old new in_tells left inbox_old inbox_new out_tells standing puts outbox_old outbox_new sink_tells written sink_faults sink_old sink_new
-  ran_runs ran ended closes fits alone why told printed line = record {
+  ran_runs ran over fits why told printed line = record {
     headline = λ disk_told in_told out_told state of.
-        let ends = ended disk_told in_told out_told state of in
+        let ends = over.ended disk_told in_told out_told state of in
         inl (record {
           ended = ran.ended;
           told = told;
           ends = ends.ends;
-          printed = printed_at flow answer ran.ended ends.ends.ran.reached ran.closed sink_tells (written sink_old) (written sink_new) closes ends.shows printed;
+          printed = printed_at flow answer ran.ended ends.ends.ran.reached ran.closed sink_tells (written sink_old) (written sink_new) over.closed ends.shows printed;
         });
     shut = λ disk_told shut. absurd (fits disk_told shut);
     alone = inl (⊎_elim
-        (λ (is : answer ≡ answer_of_end ran.ended). subst Written (sym is) alone)
-        (λ (sink : (answer ≡ Sink) × (IsFault ran.ended → ⊥)). record { alone = alone.alone; short = not_shown moment images options.checkpoint new answer sink.0 })
+        (λ (is : answer ≡ answer_of_end ran.ended). subst Written (sym is) over.alone)
+        (λ (sink : (answer ≡ Sink) × (IsFault ran.ended → ⊥)). record { alone = over.alone.alone; short = not_shown moment images options.checkpoint new answer sink.0 })
         told);
     why = ⊎_elim
         (λ (is : answer ≡ answer_of_end ran.ended). subst Caused (sym is) why)
@@ -118,10 +120,10 @@ module _ {D I O S : Type 0} (flow : Flow) (answer : Answer) (given : ℕ → Typ
   }
 
   -- it wasn't
-  refused_runs : (instead : Answer) → (IsTrue tells → (state : State) → IsOfFlow flow lot (held old) state → Failed instead state ⊎ Unopened instead)
-      → (IsTrue tells → IsShut (identity_of flow) lot (held old) → LeftShut instead ⊎ Unopened instead) → Written instead ⊎ Unopened instead → Caused instead → answer ≡ instead → Line
+  refused_runs : (instead : Answer) → NotRun instead
+      → (IsTrue tells → IsShut (identity_of flow) lot (held old) → LeftShut instead ⊎ Unopened instead) → Caused instead → answer ≡ instead → Line
       → Runs flow answer given start time lot options tells held moment images old new in_tells left inbox_old inbox_new out_tells standing puts outbox_old outbox_new sink_tells written sink_faults sink_old sink_new
-  refused_runs instead failed shut alone why is line = record {
+  refused_runs instead not_run shut why is line = record {
     headline = λ disk_told in_told out_told state of. ⊎_elim
         (λ (fails : Failed instead state). inl (record {
           ended = ending.Fault fails.cause;
@@ -130,28 +132,24 @@ module _ {D I O S : Type 0} (flow : Flow) (answer : Answer) (given : ℕ → Typ
           printed = λ no_fault sink_told. absurd (no_fault tt);
         }))
         (λ (un : Unopened instead). inr (subst Unopened (sym is) un))
-        (failed disk_told state of);
+        (not_run.failed disk_told state of);
     shut = λ disk_told shut_is. subst (λ (a : Answer). LeftShut a ⊎ Unopened a) (sym is) (shut disk_told shut_is);
-    alone = subst (λ (a : Answer). Written a ⊎ Unopened a) (sym is) alone;
+    alone = subst (λ (a : Answer). Written a ⊎ Unopened a) (sym is) not_run.barely;
     why = subst Caused (sym is) why;
     line = line;
   }
 
-  pub runs : (run : Result Ran Answer)
-      → IfOk run (λ ran. IsTrue tells → IsTrue in_tells → IsTrue out_tells → (state : State) → IsOfFlow flow lot (held old) state → EndedBy ran state)
-      → IfOk run (λ ran. MatchOption ran.closed (IsFault ran.ended) (λ closed. IsFault ran.ended → ⊥))
-      → IfErr run (λ a. IsTrue tells → (state : State) → IsOfFlow flow lot (held old) state → Failed a state ⊎ Unopened a)
-      → (IsTrue tells → IsShut (identity_of flow) lot (held old) → (a : Answer) × (run ≡ Err a) × (LeftShut a ⊎ Unopened a))
-      → IfOk run (λ ran. Written (answer_of_end ran.ended)) → IfErr run (λ a. Written a ⊎ Unopened a) → Caused (answer_of_run run) → IsShownAs run answer
+  pub runs : (run : Result Ran Answer) → IfOk run RanOver → IfErr run NotRun
+      → (IsTrue tells → IsShut (identity_of flow) lot (held old) → (a : Answer) × (run ≡ Err a) × (LeftShut a ⊎ Unopened a)) → Caused (answer_of_run run) → IsShownAs run answer
       → IfOk run (λ ran. IfSome ran.closed (λ closed. IsTrue sink_tells → AnswerIsPrinted answer (closing_text flow ran.ended closed) (written sink_old) (written sink_new))) → Line
       → Runs flow answer given start time lot options tells held moment images old new in_tells left inbox_old inbox_new out_tells standing puts outbox_old outbox_new sink_tells written sink_faults sink_old sink_new
-  runs (Ok ran) ended closes failed shut alone barely why told printed line =
-      ran_runs ran ended closes (λ disk_told shut_is. not_err (shut disk_told shut_is)) alone why told printed line
+  runs (Ok ran) over not_run shut why told printed line =
+      ran_runs ran over (λ disk_told shut_is. not_err (shut disk_told shut_is)) why told printed line
     where
       not_err : (a : Answer) × (◌≡◌ {A = Result Ran Answer} (Ok ran) (Err a)) × (LeftShut a ⊎ Unopened a) → ⊥
       not_err is = cc (is.1)
-  runs (Err instead) ended closes failed shut alone barely why told printed line =
-      refused_runs instead failed (λ disk_told shut_is. same (shut disk_told shut_is)) barely why told line
+  runs (Err instead) over not_run shut why told printed line =
+      refused_runs instead not_run (λ disk_told shut_is. same (shut disk_told shut_is)) why told line
     where
       same : (a : Answer) × (◌≡◌ {A = Result Ran Answer} (Err instead) (Err a)) × (LeftShut a ⊎ Unopened a) → LeftShut instead ⊎ Unopened instead
       same is = let one : is.0 ≡ instead = cc (is.1) in subst (λ (a : Answer). LeftShut a ⊎ Unopened a) one is.2

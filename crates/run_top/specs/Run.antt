@@ -1,5 +1,5 @@
 -- What a run promises.
-use Rattle.std.specs.Prelude.{◌≡◌, ◌⊎◌, ⊤, ℕ, ◌+◌, ◌≤◌, Bool, List, IfSome, IsTrue, Option, Some, Result, Ok, Err}
+use Rattle.std.specs.Prelude.{◌≡◌, ◌⊎◌, ⊤, ℕ, ◌+◌, ◌≤◌, Bool, List, IfSome, IsTrue, MatchOption, Option, Some, Result, Ok, Err}
 use Rattle.disk_trait.specs.Faults.{CountsFaults}
 use Rattle.disk_trait.specs.Files.{Files}
 use Rattle.disk_trait.specs.Images.{Since}
@@ -29,7 +29,7 @@ use Rattle.run_law.specs.declared.ended.Ended.TheVariants as ending
 use Rattle.run_law.specs.declared.ended.Fault.{Fault}
 use Rattle.engine_steps.specs.Closing.{Shows}
 use Rattle.flow_scheduler.specs.declared.run.Ran.{Ran}
-use Rattle.run_top.specs.Opening.{IsOfFlow, IsShutAnswer, IsToldBy}
+use Rattle.run_top.specs.Opening.{IsOfFlow, IsOfStore, IsShutAnswer, IsToldBy}
 use Rattle.run_top.specs.Printing.{IsLine, AnswerIsPrinted, IsRefusingAnswer, end_text, refusal_line}
 use Rattle.run_top.specs.Status.{answer_of_end, answer_of_fault}
 use Rattle.run_top.specs.Text.{IsOfText, TextIsRefused}
@@ -235,3 +235,36 @@ pub record Runs {D I O S : Type 0} (flow : Flow) (answer : Answer) (given : ℕ 
   -- .. and behind any other answer than the end of a run whose store was closed stands its line
   pub line : IsRefusingAnswer answer → IsTrue sink_tells
       → IsLine sink_faults written (refusal_line answer) sink_old sink_new
+
+-- ---- for private clauses: a flow over its store, before anything is printed
+
+-- The flow has run. Where the devices tell and the files stand for a state of the flow, it has ended so; its store was
+-- closed unless something failed; and it has written only what a run writes.
+pub record HasRunOver {D I O : Type 0} (flow : Flow) (ran : Ran) (given : ℕ → Type 0)
+    (start time lot most checkpoint : ℕ)
+    (tells : Bool) (held : D → Files) (moment : D → ℕ) (images : D → ℕ → Files → Type 0) (old new : D)
+    (in_tells : Bool) (left : I → List NamedFile) (inbox_old inbox_new : I)
+    (out_tells : Bool) (standing : O → List ℕ → Option (List ℕ)) (puts : O → List NamedFile) (outbox_old outbox_new : O)
+    : Type 0 where
+  pub ended : IsTrue tells → IsTrue in_tells → IsTrue out_tells → (state : State) → IsOfFlow flow lot (held old) state
+      → HasEnded flow ran given (record { time = start; puts = puts outbox_old }) time tells held moment images lot
+      most checkpoint (machine_at state (left inbox_old) (standing outbox_old)) old new
+      (left inbox_new) (outgoing standing puts outbox_new)
+  pub closed : MatchOption ran.closed (IsFault ran.ended) (λ closed. IsFault ran.ended → ⊥)
+  pub alone : RunHasWritten (answer_of_end ran.ended) moment images (held old) checkpoint old new
+
+-- Its store wasn't opened. Where the disk tells and the files stand for a state of the flow, that ended a run which has
+-- done nothing, or nothing was done at all; and barely anything was written.
+pub record HasNotRun {D I O : Type 0} (flow : Flow) (answer : Answer) (given : ℕ → Type 0)
+    (start time lot most checkpoint : ℕ)
+    (tells : Bool) (held : D → Files) (moment : D → ℕ) (images : D → ℕ → Files → Type 0) (old new : D)
+    (left : I → List NamedFile) (inbox_old inbox_new : I)
+    (standing : O → List ℕ → Option (List ℕ)) (puts : O → List NamedFile) (outbox_old outbox_new : O) : Type 0 where
+  pub refused : IsOfStore answer
+  pub failed : IsTrue tells → (state : State) → IsOfFlow flow lot (held old) state
+      → HasFailed flow answer given (record { time = start; puts = puts outbox_old }) time tells held moment images lot
+      most checkpoint (machine_at state (left inbox_old) (standing outbox_old)) old new
+      (left inbox_new) (outgoing standing puts outbox_new)
+      ⊎ IsNotOpened answer moment images old new inbox_old inbox_new outbox_old outbox_new
+  pub barely : RunHasWritten answer moment images (held old) checkpoint old new
+      ⊎ IsNotOpened answer moment images old new inbox_old inbox_new outbox_old outbox_new

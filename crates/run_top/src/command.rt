@@ -1,5 +1,5 @@
 //! The command that the words say.
-ghost use Rattle.std.specs.Prelude.{◌≡◌, ◌⊎◌, ◌-◌, ◌^◌, ◌<◌, ◌≤◌, Err, IfErr, IfOk, IsTrue, MatchOption};
+ghost use Rattle.std.specs.Prelude.{◌≡◌, ◌⊎◌, ◌-◌, ◌^◌, ◌<◌, ◌≤◌, Err, IfErr, IfOk, IsTrue};
 ghost use Rattle.disk_trait.specs.Faults.{CountsFaults};
 ghost use Rattle.flowfile_record.specs.Encoding.{IsDigest};
 ghost use Rattle.machine_model.specs.Sound.{IsSound};
@@ -8,14 +8,11 @@ ghost use Rattle.machine_model.specs.declared.flow.Flow.{Flow as TheFlow};
 ghost use Rattle.store_core.specs.Opened.{IsShut};
 ghost use Rattle.engine_change.specs.Committing.{identity_of};
 ghost use Rattle.flow_definition.specs.Patterns.{told_by_builder};
-ghost use Rattle.run_law.specs.Ending.{IsFault};
-ghost use Rattle.run_law.specs.Puts.{outgoing};
-ghost use Rattle.run_law.specs.Run.{machine_at};
 ghost use Rattle.run_top.specs.Complete.{IsEndOrMemory, StandsStill};
-ghost use Rattle.run_top.specs.Opening.{IsOfFlow, IsOfStore};
+ghost use Rattle.run_top.specs.Opening.{IsOfFlow};
 ghost use Rattle.run_top.specs.Printing.{IsLine, refusal_line};
-ghost use Rattle.run_top.specs.Run.{RunCountsFaults, AnswerHasCause, HasEnded, HasFailed, RunHasWritten, IsLeftShut, IsNotOpened, IsNotRead, IsUntouched, Runs};
-ghost use Rattle.run_top.specs.Status.{answer_of_run, answer_of_end, status_of};
+ghost use Rattle.run_top.specs.Run.{RunCountsFaults, AnswerHasCause, HasNotRun, HasRunOver, IsLeftShut, IsNotOpened, IsNotRead, IsUntouched, Runs};
+ghost use Rattle.run_top.specs.Status.{answer_of_run, status_of};
 ghost use Rattle.run_top.specs.Text.{BreaksRule, IsReadFlow};
 ghost use Rattle.run_top.specs.declared.answer.Answer.{Answer as TheAnswer};
 ghost use Rattle.flow_words.specs.declared.command.RunOptions.{RunOptions as TheOptions};
@@ -273,31 +270,16 @@ pub(crate) fn run_over<D: Disk, I: Inbox, O: Outbox, C: Clock, G: Gate>(
     requires sound { IsSound flow.now }
     requires digest { IsDigest flow.now.digest }
     requires most { most < 2 ^ 64 - 1 }
-    ensures ran { IfOk result (λ ran. IsTrue D.tells → IsTrue I.tells → IsTrue O.tells
-        → (state : State) → IsOfFlow flow.now lot (D.held disk.old) state
-        → HasEnded flow.now ran C.given (record { time = C.time clock.old; puts = O.puts outbox.old })
-        (C.time clock.new) D.tells D.held D.moment D.images lot most checkpoint
-        (machine_at state (I.left inbox.old) (O.standing outbox.old))
-        disk.old disk.new (I.left inbox.new) (outgoing O.standing O.puts outbox.new)) }
-    ensures closed { IfOk result (λ ran. MatchOption ran.closed (IsFault ran.ended)
-        (λ closed. IsFault ran.ended → ⊥)) }
-    ensures refused { IfErr result IsOfStore }
-    ensures failed { IfErr result (λ answer. IsTrue D.tells
-        → (state : State) → IsOfFlow flow.now lot (D.held disk.old) state
-        → HasFailed flow.now answer C.given (record { time = C.time clock.old; puts = O.puts outbox.old })
-        (C.time clock.new) D.tells D.held D.moment D.images lot most checkpoint
-        (machine_at state (I.left inbox.old) (O.standing outbox.old))
-        disk.old disk.new (I.left inbox.new) (outgoing O.standing O.puts outbox.new)
-        ⊎ IsNotOpened answer D.moment D.images disk.old disk.new inbox.old inbox.new outbox.old outbox.new) }
+    ensures ran { IfOk result (λ ran. HasRunOver flow.now ran C.given (C.time clock.old) (C.time clock.new)
+        lot most checkpoint D.tells D.held D.moment D.images disk.old disk.new I.tells I.left inbox.old inbox.new
+        O.tells O.standing O.puts outbox.old outbox.new) }
+    ensures refused { IfErr result (λ answer. HasNotRun flow.now answer C.given (C.time clock.old) (C.time clock.new)
+        lot most checkpoint D.tells D.held D.moment D.images disk.old disk.new I.left inbox.old inbox.new
+        O.standing O.puts outbox.old outbox.new) }
     ensures shut { IsTrue D.tells → IsShut (identity_of flow.now) lot (D.held disk.old)
         → (answer : TheAnswer) × (result ≡ Err answer)
         × (IsLeftShut (identity_of flow.now) answer D.held D.moment D.images lot
         disk.old disk.new inbox.old inbox.new outbox.old outbox.new
-        ⊎ IsNotOpened answer D.moment D.images disk.old disk.new inbox.old inbox.new outbox.old outbox.new) }
-    ensures alone { IfOk result (λ ran. RunHasWritten (answer_of_end ran.ended) D.moment D.images (D.held disk.old)
-        checkpoint disk.old disk.new) }
-    ensures barely { IfErr result (λ answer. RunHasWritten answer D.moment D.images (D.held disk.old) checkpoint
-        disk.old disk.new
         ⊎ IsNotOpened answer D.moment D.images disk.old disk.new inbox.old inbox.new outbox.old outbox.new) }
     ensures why { AnswerHasCause flow.now (answer_of_run result) D.tells D.held D.moment D.images lot most
         disk.old disk.new inbox.old inbox.new outbox.old outbox.new }

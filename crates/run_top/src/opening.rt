@@ -1,16 +1,13 @@
 //! Opening the store of a flow.
-ghost use Rattle.std.specs.Prelude.{◌≡◌, ◌⊎◌, IsTrue, IsErrOf, IfOk, IfErr, Some};
-ghost use Rattle.disk_trait.specs.Faults.{CountsFaults};
-ghost use Rattle.disk_trait.specs.declared.damage.Damage.{Damage as TheDamage};
+ghost use Rattle.std.specs.Prelude.{◌⊎◌, IsTrue, IfOk};
 ghost use Rattle.flowfile_record.specs.Encoding.{IsDigest};
 ghost use Rattle.flowfile_wal.specs.Current.{current_number};
 ghost use Rattle.machine_model.specs.Sound.{IsSound};
 ghost use Rattle.store_core.specs.Calls.{SinceSync};
 ghost use Rattle.store_core.specs.Opened.{IsShut};
-ghost use Rattle.store_core.specs.Touched.{Revives, log_opened};
+ghost use Rattle.store_core.specs.Touched.{Revives};
 ghost use Rattle.engine_change.specs.Committing.{identity_of};
-ghost use Rattle.run_law.specs.Work.{IsAtWork};
-ghost use Rattle.run_top.specs.Opening.{IsLeftUnwritten, IsOfStore, IsToldBy, IsUnopened, Opens};
+ghost use Rattle.run_top.specs.Opening.{HasOpened, IsLeftUnwritten, IsUnopened, Opens, OpensNoStore};
 
 use crate::Answer;
 use disk_trait::Disk;
@@ -28,24 +25,16 @@ pub(crate) fn open<D: Disk>(
 ) -> Result<Store, Answer>
     requires sound { IsSound flow.now }
     requires digest { IsDigest flow.now.digest }
-    ensures opened { IfOk result (λ store. IsAtWork flow.now D.tells D.held D.moment D.images store disk.new
-        × (store.lot ≡ lot)) }
-    ensures log { IfOk result (λ store. IsTrue D.tells
-        → store.log.number ≡ Some (log_opened (current_number (D.held disk.old)))) }
+    ensures opened { IfOk result (HasOpened flow.now D.tells D.held D.moment D.images lot disk.old disk.new) }
     // From behind the first sync on whatever a stop leaves means the same; or that sync failed; or nothing was done.
     ensures images { Opens (identity_of flow.now) D.moment D.images lot (D.held disk.old) disk.old disk.new result }
     ensures alone { SinceSync D.moment D.images disk.old disk.new
         (Revives (current_number (D.held disk.old)) (D.held disk.old))
         ⊎ IsUnopened D.moment D.images disk.old disk.new result }
-    ensures open { IfOk result (λ store. IsTrue D.tells → IsShut (identity_of flow.now) lot (D.held disk.old) → ⊥) }
     ensures shut { IsTrue D.tells → IsShut (identity_of flow.now) lot (D.held disk.old)
         → IsLeftUnwritten D.held D.moment D.images disk.old disk.new result }
-    ensures damaged { (damage : TheDamage) → IsErrOf result (Answer.Damaged damage)
-        → IsToldBy (identity_of flow.now) (Answer.Damaged damage) D.tells D.held D.moment lot disk.old disk.new }
-    ensures other_flow { IsErrOf result Answer.OtherFlow
-        → IsToldBy (identity_of flow.now) Answer.OtherFlow D.tells D.held D.moment lot disk.old disk.new }
-    ensures kinds { IfErr result IsOfStore }
-    ensures cause { CountsFaults (D.faults disk.old) (D.faults disk.new) (IsErrOf result Answer.Disk) }
+    ensures refusal { OpensNoStore result (identity_of flow.now) D.tells D.held D.moment D.faults lot
+        disk.old disk.new }
 {
     let ids = connection_ids(alloc, flow)?;
     let identity = FlowIdentity {
