@@ -1,0 +1,10 @@
+pub mod Totals
+pub mod Spots
+pub mod Fitting
+pub mod Keeping
+pub mod Moves
+pub mod Joining
+pub mod Tables
+pub mod Meeting
+pub mod Taking
+pub mod Trying

@@ -1,0 +1,26 @@
+use Rattle.std.proofs.Common.{◌≡◌, ◌+◌, ◌<◌, ◌%◌, sym, ap, ◌∙◌, subst}
+use Rattle.claimant_book.specs.declared.view.View.{View}
+use Rattle.claimant_book.specs.Views.{holds_of, seen_by}
+use Rattle.claimant_book.proofs.Tables.{stages-same, knowing-seen}
+use Rattle.claimant_book.proofs.table.Book.more.Goals as goal
+
+pub add_base-requires : goal.add_base-requires
+add_base-requires g c =
+    let own = sym c.keeper.view_is in (
+      c.requires.slot,
+      c.keeper.invariant.0,
+      subst (λ (v : View). seen_by v c.args.slot % 2 ≡ 1) own c.requires.live,
+      subst (λ (v : View). holds_of v c.args.slot < 67108864) own c.requires.room,
+    )
+
+pub invariant_of-keeper : goal.invariant_of-keeper
+invariant_of-keeper g c =
+    let i = c.keeper.invariant in
+    let v = c.keeper.inside.token in
+    let e = c.add_base.ensures in (
+      ap (λ (x : View). x.role) e ∙ i.0,
+      ap (λ (x : View). x.out) e ∙ i.1,
+      i.2,
+      i.3,
+      stages-same g.B.BookName.table.words c.keeper.inside.stages.items v c.add_base.new.token (λ j. ap (λ (x : View). seen_by x j) e ∙ knowing-seen v c.args.slot (holds_of v c.args.slot + 1) j) i.4,
+    )
