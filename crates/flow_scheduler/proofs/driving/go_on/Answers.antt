@@ -1,4 +1,5 @@
 use Rattle.std.proofs.Common.{◌≡◌, inr, length, refl, sym, ◌∙◌, ap, subst, arith, rules}
+use Rattle.std.proofs.lemmas.Bool.{true≢false}
 use Rattle.std.proofs.lemmas.Result.{err_from_is_err_and}
 use Rattle.kept_state.specs.declared.limit.Limit.{Limit as TheLimit}
 use Rattle.engine_choice.specs.declared.choice.Ending.TheVariants.{Blocked, Quiet}
@@ -119,3 +120,33 @@ returns-in-Quiet-clause-run g c telling in_telling out_telling opened first star
     let on = runs_idle D.tells D.held D.moment D.images e opened first c.args.disk.now start time moment le left out run c.run_goes_on.ensures.spared in
     let shown = c.shows_its_state.ensures telling on.reached on.to.run.holds in
     turned_at_end c.ends_are_machine_ends.ensures D.moment D.images e opened first c.args.disk.now left out start moment on shown.seen shown.counts c.requires.tended Quiet it.1 it.0
+
+pub returns-in-Rest-clause-leaves : goal.returns-in-Rest-clause-leaves
+returns-in-Rest-clause-leaves g c = record {
+  may = c.requires.may;
+  failed = λ failed. absurd (true≢false (sym failed ∙ c.requires.may.works));
+  works = search rules;
+  same = search rules;
+  alone = search rules;
+  why = search rules;
+}
+
+pub returns-in-Blocked-clause-leaves : goal.returns-in-Blocked-clause-leaves
+returns-in-Blocked-clause-leaves g c = record {
+  may = c.requires.may;
+  failed = λ failed. absurd (true≢false (sym failed ∙ c.requires.may.works));
+  works = search rules;
+  same = search rules;
+  alone = search rules;
+  why = search rules;
+}
+
+pub returns-in-Quiet-clause-leaves : goal.returns-in-Quiet-clause-leaves
+returns-in-Quiet-clause-leaves g c = record {
+  may = c.requires.may;
+  failed = λ failed. absurd (true≢false (sym failed ∙ c.requires.may.works));
+  works = search rules;
+  same = search rules;
+  alone = search rules;
+  why = search rules;
+}
