@@ -1,8 +1,8 @@
 -- How what is promised of a stop goes on from call to call.
-use Rattle.std.proofs.Common.{◌≡◌, ⊎_elim, ℕ, ◌+◌, ◌<◌, ◌≤◌, subst, arith}
+use Rattle.std.proofs.Common.{◌≡◌, ◌∙◌, ⊎_elim, ℕ, zero, suc, refl, sym, ap, ◌+◌, ◌<◌, ◌≤◌, subst, arith}
 use Rattle.std.proofs.lemmas.Bool.{cases_lt}
 use Rattle.disk_trait.specs.Files.{Files}
-use Rattle.disk_trait.specs.Images.{After, SinceMoment, Since, Stays}
+use Rattle.disk_trait.specs.Images.{After, SinceMoment, Since, Stays, next_moment, calls_later}
 
 -- ---- a promise from a moment on
 
@@ -127,3 +127,17 @@ module _ {D : Type 0} (moment : D → ℕ) (images : D → ℕ → Files → Typ
       → Since moment images old mid P → Since moment images mid new (images mid (moment mid)) → Since moment images old new P
   and_syncs old mid new P first second =
       one_after_another old mid new P (images mid (moment mid)) P first second (λ c p. p) (λ c left. at_the_end old mid P first c left)
+
+-- ---- how many calls there were
+
+-- so many calls, and then so many more
+pub more_calls : (n k m : ℕ) → calls_later k (calls_later n m) ≡ calls_later (n + k) m
+more_calls zero k m =
+    let same : k ≡ 0 + k = omega arith in
+    ap (λ (i : ℕ). calls_later i m) same
+more_calls (suc n) k m =
+    let more : suc (n + k) ≡ suc n + k = omega arith in
+    more_calls n k (next_moment m) ∙ ap (λ (i : ℕ). calls_later i m) more
+
+pub one_call_more : (n m : ℕ) → next_moment (calls_later n m) ≡ calls_later (n + 1) m
+one_call_more n m = more_calls n 1 m

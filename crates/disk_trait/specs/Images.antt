@@ -1,11 +1,23 @@
 -- What a stop may leave, at each moment.
-use Rattle.std.specs.Prelude.{◌≡◌, ℕ, ◌≤◌}
+use Rattle.std.specs.Prelude.{◌≡◌, ℕ, zero, suc, ◌<◌, ◌≤◌}
 use Rattle.disk_trait.specs.Count.{one_more}
 use Rattle.disk_trait.specs.Files.{Files}
 
 -- one more call, counted up to 2^64 - 1
 abbrev pub next_moment : ℕ → ℕ
 next_moment = one_more
+
+-- the moment of a disk after so many calls that change it
+abbrev pub calls_later : (calls moment : ℕ) → ℕ
+calls_later zero moment = moment
+calls_later (suc calls) moment = calls_later calls (next_moment moment)
+
+-- at least one of so many calls was made
+pub record HasCalled (limit before now : ℕ) : Type 0 where
+  pub calls : ℕ
+  pub some : 0 < calls
+  pub most : calls ≤ limit
+  pub moment : now ≡ calls_later calls before
 
 -- one of these files, after a step
 abbrev pub After : (Files → Files → Type 0) → (Files → Type 0) → Files → Type 0

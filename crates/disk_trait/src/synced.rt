@@ -1,7 +1,7 @@
 //! A change of one file and the sync behind it.
 ghost use Rattle.std.specs.Prelude.{◌≡◌, ◌+◌, ◌^◌, ◌<◌, ◌≤◌, length, take, IsTrue, OnOk, IsErr};
 ghost use Rattle.disk_trait.specs.Files.{At, Overwritten, Torn, Shortened};
-ghost use Rattle.disk_trait.specs.Images.{After, Since, IsOnly};
+ghost use Rattle.disk_trait.specs.Images.{After, Since, IsOnly, calls_later};
 ghost use Rattle.disk_trait.specs.Faults.{CountsFaults};
 
 use crate::{Disk, Failed, FileName};
@@ -20,6 +20,7 @@ pub fn write_synced<D: Disk>(
     ensures images { Since D.moment D.images disk.old disk.new
         (After (At file (Torn at (length bytes.now))) (D.images disk.old (D.moment disk.old))) }
     ensures fits { OnOk result (at + length bytes.now < 2 ^ 64) }
+    ensures calls { OnOk result (D.moment disk.new ≡ calls_later 2 (D.moment disk.old)) }
     ensures cause { CountsFaults (D.faults disk.old) (D.faults disk.new) (IsErr result) }
 {
     disk.write(file, at, bytes)?;
@@ -34,6 +35,7 @@ pub fn cut_synced<D: Disk>(disk: &mut D, file: FileName, size: u64) -> Result<()
         → At file (λ old new. new ≡ take size old) (D.held disk.old) (D.held disk.new)) }
     ensures images { Since D.moment D.images disk.old disk.new
         (After (At file (Shortened size)) (D.images disk.old (D.moment disk.old))) }
+    ensures calls { OnOk result (D.moment disk.new ≡ calls_later 2 (D.moment disk.old)) }
     ensures cause { CountsFaults (D.faults disk.old) (D.faults disk.new) (IsErr result) }
 {
     disk.cut(file, size)?;

@@ -4,12 +4,12 @@ use Rattle.std.specs.Prelude.{All, Contains}
 use Rattle.std.proofs.lemmas.Bool.{cases_lt, cases_eq}
 use Rattle.std.proofs.lemmas.List.{length-take, take-take, get_or_default}
 use Rattle.disk_trait.specs.Files.{Files, At, Shortened}
-use Rattle.disk_trait.specs.Images.{After, Since, next_moment}
+use Rattle.disk_trait.specs.Images.{After, Since}
 use Rattle.disk_trait.specs.declared.file_name.FileKind.TheVariants.{Events}
 use Rattle.disk_trait.specs.declared.file_name.FileName.{FileName}
 use Rattle.disk_trait.proofs.Moments.{wider, wider_where_left, step_after_step}
 use Rattle.prov_store.specs.Events.{events_file, covered_bytes, covered_size}
-use Rattle.prov_store.specs.State.{EventsState, HasEvents, HasStale, EventsAreReady, CutsStale, calls_later}
+use Rattle.prov_store.specs.State.{EventsState, HasEvents, HasStale, EventsAreReady, CutsStale}
 use Rattle.prov_store.specs.declared.events.Stale.{Stale}
 use Rattle.prov_store.proofs.InFiles.{size_fits}
 use Rattle.prov_store.proofs.Keeping.{stale_files, is_stale_or_not, stale_at, is_listed, still_has, cuts_keep}
@@ -192,11 +192,3 @@ all_cut state after old new has stale cut is =
           (cut.cut at.0 d at.1 at.1 ∙ ap (λ (n : ℕ). take n (old (events_file s.file))) (stale.sizes at.0 d at.1))
       | inr other ↦ cut.rest k other ∙ stale.others k other
     ]
-
--- ---- how many calls there were
-
-pub one_call_more : (n m : ℕ) → next_moment (calls_later n m) ≡ calls_later (n + 1) m
-one_call_more zero m = refl
-one_call_more (suc n) m =
-    let more : suc n + 1 ≡ suc (n + 1) = omega arith in
-    one_call_more n (next_moment m) ∙ ap (λ (i : ℕ). calls_later i m) (sym more)

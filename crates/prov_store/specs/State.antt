@@ -1,10 +1,10 @@
 -- What is in memory of the files of events, and how it is tied to them.
-use Rattle.std.specs.Prelude.{◌≡◌, ◌≢◌, ℕ, zero, suc, ◌+◌, ◌-◌, ◌/◌, ◌<◌, ◌≤◌, ◌==◌, Bool, IsTrue, List, [], length, map, filter, take, All, Contains, Ok, slice_index, if◌then◌else◌}
+use Rattle.std.specs.Prelude.{◌≡◌, ◌≢◌, ℕ, ◌+◌, ◌-◌, ◌/◌, ◌<◌, ◌≤◌, ◌==◌, Bool, IsTrue, List, [], length, map, filter, take, All, Contains, Ok, slice_index, if◌then◌else◌}
 use Rattle.std.specs.List.{range_with_len, AllPairs}
 use Rattle.disk_trait.specs.Files.{Files, Shortened}
 use Rattle.disk_trait.specs.declared.file_name.FileKind.TheVariants.{Events}
 use Rattle.disk_trait.specs.declared.file_name.FileName.{FileName}
-use Rattle.disk_trait.specs.Images.{After, Since, next_moment}
+use Rattle.disk_trait.specs.Images.{After, Since, HasCalled, calls_later}
 use Rattle.flowfile_record.specs.Events.{code_of}
 use Rattle.flowfile_record.specs.declared.event.Event.{Event}
 use Rattle.prov_event.specs.Encoding.{event, IsEvent}
@@ -131,18 +131,6 @@ pub record EventsAreAppended (events : List Event) (old new : EventsState) : Typ
 abbrev pub files_for : (last count : ℕ) → ℕ
 files_for last count =
     if count == 0 then 0 else (last + count - 1) / EVENTS_PER_FILE - last / EVENTS_PER_FILE + 1
-
--- the moment of a disk after so many calls that change it
-abbrev pub calls_later : (calls moment : ℕ) → ℕ
-calls_later zero moment = moment
-calls_later (suc calls) moment = calls_later calls (next_moment moment)
-
--- at least one of so many calls was made
-pub record HasCalled (limit before now : ℕ) : Type 0 where
-  pub calls : ℕ
-  pub some : 0 < calls
-  pub most : calls ≤ limit
-  pub moment : now ≡ calls_later calls before
 
 -- ---- what the answers of calls say
 

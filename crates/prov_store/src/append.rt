@@ -1,13 +1,13 @@
 //! Events are written behind the last one.
 ghost use Rattle.std.specs.Prelude.{◌≡◌, ◌+◌, ◌<◌, ◌≤◌, ◌^◌, List, [], ◌++◌, length, IsTrue, IfOk, OnOk, OnErr, IsErr, Ok};
 ghost use Rattle.disk_trait.specs.Files.{At, Overwritten, Torn};
-ghost use Rattle.disk_trait.specs.Images.{After, Since, next_moment};
+ghost use Rattle.disk_trait.specs.Images.{After, Since, HasCalled, calls_later, next_moment};
 ghost use Rattle.disk_trait.specs.Faults.{CountsFaults};
 ghost use Rattle.flowfile_record.specs.declared.event.Event.{Event as TheEvent};
 ghost use Rattle.prov_store.specs.Blocks.{next_offset};
 ghost use Rattle.prov_store.specs.Events.{events_file, events_in};
 ghost use Rattle.prov_store.specs.Growing.{Stands};
-ghost use Rattle.prov_store.specs.State.{EventsAreReady, GrowsBehind, ChangesBy, HasAppended, HasRefused, HasCalled, files_for, calls_later, next_file};
+ghost use Rattle.prov_store.specs.State.{EventsAreReady, GrowsBehind, ChangesBy, HasAppended, HasRefused, files_for, next_file};
 
 use crate::blocks::Part;
 use crate::counts::count_all;

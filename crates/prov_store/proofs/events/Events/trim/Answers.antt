@@ -1,13 +1,14 @@
 use Rattle.std.proofs.Common.{◌≡◌, ℕ, ◌+◌, ◌<◌, ◌≤◌, List, length, get_or, take, refl, sym, ap, subst, ◌∙◌, arith, rules}
 use Rattle.std.proofs.lemmas.List.{get_or_default}
 use Rattle.disk_trait.specs.Files.{At, Shortened}
-use Rattle.disk_trait.specs.Images.{After, Since, next_moment}
+use Rattle.disk_trait.specs.Images.{After, Since, HasCalled, next_moment, calls_later}
+use Rattle.disk_trait.proofs.Moments.{one_call_more}
 use Rattle.disk_trait.specs.declared.file_name.FileName.{FileName}
 use Rattle.disk_trait.proofs.FileTables.{on_err}
 use Rattle.disk_trait.proofs.Moments.{wider, nothing}
-use Rattle.prov_store.specs.State.{CutsStale, HasCalled, calls_later}
+use Rattle.prov_store.specs.State.{CutsStale}
 use Rattle.prov_store.specs.declared.events.Stale.{Stale}
-use Rattle.prov_store.proofs.Cutting.{CutSoFar, cuts_nothing, none_cut, cuts_left, cut_more, cut_shortens, cuts_on, same_sizes, long_enough, all_cut, one_call_more}
+use Rattle.prov_store.proofs.Cutting.{CutSoFar, cuts_nothing, none_cut, cuts_left, cut_more, cut_shortens, cuts_on, same_sizes, long_enough, all_cut}
 use Rattle.prov_store.proofs.Keeping.{is_listed}
 use Rattle.prov_store.proofs.events.Events.trim.Goals as goal
 

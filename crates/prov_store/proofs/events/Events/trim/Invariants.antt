@@ -1,6 +1,7 @@
 use Rattle.std.proofs.Common.{◌≡◌, ◌≤◌, IsTrue}
 use Rattle.disk_trait.specs.Images.{After, Since}
-use Rattle.prov_store.specs.State.{CutsStale, calls_later}
+use Rattle.prov_store.specs.State.{CutsStale}
+use Rattle.disk_trait.specs.Images.{calls_later}
 use Rattle.prov_store.proofs.Cutting.{CutSoFar}
 use Rattle.prov_store.proofs.events.Events.trim.Given as goal
 

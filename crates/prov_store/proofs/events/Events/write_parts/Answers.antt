@@ -3,14 +3,14 @@ use Rattle.std.specs.Prelude.{◌==◌}
 use Rattle.std.proofs.lemmas.Bool.Decides.{nat_tests}
 use Rattle.std.proofs.lemmas.List.{length-drop, take_all}
 use Rattle.disk_trait.proofs.FileTables.{on_err}
-use Rattle.disk_trait.specs.Images.{next_moment}
+use Rattle.disk_trait.specs.Images.{HasCalled, next_moment, calls_later}
 use Rattle.flowfile_record.specs.declared.event.Event.{Event}
 use Rattle.prov_store.specs.Blocks.{blocks_of, AreEventParts, AreEncoded, next_offset}
 use Rattle.prov_store.specs.Growing.{Stands}
-use Rattle.prov_store.specs.State.{HasCalled, calls_later, files_for}
+use Rattle.prov_store.specs.State.{files_for}
 use Rattle.flowfile_record.specs.declared.limits.TheConstants.{EVENTS_PER_FILE}
 use Rattle.prov_store.specs.declared.blocks.Part.{Part}
-use Rattle.prov_store.proofs.Cutting.{one_call_more}
+use Rattle.disk_trait.proofs.Moments.{one_call_more}
 use Rattle.prov_store.proofs.Growing.{ends_there, grows_on, grows_left}
 use Rattle.prov_store.proofs.Parting.{no_part_is, as_many_files}
 use Rattle.prov_store.proofs.Writing.{at_part, part_stands}

@@ -3,7 +3,8 @@ use Rattle.disk_trait.specs.Images.{After, Since}
 use Rattle.flowfile_record.specs.declared.event.Event.{Event}
 use Rattle.prov_store.specs.Blocks.{blocks_of, AreEventParts}
 use Rattle.prov_store.specs.Growing.{Stands}
-use Rattle.prov_store.specs.State.{GrowsBehind, calls_later}
+use Rattle.prov_store.specs.State.{GrowsBehind}
+use Rattle.disk_trait.specs.Images.{calls_later}
 use Rattle.flowfile_record.specs.declared.limits.TheConstants.{EVENTS_PER_FILE}
 use Rattle.prov_store.proofs.events.Events.write_parts.Given as goal
 
