@@ -1,7 +1,7 @@
 //! An entry is written behind a closed gate and synced, with a closed gate of its own behind it, and only then is the
 //! gate opened, by a write of its own: a stop leaves the entry whole or without effect, whatever a torn write leaves.
-ghost use Rattle.std.specs.Prelude.{◌+◌, ◌^◌, ◌<◌, length, OnOk, IsErr};
-ghost use Rattle.disk_trait.specs.Images.{Since, IsOnly};
+ghost use Rattle.std.specs.Prelude.{◌≡◌, ◌+◌, ◌^◌, ◌<◌, length, OnOk, IsErr};
+ghost use Rattle.disk_trait.specs.Images.{Since, IsOnly, calls_later};
 ghost use Rattle.disk_trait.specs.Faults.{CountsFaults};
 ghost use Rattle.record_codec.specs.declared.entry.LogEntry.{LogEntry};
 ghost use Rattle.flowfile_wal.specs.Calls.{InEach, WithOrWithout};
@@ -30,6 +30,8 @@ pub fn append_frame<D: Disk>(
         → InEach (D.images disk.new (D.moment disk.new)) (AddsEntry number entry (D.held disk.old))) }
     ensures synced { OnOk result (IsOnly (D.held disk.new) (D.images disk.new (D.moment disk.new))) }
     ensures room { OnOk result (end + length frame.now + 1 < 2 ^ 64) }
+    // There are two writes, each with its sync.
+    ensures calls { OnOk result (D.moment disk.new ≡ calls_later 4 (D.moment disk.old)) }
     ensures cause { CountsFaults (D.faults disk.old) (D.faults disk.new) (IsErr result) }
 {
     let file = FileName {

@@ -1,6 +1,6 @@
 //! The current log: loaded, mended, begun and appended to.
 ghost use Rattle.std.specs.Prelude.{◌≡◌, ℕ, true, false, [], IsTrue, IfOk, OnOk, IsErrOf, Ok, Err, None, Some};
-ghost use Rattle.disk_trait.specs.Images.{After, Since, IsOnly, Stays};
+ghost use Rattle.disk_trait.specs.Images.{After, Since, IsOnly, Stays, calls_later};
 ghost use Rattle.disk_trait.specs.Faults.{CountsFaults};
 ghost use Rattle.disk_trait.specs.declared.damage.Damage.{Damage as TheDamage};
 ghost use Rattle.record_codec.specs.declared.entry.LogEntry.{LogEntry as Entry};
@@ -149,6 +149,8 @@ impl Log {
         ensures ready { OnOk result (LeavesReady self.new (D.held disk.new) (D.images disk.new (D.moment disk.new))) }
         ensures acknowledged { IfOk result (λ moment.
             (moment ≡ D.moment disk.new) × (self.new ≡ with_frame self.old block.now)) }
+        // There are two writes, each with its sync.
+        ensures calls { OnOk result (D.moment disk.new ≡ calls_later 4 (D.moment disk.old)) }
         ensures refusal { LogRefusesOnFault result self.old self.new (D.faults disk.old) (D.faults disk.new) }
     {
         let Some(number) = self.current else {
