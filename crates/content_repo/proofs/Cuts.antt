@@ -1,5 +1,5 @@
 -- Claims that are cut one after another: all of them to their ends, and the idle ones to nothing.
-use Rattle.std.proofs.Common.{◌≡◌, ℕ, ◌+◌, ◌<◌, ◌≤◌, max, eqb, All, Bool, true, false, cond, MatchBool, List, [], ◌∷◌, length, map, take, count_by, refl, sym, ap, subst, ◌∙◌, inl, inr, arith, length-take}
+use Rattle.std.proofs.Common.{◌≡◌, ◌⊎◌, ℕ, ◌+◌, ◌<◌, ◌≤◌, max, eqb, All, Bool, IsTrue, true, false, cond, MatchBool, List, [], ◌∷◌, length, map, take, count_by, refl, sym, ap, subst, ◌∙◌, inl, inr, arith, length-take}
 use Rattle.std.proofs.lemmas.Bool.{cases_eq, cases_lt, eqb-true}
 use Rattle.std.proofs.lemmas.List.{take-take, take_more, same_lists, get_or-map, get_or_default, length-map, nil_from_length}
 use Rattle.std.proofs.lemmas.List.Sums.{sum_by-append}
@@ -10,9 +10,9 @@ use Rattle.disk_trait.specs.declared.file_name.FileName.{FileName}
 use Rattle.std.proofs.lemmas.List.Elements.{All-head, All-tail}
 use Rattle.flowfile_record.specs.declared.content.ContentRef.{ContentRef}
 use Rattle.content_repo.specs.declared.slot.Slot.{Slot}
-use Rattle.content_repo.specs.Claims.{claim, OnClaims, CutTo, IdleShortened, EmptiedAt, ShortenedAt}
+use Rattle.content_repo.specs.Claims.{claim, OnClaims, CutTo, AreReclaimedInPart, IdleShortened, EmptiedAt, ShortenedAt}
 use Rattle.content_repo.specs.SlotSet.{bit_of}
-use Rattle.content_repo.specs.Slots.{unused, slot_numbered, is_idle, reclaimed, end_of, covered}
+use Rattle.content_repo.specs.Slots.{unused, slot_numbered, held_in, is_idle, reclaimed, end_of, covered}
 use Rattle.content_repo.proofs.ClaimFiles.{Shortened-refl, Shortened-trans, MaybeCut, MaybeCut-trans, OnClaims-refl, OnClaims-one, OnClaims-trans}
 
 module _ (ends : ℕ → ℕ) (old now : Files) (fit : (k : ℕ) → ends k ≤ length (old (claim k))) (so_far : OnClaims (λ k. MaybeCut (ends k)) old now) where
@@ -122,6 +122,33 @@ count_more slots k within =
     ap (count_by is_idle) (take_more slots k unused within)
     ∙ sum_by-append (λ (s : Slot). cond (is_idle s) 1 0) (take k slots) (slot_numbered slots k ∷ [])
     ∙ omega arith
+
+-- a claim that a turn at another slot leaves empty
+pub still_empty : (slot : Slot) (k j : ℕ) (now new : Files) → j < k → ShortenedAt slot k now new → now (claim j) ≡ [] → new (claim j) ≡ []
+still_empty slot k j now new before turn is = by_idle (is_idle slot) turn
+  where
+    by_idle : (v : Bool) → MatchBool v (At (claim k) (Shortened 0) now new) (new ≡ now) → new (claim j) ≡ []
+    by_idle true at = at.others (claim j) (λ e. let same : j ≡ k = ap (λ (f : FileName). f.number) e in absurd (omega (arith, before, same))) ∙ is
+    by_idle false same = ap (λ (files : Files). files (claim j)) same ∙ is
+
+-- the slots up to some slot were reclaimed, and those behind it are as they were
+pub reclaimed_in_part : (tells : Bool) (slots new : List Slot) (k : ℕ) (files : Files) → ((j : ℕ) → j < k → slot_numbered new j ≡ reclaimed (slot_numbered slots j))
+    → ((j : ℕ) → k ≤ j → slot_numbered new j ≡ slot_numbered slots j)
+    → (IsTrue tells → (j : ℕ) → j < k → is_idle (slot_numbered slots j) ≡ true → files (claim j) ≡ [])
+    → held_in new ≡ held_in slots → AreReclaimedInPart tells slots new files
+reclaimed_in_part tells slots new k files before behind done held = record {
+  slots = λ j.
+      elim (cases_lt j k) [
+        | inl early ↦ by_idle j early (is_idle (slot_numbered slots j)) refl
+        | inr late ↦ inl (behind j late)
+      ];
+  held = held;
+}
+  where
+    by_idle : (j : ℕ) → j < k → (v : Bool) → is_idle (slot_numbered slots j) ≡ v
+        → (slot_numbered new j ≡ slot_numbered slots j) ⊎ ((slot_numbered new j ≡ reclaimed (slot_numbered slots j)) × (IsTrue tells → files (claim j) ≡ []))
+    by_idle j early true idle = inr (before j early, λ told. done told j early idle)
+    by_idle j early false used = let same : reclaimed (slot_numbered slots j) ≡ slot_numbered slots j = rw used refl in inl (before j early ∙ same)
 
 -- the list that is left
 pub reclaimed_list : (slots new : List Slot) → length new ≡ length slots → ((k : ℕ) → k < length slots → slot_numbered new k ≡ reclaimed (slot_numbered slots k)) → new ≡ map reclaimed slots

@@ -1,5 +1,5 @@
 -- The files of the claims.
-use Rattle.std.specs.Prelude.{◌≡◌, ◌≢◌, ℕ, ◌<◌, ◌≤◌, Bool, IsTrue, List, [], length, take, drop, MatchBool}
+use Rattle.std.specs.Prelude.{◌≡◌, ◌≢◌, ◌⊎◌, ℕ, ◌<◌, ◌≤◌, Bool, IsTrue, List, [], length, take, drop, MatchBool}
 use Rattle.sha2.specs.Sha256.{sha256}
 use Rattle.disk_trait.specs.Files.{Files, named, At, Shortened}
 use Rattle.disk_trait.specs.declared.damage.Damage.{Damage}
@@ -10,7 +10,7 @@ use Rattle.flowfile_record.specs.declared.content.ContentRef.{ContentRef}
 use Rattle.content_repo.specs.declared.error.ContentError.{ContentError}
 use Rattle.content_repo.specs.declared.error.ContentError.TheVariants.{Memory, SlotsFull, Damaged}
 use Rattle.content_repo.specs.declared.slot.Slot.{Slot}
-use Rattle.content_repo.specs.Slots.{size_of, end_of, covered, is_idle, slot_numbered}
+use Rattle.content_repo.specs.Slots.{size_of, held_in, end_of, covered, is_idle, reclaimed, slot_numbered}
 
 -- the file of a slot
 abbrev pub claim : ℕ → FileName
@@ -54,6 +54,12 @@ IdleEmptied slots = OnClaims (λ k old new. MatchBool (is_idle (slot_numbered sl
 pub record AreEmptied (old_slots new_slots : List Slot) (old new : Files) : Type 0 where
   pub claims : IdleEmptied old_slots old new
   pub sizes : HasSizes new_slots new
+
+-- Each slot is as it was; or it was idle and is free, and its claim is empty.
+pub record AreReclaimedInPart (tells : Bool) (old new : List Slot) (files : Files) : Type 0 where
+  pub slots : (k : ℕ) → (slot_numbered new k ≡ slot_numbered old k)
+      ⊎ ((slot_numbered new k ≡ reclaimed (slot_numbered old k)) × (IsTrue tells → files (claim k) ≡ []))
+  pub held : held_in new ≡ held_in old
 
 abbrev pub IdleShortened : List Slot → Files → Files → Type 0
 IdleShortened slots =

@@ -1,5 +1,5 @@
 //! A content is written at the end of a claim.
-ghost use Rattle.std.specs.Prelude.{◌≡◌, length, IsTrue, IfOk};
+ghost use Rattle.std.specs.Prelude.{◌≡◌, length, IsTrue, IfOk, OnErr};
 ghost use Rattle.disk_trait.specs.Images.{After, Since, next_moment};
 ghost use Rattle.content_repo.specs.Append.{MayAppend, IsAppended, IsWritten, TornAtEnd, KeepsContents};
 ghost use Rattle.content_repo.specs.Claims.{claim, HasSizes};
@@ -24,6 +24,7 @@ impl Content {
         ensures appended { IfOk result (IsAppended bytes.now digest self.old self.new) }
         ensures written { IfOk result (λ at. IsTrue D.tells
             → IsWritten bytes.now at self.new (D.held disk.old) (D.held disk.new)) }
+        ensures untouched { OnErr result (self.new ≡ self.old) }
         // What was there is there, wherever a stop comes.
         ensures kept { IsTrue D.tells
             → KeepsContents self.old (length bytes.now) (D.held disk.old) (D.held disk.new) }

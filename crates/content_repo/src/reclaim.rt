@@ -1,8 +1,8 @@
 //! The claims that nothing refers to are emptied.
-ghost use Rattle.std.specs.Prelude.{◌≡◌, ◌<◌, slice_set, IsTrue, IfOk, OnOk, IsErr};
+ghost use Rattle.std.specs.Prelude.{◌≡◌, ◌<◌, slice_set, IsTrue, IfOk, OnOk, OnErr, IsErr};
 ghost use Rattle.disk_trait.specs.Images.{After, Since};
 ghost use Rattle.disk_trait.specs.Faults.{CountsFaults};
-ghost use Rattle.content_repo.specs.Claims.{HasSizes, AreEmptied, IdleShortened, EmptiedAt, ShortenedAt};
+ghost use Rattle.content_repo.specs.Claims.{HasSizes, AreEmptied, AreReclaimedInPart, IdleShortened, EmptiedAt, ShortenedAt};
 ghost use Rattle.content_repo.specs.Errors.{RefusesOnFault};
 ghost use Rattle.content_repo.specs.SlotSet.{bit_of};
 ghost use Rattle.content_repo.specs.Slots.{held_in, slot_numbered, is_idle, reclaimed, IsReclaimed};
@@ -27,6 +27,8 @@ impl Content {
         ensures reclaimed { IfOk result (IsReclaimed self.old self.new) }
         ensures emptied { OnOk result (IsTrue D.tells
             → AreEmptied self.old self.new (D.held disk.old) (D.held disk.new)) }
+        // Whatever the answer, a slot is freed only once its claim is empty.
+        ensures partly { AreReclaimedInPart D.tells self.old self.new (D.held disk.new) }
         // Whatever a stop leaves, only claims that nothing refers to are changed.
         ensures shortened { IsTrue D.tells → IdleShortened self.old (D.held disk.old) (D.held disk.new) }
         ensures images { Since D.moment D.images disk.old disk.new
@@ -48,6 +50,7 @@ impl Content {
         requires { number < SLOTS }
         ensures emptied { IfOk result (λ emptied. emptied ≡ bit_of (is_idle (slot_numbered self.old number))) }
         ensures value { OnOk result (self.new ≡ slice_set self.old number (reclaimed (slot_numbered self.old number))) }
+        ensures untouched { OnErr result (self.new ≡ self.old) }
         ensures count { OnOk result (held_in self.new ≡ held_in self.old) }
         ensures held { OnOk result (IsTrue D.tells
             → EmptiedAt (slot_numbered self.old number) number (D.held disk.old) (D.held disk.new)) }

@@ -2,10 +2,10 @@ use Rattle.std.proofs.Common.{◌≡◌, ℕ, ◌<◌, [], true, List, length, s
 use Rattle.std.proofs.lemmas.Bool.{cases_lt, cases_eq}
 use Rattle.std.proofs.lemmas.List.{take_all}
 use Rattle.content_repo.specs.declared.slot.Slot.{Slot}
-use Rattle.content_repo.specs.Claims.{claim}
+use Rattle.content_repo.specs.Claims.{claim, AreReclaimedInPart}
 use Rattle.content_repo.specs.SlotSet.{bit_of}
 use Rattle.content_repo.specs.Slots.{unused, slot_numbered, is_idle, reclaimed}
-use Rattle.content_repo.proofs.Cuts.{turns, turn_emptied, turn_here, count_more, reclaimed_list, since_turn}
+use Rattle.content_repo.proofs.Cuts.{turns, turn_emptied, turn_here, still_empty, reclaimed_in_part, count_more, reclaimed_list, since_turn}
 use Rattle.content_repo.proofs.content.Content.reclaim.Goals as goal
 
 pub returns-in_err-emptied-clause-images : goal.returns-in_err-emptied-clause-images
@@ -13,6 +13,17 @@ returns-in_err-emptied-clause-images g c =
     let k = c.loop-number.number in
     since_turn g.D.Disk.moment g.D.Disk.images c.args.self.now (slot_numbered c.loop-number.self k) k c.args.disk.now c.loop-number.disk c.reclaim_at.new.disk
     (c.loop-number.invariant.behind k (omega arith)) c.loop-number.invariant.since c.reclaim_at.ensures.images
+
+pub returns-in_err-emptied-clause-partly : goal.returns-in_err-emptied-clause-partly
+returns-in_err-emptied-clause-partly g c =
+    let slots = c.args.self.now in
+    let k = c.loop-number.number in
+    let now = g.D.Disk.held c.loop-number.disk in
+    let new = g.D.Disk.held c.reclaim_at.new.disk in
+    let inv = c.loop-number.invariant in
+    subst (λ (left : List Slot). AreReclaimedInPart g.D.Disk.tells slots left new) (sym c.in_err-emptied.ensures.untouched)
+    (reclaimed_in_part g.D.Disk.tells slots c.loop-number.self k new inv.before inv.behind
+    (λ told j before idle. still_empty (slot_numbered c.loop-number.self k) k j now new before (c.reclaim_at.ensures.shortened told) (inv.done told j before idle)) inv.held)
 
 pub loop-number-preserved : goal.loop-number-preserved
 loop-number-preserved g c =
@@ -70,3 +81,8 @@ returns-clause-reclaimed g c =
       held = inv.held;
       unused = c.len-number-end.ensures.unused;
     }
+
+pub returns-clause-partly : goal.returns-clause-partly
+returns-clause-partly g c =
+    let inv = c.loop-number.invariant in
+    reclaimed_in_part g.D.Disk.tells c.args.self.now c.loop-number.self c.loop-number.number (g.D.Disk.held c.loop-number.disk) inv.before inv.behind inv.done inv.held
