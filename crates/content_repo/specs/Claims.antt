@@ -87,6 +87,11 @@ pub record ContentIsWhole (files : Files) (at : ContentRef) : Type 0 where
   pub covered : IsCovered files at
   pub digest : sha256 (content_in files at) ≡ at.digest
 
+-- a content stands where its reference says, as these bytes
+pub record StandsAs (files : Files) (at : ContentRef) (bytes : List ℕ) : Type 0 where
+  pub covered : IsCovered files at
+  pub content : content_in files at ≡ bytes
+
 -- the bytes of a content: they have its size and its digest, and where the disk tells they stand in its claim
 pub record IsRead (tells : Bool) (files : Files) (at : ContentRef) (bytes : List ℕ) : Type 0 where
   pub size : length bytes ≡ at.size

@@ -14,6 +14,7 @@ mod reclaim;
 mod room;
 mod slot;
 mod slot_set;
+mod still;
 
 pub use content::{Content, HELD_MAX};
 pub use error::ContentError;
