@@ -1,12 +1,15 @@
 -- A snapshot that is read as far as some block.
-use Rattle.std.specs.Prelude.{◌≡◌, ℕ, ◌==◌, ◌<◌, ◌≤◌, Bool, true, false, List, [], length, map, All}
+use Rattle.std.specs.Prelude.{◌≡◌, ℕ, suc, ◌==◌, ◌<◌, ◌≤◌, Bool, true, false, IsTrue, List, [], length, map, All, Option, IfSome, MatchOption, Ok}
 use Rattle.std.specs.List.{sum, list_any}
 use Rattle.std.specs.Ordering.{nat_cmp}
 use Rattle.std.specs.BTreeSet.{contains, IsOrdered}
+use Rattle.disk_trait.specs.Files.{Files}
 use Rattle.flowfile_record.specs.Stored.{Kept, kept_of}
 use Rattle.flowfile_record.specs.declared.limits.TheConstants.{NUMBER_LIMIT, LIVE_BYTES_MAX}
 use Rattle.checkpoint_store.specs.Consistent.{IsConsistent, record_size}
-use Rattle.checkpoint_store.specs.Reading.{Next, More, Last, last_number}
+use Rattle.checkpoint_store.specs.Memory.{Joins}
+use Rattle.checkpoint_store.specs.Reading.{Next, More, Last, last_number, blocks_in_file}
+use Rattle.checkpoint_store.specs.declared.reading.Source.{Source}
 use Rattle.checkpoint_store.specs.declared.so_far.SoFar.{SoFar}
 
 -- the numbers of some items, as far as a reader has to know them
@@ -30,3 +33,16 @@ pub record IsSoFar (s : SoFar) : Type 0 where
 abbrev pub next_is : Bool → Kept → Next
 next_is true k = Last
 next_is false k = More k
+
+-- The block at this offset was read, into a buffer of this capacity: it joins those before it, and the next one begins
+-- behind it; or it is the End.
+pub record HasReadBlock (tells : Bool) (files : Files) (source : Source) (at capacity : ℕ) (old new : SoFar)
+    (next : Option ℕ) : Type 0 where
+  pub so_far : IsSoFar new
+  pub within : MatchOption next (Unit {0}) (λ n. (at < n) × (n ≤ source.size))
+  pub says : IsTrue tells → (most : ℕ) → MatchOption next
+      (blocks_in_file (suc most) files source.file at (kept_of old.state) ≡ Ok (kept_of new.state))
+      (λ n. blocks_in_file (suc most) files source.file at (kept_of old.state)
+      ≡ blocks_in_file most files source.file n (kept_of new.state))
+  pub joins : IsTrue tells
+      → IfSome next (λ n. Joins (files source.file) capacity at n (kept_of old.state) (kept_of new.state))

@@ -1,5 +1,5 @@
 //! Reading a snapshot.
-ghost use Rattle.std.specs.Prelude.{◌≡◌, ℕ, suc, ◌+◌, ◌<◌, ◌≤◌, List, [], ◌++◌, length, vec_capacity, IsTrue, IfOk, OnOk, IfSome, IsErrOf, Ok, Err, Some, MatchOption};
+ghost use Rattle.std.specs.Prelude.{◌≡◌, ℕ, suc, ◌+◌, ◌<◌, ◌≤◌, List, [], ◌++◌, length, vec_capacity, IsTrue, IfOk, OnOk, IsErrOf, Ok, Err, Some};
 ghost use Rattle.disk_trait.specs.Images.{Stays};
 ghost use Rattle.disk_trait.specs.Faults.{CountsFaults};
 ghost use Rattle.disk_trait.specs.declared.damage.Damage.{Damage as TheDamage};
@@ -7,11 +7,11 @@ ghost use Rattle.disk_trait.specs.declared.file_name.FileName.{FileName as TheNa
 ghost use Rattle.flowfile_record.specs.Stored.{Kept, kept_of};
 ghost use Rattle.block_file.specs.Address.{reading_at, HasBlockPast, IsAddress, IsBlockAt};
 ghost use Rattle.block_file.specs.Damage.{damage_in};
-ghost use Rattle.checkpoint_store.specs.Memory.{BlockTakes, FirstTakes, IsReadTo, Joins, MayWantMemory};
+ghost use Rattle.checkpoint_store.specs.Memory.{BlockTakes, FirstTakes, IsReadTo, MayWantMemory};
 ghost use Rattle.checkpoint_store.specs.Reading.{address_of, blocks_in_file, snapshot_of, snapshot_in};
 ghost use Rattle.checkpoint_store.specs.Snapshot.{snapshot, snapshot_file};
 ghost use Rattle.checkpoint_store.specs.Consistent.{IsConsistent};
-ghost use Rattle.checkpoint_store.specs.SoFar.{IsSoFar};
+ghost use Rattle.checkpoint_store.specs.SoFar.{IsSoFar, HasReadBlock};
 
 use crate::CheckError;
 use crate::part::first_part;
@@ -103,20 +103,12 @@ fn read_next<D: Disk>(
     buffer: &mut Vec<u8>,
     so_far: &mut SoFar,
 ) -> Result<Option<u64>, CheckError>
-    requires size { IsTrue D.tells → source.size ≡ length (D.held disk.old source.file) }
-    requires within { at ≤ source.size }
+    requires address { IsAddress D.tells (D.held disk.old) (address_of source.file source.size at) }
     requires so_far { IsSoFar so_far.old }
     requires room { SMALL_BLOCK_SIZE ≤ vec_capacity buffer.old }
-    ensures next { IfOk result (λ next. IsTrue D.tells → (most : ℕ) → MatchOption next
-        (blocks_in_file (suc most) (D.held disk.old) source.file at (kept_of so_far.old.state)
-        ≡ Ok (kept_of so_far.new.state))
-        (λ n. blocks_in_file (suc most) (D.held disk.old) source.file at (kept_of so_far.old.state)
-        ≡ blocks_in_file most (D.held disk.old) source.file n (kept_of so_far.new.state))) }
-    ensures joins { IfOk result (λ next. IsTrue D.tells → IfSome next (λ n. Joins (D.held disk.old source.file)
-        (vec_capacity buffer.new) at n (kept_of so_far.old.state) (kept_of so_far.new.state))) }
+    ensures read { IfOk result
+        (HasReadBlock D.tells (D.held disk.old) source at (vec_capacity buffer.new) so_far.old so_far.new) }
     ensures capacity { vec_capacity buffer.old ≤ vec_capacity buffer.new }
-    ensures so_far { OnOk result (IsSoFar so_far.new) }
-    ensures within { IfOk result (λ next. MatchOption next (Unit {0}) (λ n. (at < n) × (n ≤ source.size))) }
     ensures damaged { (damage : TheDamage) → IsErrOf result (CheckError.Damaged damage) → IsTrue D.tells
         → (most : ℕ) → blocks_in_file (suc most) (D.held disk.old) source.file at (kept_of so_far.old.state)
         ≡ Err damage }

@@ -34,16 +34,16 @@ pub loop-so_far-preserved : goal.loop-so_far-preserved
 loop-so_far-preserved g c =
     let file = snapshot_file c.args.number in
     let inv = c.loop-so_far.invariant in
-    let within = rw c.in-Some.is at c.in_ok-next.ensures.within in
+    let within = rw c.in-Some.is at c.in_ok-next.ensures.read.within in
     record {
       within = within.1;
       stays = search rules;
       faults = omega arith;
       size = inv.size;
-      so_far = c.in_ok-next.ensures.so_far;
+      so_far = c.in_ok-next.ensures.read.so_far;
       room = omega (arith, inv.room, c.in_ok-next.ensures.capacity);
       read_to = λ told.
-          let joins = rw c.in-Some.is at (c.in_ok-next.ensures.joins told) in
+          let joins = rw c.in-Some.is at (c.in_ok-next.ensures.read.joins told) in
           more c.loop-so_far.at c.in-Some.next (vec_capacity c.loop-so_far.buffer) (vec_capacity c.read_next.new.buffer) (kept_of c.loop-so_far.so_far.state) (kept_of c.read_next.new.so_far.state)
           (inv.read_to told) c.in_ok-next.ensures.capacity
           (subst (λ (f : Files). Joins (f file) (vec_capacity c.read_next.new.buffer) c.loop-so_far.at c.in-Some.next (kept_of c.loop-so_far.so_far.state) (kept_of c.read_next.new.so_far.state)) inv.stays.files joins);
@@ -51,7 +51,7 @@ loop-so_far-preserved g c =
       enough = λ told. omega (arith, inv.enough told, within.0, inv.within);
       read = λ told.
           let some : inv.most ≡ suc (inv.most - 1) = omega (arith, inv.enough told, inv.within) in
-          let step = rw c.in-Some.is at (c.in_ok-next.ensures.next told (inv.most - 1)) in
+          let step = rw c.in-Some.is at (c.in_ok-next.ensures.read.says told (inv.most - 1)) in
           inv.read told ∙ ap (λ (m : ℕ). blocks_from m file c.loop-so_far.at (kept_of c.loop-so_far.so_far.state) (drop c.loop-so_far.at (g.D.Disk.held c.args.disk.now file))) some
           ∙ subst (λ (f : Files). blocks_from (suc (inv.most - 1)) file c.loop-so_far.at (kept_of c.loop-so_far.so_far.state) (drop c.loop-so_far.at (f file))
           ≡ blocks_from (inv.most - 1) file c.in-Some.next (kept_of c.read_next.new.so_far.state) (drop c.in-Some.next (f file))) inv.stays.files step;
@@ -62,7 +62,7 @@ returns-clause-read g c = λ told.
     let file = snapshot_file c.args.number in
     let inv = c.loop-so_far.invariant in
     let some : inv.most ≡ suc (inv.most - 1) = omega (arith, inv.enough told, inv.within) in
-    let last = rw c.in_default.is at (c.in_ok-next.ensures.next told (inv.most - 1)) in
+    let last = rw c.in_default.is at (c.in_ok-next.ensures.read.says told (inv.most - 1)) in
     inv.read told ∙ ap (λ (m : ℕ). blocks_from m file c.loop-so_far.at (kept_of c.loop-so_far.so_far.state) (drop c.loop-so_far.at (g.D.Disk.held c.args.disk.now file))) some
     ∙ subst (λ (f : Files). blocks_from (suc (inv.most - 1)) file c.loop-so_far.at (kept_of c.loop-so_far.so_far.state) (drop c.loop-so_far.at (f file))
     ≡ Ok (kept_of c.read_next.new.so_far.state)) inv.stays.files last
