@@ -4,7 +4,7 @@ use Rattle.std.specs.Prelude.{Option, Some, None, filter, ◌==◌}
 use Rattle.std.specs.Option.{option_map_or}
 use Rattle.std.specs.List.{range_with_len}
 use Rattle.std.proofs.lemmas.Bool.{cases_eq, eq-eqb, eqb-true, false_from_ne_true}
-use Rattle.std.proofs.lemmas.List.{ext_get_or, get_or-set_same, get_or-set_other, length-set, map-append, set_past, take_more, take_all}
+use Rattle.std.proofs.lemmas.List.{ext_get_or, get_or-set_same, get_or-set_other, length-set, map-append, take_more, take_all}
 use Rattle.std.proofs.lemmas.List.Elements.{filter-append}
 use Rattle.std.proofs.lemmas.List.FromFn.{length-map-range_with_len, get_or-map-range_with_len}
 use Rattle.flowfile_record.specs.declared.worked.Origin.{Origin}
@@ -105,10 +105,6 @@ lists_more kinship files i file n old new h is added before =
 pub lists_all : (kinship : Kinship) (files : List EndedFile) (i : ℕ) (old : List (List ℕ)) → length files ≤ i
     → old ≡ map (children_of kinship (take i files)) (range_with_len 0 (length files)) → old ≡ map (children_of kinship files) (range_with_len 0 (length files))
 lists_all kinship files i old h is = is ∙ ap (λ xs. lists kinship xs (length files)) (take_all i files h)
-
--- a number more in a list that there isn't
-pub nowhere : (old : List (List ℕ)) (parent number : ℕ) → length old ≤ parent → old ≡ set old parent (get_or old parent [] ++ number ∷ [])
-nowhere old parent number h = sym (set_past old parent (get_or old parent [] ++ number ∷ []) h)
 
 -- none is found among no files
 pub childless_is : (kinship : Kinship) (from n : ℕ) → replicate n [] ≡ map (children_of kinship []) (range_with_len from n)

@@ -1,19 +1,16 @@
 -- What a look-up finds, and what is told where it finds nothing.
-use Rattle.std.proofs.Common.{◌≡◌, ℕ, zero, suc, ◌+◌, ◌<◌, ◌≤◌, Bool, true, false, cond, List, [], ◌∷◌, ◌++◌, map, length, get_or, drop, refl, sym, ap, subst, ◌∙◌, arith, append_assoc, append-nil}
-use Rattle.std.specs.Prelude.{nat_lt, Some, None, OnOk, Result, filter, slice_get}
+use Rattle.std.proofs.Common.{◌≡◌, ℕ, zero, suc, ◌<◌, ◌≤◌, true, false, cond, List, [], ◌∷◌, length, get_or, refl, sym, ap, subst, ◌∙◌, arith}
+use Rattle.std.specs.Prelude.{nat_lt, Some, None, OnOk, Result, slice_get}
 use Rattle.std.specs.Option.{option_map_or}
 use Rattle.std.proofs.lemmas.Bool.{ltb-true, ltb-false}
-use Rattle.std.proofs.lemmas.List.{drop_all}
 use Rattle.flowfile_record.specs.Outcome.{same_attributes}
 use Rattle.flowfile_record.specs.declared.event.Event.{Event}
 use Rattle.flowfile_record.specs.declared.event.EventKind.TheVariants as kind
 use Rattle.flowfile_record.specs.declared.flow_file.FlowFile.{FlowFile}
 use Rattle.flowfile_record.specs.declared.worked.Sent.{Sent}
-use Rattle.settlement.specs.Telling.{AddsDrafts, ToldSession, Unnumbered, draft_alone, children_of, if_other, is_child, send_drafts}
+use Rattle.settlement.specs.Telling.{AddsDrafts, ToldSession, Unnumbered, draft_alone, if_other, send_drafts}
 use Rattle.settlement.specs.declared.file.EndedFile.{EndedFile}
-use Rattle.settlement.specs.declared.offspring.Kinship.{Kinship}
 use Rattle.settlement.proofs.AddedEvents.{adds-none}
-use Rattle.settlement.proofs.Steps.{left}
 
 past : {X : Type 0} (xs : List X) (i : ℕ) → length xs ≤ i → slice_get xs i ≡ None
 past [] i h = refl
@@ -41,33 +38,6 @@ sent_nowhere told put none = ap (λ found. option_map_or (λ file. draft_alone t
 
 pub same_is_silent : (told : ToldSession) (file : EndedFile) (taken : FlowFile) → same_attributes taken.attributes file.worked.attributes ≡ true → if_other told file (Some taken) ≡ []
 same_is_silent told file taken same = ap (λ b. cond b [] (draft_alone told kind.AttributesModified file [] ∷ [])) same
-
--- ---- children
-
-child_first : (kinship : Kinship) (place : ℕ) (file : EndedFile) (files : List EndedFile) (b : Bool)
-    → map (λ (file : EndedFile). file.number) (cond b (file ∷ []) []) ++ children_of kinship files place
-    ≡ map (λ (file : EndedFile). file.number) (cond b (file ∷ filter (λ (file : EndedFile). is_child kinship place file.worked.origin) files) (filter (λ (file : EndedFile). is_child kinship place file.worked.origin) files))
-child_first kinship place file files true = refl
-child_first kinship place file files false = refl
-
-pub child_more : (kinship : Kinship) (place : ℕ) (files : List EndedFile) (i : ℕ) (file : EndedFile) (old new whole : List ℕ) → i < length files → file ≡ get_or files i file
-    → new ≡ old ++ children_of kinship (file ∷ []) place → old ++ children_of kinship (drop i files) place ≡ whole → new ++ children_of kinship (drop (i + 1) files) place ≡ whole
-child_more kinship place files i file old new whole h is added before =
-    let rest = drop (i + 1) files in
-    ap (λ xs. xs ++ children_of kinship rest place) added
-    ∙ append_assoc old (children_of kinship (file ∷ []) place) (children_of kinship rest place)
-    ∙ ap (λ xs. old ++ xs) (child_first kinship place file rest (is_child kinship place file.worked.origin))
-    ∙ ap (λ xs. old ++ children_of kinship xs place) (sym (left files i file h is))
-    ∙ before
-
-pub child_all : (kinship : Kinship) (place : ℕ) (files : List EndedFile) (i : ℕ) (old whole : List ℕ) → length files ≤ i → old ++ children_of kinship (drop i files) place ≡ whole → old ≡ whole
-child_all kinship place files i old whole h is = sym (append-nil old) ∙ ap (λ rest. old ++ children_of kinship rest place) (sym (drop_all i files h)) ∙ is
-
-pub a_child : (kinship : Kinship) (place : ℕ) (file : EndedFile) (old new : List ℕ) → is_child kinship place file.worked.origin ≡ true → new ≡ old ++ file.number ∷ [] → new ≡ old ++ children_of kinship (file ∷ []) place
-a_child kinship place file old new h is = rw h is
-
-pub no_child : (kinship : Kinship) (place : ℕ) (file : EndedFile) (old : List ℕ) → is_child kinship place file.worked.origin ≡ false → old ≡ old ++ children_of kinship (file ∷ []) place
-no_child kinship place file old h = rw h (sym (append-nil old))
 
 -- other drafts that are the same
 pub on_ok_told : {E : Type 0} (result : Result (Unit {0}) E) (first : ℕ) (old new : List Event) (drafts others : List Unnumbered) → drafts ≡ others → OnOk result (AddsDrafts first old drafts new) → OnOk result (AddsDrafts first old others new)

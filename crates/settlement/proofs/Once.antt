@@ -1,8 +1,7 @@
 -- That the clones of a settlement bring no bytes of their own.
-use Rattle.std.proofs.Common.{◌≡◌, ◌⊎◌, inl, inr, ℕ, zero, suc, ◌+◌, ◌<◌, ◌≤◌, List, [], ◌∷◌, ◌++◌, map, length, refl, sym, subst, ◌∙◌, arith}
+use Rattle.std.proofs.Common.{◌≡◌, ◌⊎◌, inl, inr, ℕ, zero, suc, ◌+◌, ◌<◌, ◌≤◌, List, [], ◌∷◌, ◌++◌, map, length, refl, sym, subst, arith}
 use Rattle.std.specs.List.{range_with_len}
 use Rattle.std.specs.Prelude.{Contains, None, zip}
-use Rattle.std.proofs.lemmas.List.{length-map}
 use Rattle.flowfile_record.specs.Outcome.{AreInTurn}
 use Rattle.flowfile_record.specs.Shared.{own_bytes}
 use Rattle.flowfile_record.specs.declared.flow_file.FlowFile.{FlowFile}

@@ -15,7 +15,7 @@ use Rattle.flowfile_record.specs.Counts.{with_count}
 use Rattle.machine_model.specs.Events.{Draft, drafts, numbered_from}
 use Rattle.machine_model.specs.Files.{queue_at}
 use Rattle.machine_model.specs.Placing as placing
-use Rattle.machine_model.specs.Placing.{SettledFile, SettlementClone, Destination, settled_file, settled_files, settlement_clones, wanted_clones, numbers_from, entered_in, count_made}
+use Rattle.machine_model.specs.Placing.{SettledFile, SettlementClone, Destination, settlement_clones, wanted_clones, count_made}
 use Rattle.machine_model.specs.Settling.{arriving, counts_after, newcomers, settle, staying, staying_as}
 use Rattle.machine_model.specs.State.{Kin, QueuedFile}
 use Rattle.machine_model.specs.Stepping.{without_files}

@@ -15,7 +15,7 @@ use Rattle.machine_model.specs.Changing.{queued_file}
 use Rattle.machine_model.specs.Events as machine
 use Rattle.machine_model.specs.Events.{Draft, drafts, is_removed}
 use Rattle.machine_model.specs.Placing as placing
-use Rattle.machine_model.specs.Placing.{EndedSession, SettledFile, SettlementClone, Destination, settled_files, settlement_clones, wanted_clones, further_connections, count_made}
+use Rattle.machine_model.specs.Placing.{SettledFile, SettlementClone, Destination, settled_files, settlement_clones, wanted_clones, further_connections, count_made}
 use Rattle.machine_model.specs.State.{QueuedFile}
 use Rattle.settlement.specs.Ending.{goes_to}
 use Rattle.settlement.specs.Placing.{wanted, further}

@@ -1,6 +1,5 @@
 //! The events that tell of a session.
-ghost use Rattle.std.specs.Prelude.{◌≡◌, ◌+◌, ◌<◌, ◌≤◌, ◌^◌, ◌∷◌, ◌++◌, [], ℕ, map, length, slice_index, slice_get, vec_len, IfOk, OnOk, Some, unwrap_or};
-ghost use Rattle.std.specs.List.{flat_map, enumerate_from};
+ghost use Rattle.std.specs.Prelude.{◌≡◌, ◌+◌, ◌<◌, ◌^◌, ◌∷◌, [], map, length, slice_get, IfOk, OnOk, Some, unwrap_or};
 ghost use Rattle.machine_model.specs.Events.{ascending, is_removed};
 ghost use Rattle.settlement.specs.Telling.{AddsDrafts, TellerIsReady, told_by, draft_of, draft_alone, create_drafts, receive_drafts, fork_drafts, join_drafts, clone_draft, modify_drafts, attributes_drafts, if_other, route_drafts, drop_drafts, row_at, row_drafts, send_drafts, ended_number, clone_events, made_rows, changed_rows, all_drafts};
 ghost use Rattle.settlement.specs.Placing.{wanted, further};

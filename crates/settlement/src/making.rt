@@ -1,5 +1,5 @@
 //! The files of a session that has ended, with what the settlement gives them.
-ghost use Rattle.std.specs.Prelude.{◌≡◌, ◌+◌, ◌≤◌, ◌<◌, ◌^◌, length, map, zip, min, All, IfOk};
+ghost use Rattle.std.specs.Prelude.{◌≡◌, ◌+◌, ◌≤◌, ◌<◌, ◌^◌, length, map, zip, All, IfOk};
 ghost use Rattle.machine_model.specs.Placing.{numbers_from, entered_in, penalty_end_of};
 ghost use Rattle.settlement.specs.Ending.{place_of, ended_file, ended_files, named_file, IsWorkedWithin};
 

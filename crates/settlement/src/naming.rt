@@ -1,5 +1,5 @@
 //! The names of made files.
-ghost use Rattle.std.specs.Prelude.{◌≡◌, ◌+◌, ◌≤◌, codes, IfOk, string_bytes};
+ghost use Rattle.std.specs.Prelude.{◌≡◌, ◌+◌, ◌≤◌, IfOk, string_bytes};
 ghost use Rattle.flowfile_record.specs.Attributes.{encoded_size};
 ghost use Rattle.flowfile_record.specs.Outcome.{filename_to_come};
 ghost use Rattle.flowfile_record.specs.declared.attributes.TheConstants.{ATTRIBUTES_MAX};

@@ -1,5 +1,5 @@
 //! What a session puts into queues.
-ghost use Rattle.std.specs.Prelude.{◌≡◌, ◌+◌, ◌*◌, ◌<◌, ◌≤◌, ◌^◌, ◌∷◌, ◌++◌, [], ℕ, length, map, slice_index, vec_len, IfOk, OnOk};
+ghost use Rattle.std.specs.Prelude.{◌≡◌, ◌+◌, ◌*◌, ◌<◌, ◌≤◌, ◌^◌, ◌++◌, length, map, slice_index, vec_len, IfOk, OnOk};
 ghost use Rattle.settlement.specs.Contents.{shared_in};
 ghost use Rattle.settlement.specs.Placing.{PlacingFrom, taken_arrival, arrived, cloned_from, clones_of, first_newcomer, firsts, first_connection, further, is_returning, placed_as, placed_at, placed_from, placing_of, returned, returning, wanted};
 

@@ -1,5 +1,5 @@
 //! The settlement of a session.
-ghost use Rattle.std.specs.Prelude.{◌≡◌, ◌+◌, ◌<◌, ◌≤◌, ◌^◌, ℕ, List, All, length, map, slice_get, IfOk, Some};
+ghost use Rattle.std.specs.Prelude.{◌≡◌, ◌+◌, ◌<◌, ◌≤◌, ◌^◌, length, map, IfOk, Some};
 ghost use Rattle.machine_model.specs.Placing.{count_made};
 ghost use Rattle.settlement.specs.Ending.{place_of};
 ghost use Rattle.settlement.specs.Handed.{MaySettle};

@@ -1,7 +1,6 @@
 use Rattle.std.proofs.Common.{◌≡◌, subst, arith}
 use Rattle.std.specs.Prelude.{IfOk}
 use Rattle.settlement.specs.Whole.{ending_place, settled_of}
-use Rattle.settlement.proofs.Wholes.{may-end}
 use Rattle.settlement.proofs.settling.settle_at.Goals as goal
 
 pub returns-clause-settled : goal.returns-clause-settled
