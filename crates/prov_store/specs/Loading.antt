@@ -56,3 +56,8 @@ pub record AreLater (old new : Loading) : Type 0 where
 pub record AreListedStale (tells : Bool) (files : Files) (k : ℕ) (stale : List Stale) : Type 0 where
   pub longer : AreLonger tells files stale
   pub before : All (λ s. s.file < k) stale
+
+-- the files before this one are read, and those of them are listed that are longer than what is covered
+pub record FilesAreRead (tells : Bool) (files : Files) (k : ℕ) (loading : Loading) : Type 0 where
+  pub loaded : EventsAreLoaded tells files k loading
+  pub listed : AreListedStale tells files k loading.stale.items

@@ -5,7 +5,7 @@ ghost use Rattle.disk_trait.specs.Faults.{CountsFaults};
 ghost use Rattle.disk_trait.specs.declared.damage.Damage.{Damage as TheDamage};
 ghost use Rattle.flowfile_record.specs.Encoding.{IsNumber};
 ghost use Rattle.prov_store.specs.Events.{events_file, events_from, events_of_files, events_in};
-ghost use Rattle.prov_store.specs.Loading.{bytes_there, AreLater, AreListedStale, HaveCounted, EventsAreLoaded};
+ghost use Rattle.prov_store.specs.Loading.{bytes_there, AreLater, FilesAreRead, HaveCounted, EventsAreLoaded};
 ghost use Rattle.prov_store.specs.Reading.{HasWhole, IsThere};
 ghost use Rattle.record_codec.specs.Block.{reading_of};
 ghost use Rattle.prov_store.specs.State.{AreLonger, IsFoundOn};
@@ -73,10 +73,8 @@ impl Loading {
     ) -> Result<(), EventsError>
         requires number { number ≤ self.old.end / EVENTS_PER_FILE }
         requires end { IsNumber self.old.end }
-        requires loaded { EventsAreLoaded D.tells (D.held disk.old) number self.old }
-        requires listed { AreListedStale D.tells (D.held disk.old) number self.old.stale.items }
-        ensures listed { OnOk result (AreListedStale D.tells (D.held disk.old) (number + 1) self.new.stale.items) }
-        ensures loaded { OnOk result (EventsAreLoaded D.tells (D.held disk.old) (number + 1) self.new) }
+        requires read { FilesAreRead D.tells (D.held disk.old) number self.old }
+        ensures read { OnOk result (FilesAreRead D.tells (D.held disk.old) (number + 1) self.new) }
         ensures end { self.new.end ≡ self.old.end }
         ensures damaged { (damage : TheDamage) → IsErrOf result (EventsError.Damaged damage) → IsTrue D.tells
             → (more : ℕ) → events_of_files (number + suc more) self.old.end 0 (D.held disk.old) ≡ Err damage }
@@ -105,9 +103,7 @@ impl Loading {
 
     // Finds the files behind the one that the next event goes to.
     fn find_later<D: Disk>(&mut self, alloc: Global, disk: &mut D) -> Result<(), EventsError>
-        requires loaded { EventsAreLoaded D.tells (D.held disk.old) (self.old.end / EVENTS_PER_FILE + 1) self.old }
-        requires listed { AreListedStale D.tells (D.held disk.old) (self.old.end / EVENTS_PER_FILE + 1)
-            self.old.stale.items }
+        requires read { FilesAreRead D.tells (D.held disk.old) (self.old.end / EVENTS_PER_FILE + 1) self.old }
         ensures longer { OnOk result (AreLonger D.tells (D.held disk.old) self.new.stale.items) }
         ensures loaded { OnOk result
             (EventsAreLoaded D.tells (D.held disk.old) (self.old.end / EVENTS_PER_FILE + 1) self.new) }
