@@ -24,7 +24,7 @@ pub record KeepsMeaning {D : Type 0} (moment : D → ℕ) (images : D → ℕ �
 
 -- ---- why a call refuses
 
--- the errors of a call that reads no file and takes no memory
+-- the errors of a call that tells no damage and takes no memory
 abbrev pub IsDiskOrReopen : StoreError → Type 0
 IsDiskOrReopen error = (error ≡ Disk) ⊎ (error ≡ MustReopen)
 
@@ -36,8 +36,9 @@ IsDiskOrMemory error = (error ≡ Disk) ⊎ (error ≡ Memory)
 abbrev pub IsDiskMemoryOrDamage : StoreError → Type 0
 IsDiskMemoryOrDamage error = (error ≡ Disk) ⊎ (error ≡ Memory) ⊎ ((damage : Damage) × (error ≡ Damaged damage))
 
--- A call that writes refuses so. MustReopen comes exactly where an earlier call of this store answered Disk, and then
--- nothing is done. Disk comes only where the disk's fault count rose, and no other error comes.
+-- A call that tells no damage and takes no memory refuses so. MustReopen comes exactly where an earlier call of this
+-- store answered Disk, and then nothing is done. Disk comes only where the disk's fault count rose, and no other error
+-- comes.
 pub record StopsOnFault {D A : Type 0} (result : Result A StoreError) (s_old s_new : StoreState) (faults : D → ℕ)
     (old new : D) : Type 0 where
   pub reopen : IsErrOf result MustReopen ↔ (s_old.failed ≡ true)

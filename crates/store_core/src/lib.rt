@@ -15,6 +15,7 @@ mod prepared;
 mod reading;
 mod revival;
 mod seen;
+mod still;
 mod store;
 
 pub use error::StoreError;
