@@ -8,6 +8,7 @@ ghost use Rattle.flowfile_record.specs.Stored.{Kept, kept_of};
 ghost use Rattle.flowfile_record.specs.declared.stored.ActiveFile.{ActiveFile as TheFile};
 ghost use Rattle.checkpoint_store.specs.Consistent.{IsConsistent};
 ghost use Rattle.checkpoint_store.specs.Snapshot.{snapshot_file};
+ghost use Rattle.content_repo.specs.Claims.{ContentIsWhole};
 ghost use Rattle.flowfile_wal.specs.Calls.{HaveEncodings};
 ghost use Rattle.flowfile_wal.specs.Current.{current_number};
 ghost use Rattle.flowfile_wal.specs.Steps.{numbered_log};
@@ -259,6 +260,9 @@ impl Seen {
         // Memory is taken only for its bytes.
         ensures memory { (active : TheFile) → live_file number self.now ≡ Some active → IsErrOf result StoreError.Memory
             → 0 < active.file.content.size }
+        // Damage is told whether or not there is memory.
+        ensures whole { (active : TheFile) → live_file number self.now ≡ Some active → IsErrOf result StoreError.Memory
+            → IsTrue D.tells → ContentIsWhole (D.held disk.old) active.file.content }
         ensures none { live_file number self.now ≡ None → disk.new ≡ disk.old }
         ensures undamaged { (damage : TheDamage) → IsErrOf result (StoreError.Damaged damage) → IsTrue D.tells
             → IsSeenOn (D.held disk.old) self.now → ⊥ }

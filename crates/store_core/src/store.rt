@@ -8,7 +8,7 @@ ghost use Rattle.checkpoint_store.specs.Consistent.{IsConsistent};
 ghost use Rattle.content_repo.specs.Claims.{AreEmptied, IsRead, IdleShortened};
 ghost use Rattle.content_repo.specs.Slots.{IsReclaimed};
 ghost use Rattle.kept_state.specs.Changes.{entry_of_change, expiry_entry};
-ghost use Rattle.kept_state.specs.Limits.{numbers_limit};
+ghost use Rattle.kept_state.specs.Limits.{live_limit, numbers_limit};
 ghost use Rattle.kept_state.specs.declared.limit.Limit.{Limit as TheLimit};
 ghost use Rattle.store_core.specs.Calls.{KeepsMeaning, RefusesToRead, StopsOnFault};
 ghost use Rattle.store_core.specs.Change.{MayChange, MayExpire, ChangeIsWithinLimits, IsLimitOf, kept_with};
@@ -114,6 +114,9 @@ impl Store {
         ensures within { OnOk result (ChangeIsWithinLimits self.old settled.now) }
         ensures limit { (limit : TheLimit) → IsErrOf result (StoreError.Limit limit)
             → IsLimitOf self.old settled.now limit }
+        // Those of the live files are looked at before memory is taken.
+        ensures first { (limit : TheLimit) → live_limit (kept_with self.old settled.now) ≡ Some limit
+            → IsErrOf result (StoreError.Limit limit) }
         ensures others { IfErr result (λ error. (error ≡ StoreError.Memory)
             ⊎ ((limit : TheLimit) × (error ≡ StoreError.Limit limit))) }
         // But for the room for more files, nothing changes.
@@ -149,6 +152,9 @@ impl Store {
         ensures within { OnOk result (ChangeIsWithinLimits self.now expiry.now.settled) }
         ensures limit { (limit : TheLimit) → IsErrOf result (StoreError.Limit limit)
             → numbers_limit (kept_with self.now expiry.now.settled) ≡ Some limit }
+        // It is looked at before memory is taken.
+        ensures first { (limit : TheLimit) → numbers_limit (kept_with self.now expiry.now.settled) ≡ Some limit
+            → IsErrOf result (StoreError.Limit limit) }
         ensures others { IfErr result (λ error. (error ≡ StoreError.Memory)
             ⊎ ((limit : TheLimit) × (error ≡ StoreError.Limit limit))) }
     {

@@ -3,6 +3,7 @@ use Rattle.std.specs.Prelude.{Option, None, Some}
 use Rattle.std.specs.Option.{option_copied}
 use Rattle.std.proofs.lemmas.Result.{err_from_is_err_and}
 use Rattle.flowfile_record.specs.declared.stored.ActiveFile.{ActiveFile}
+use Rattle.content_repo.specs.Claims.{ContentIsWhole}
 use Rattle.store_core.specs.Errors.{of_content}
 use Rattle.store_core.specs.Seen.{live_file, IsContentRead}
 use Rattle.store_core.specs.declared.error.StoreError.TheVariants.{Damaged, Memory}
@@ -45,6 +46,16 @@ returns-in_err-bytes-in-Some-clause-memory g c active there is =
     let p = err_from_is_err_and c.from_residual.result c.from_residual.ensures.1 in
     let same : of_content c.in_err-bytes-in-Some.field-0.0 ≡ Memory = cc (p.1, p.2, is) in
     subst (λ (a : ActiveFile). 0 < a.file.content.size) file (c.in_err-bytes-in-Some.ensures.refusal.some (content_memory c.in_err-bytes-in-Some.field-0.0 same))
+
+pub returns-in_err-bytes-in-Some-clause-whole : goal.returns-in_err-bytes-in-Some-clause-whole
+returns-in_err-bytes-in-Some-clause-whole g c active there is told =
+    let live : live_file c.args.number c.args.self.now ≡ Some c.in-Some.active.now = sym c.live.ensures.live ∙ ap option_copied c.in-Some.is in
+    let both : Some c.in-Some.active.now ≡ Some active = sym live ∙ there in
+    let file : c.in-Some.active.now ≡ active = cc in
+    let p = err_from_is_err_and c.from_residual.result c.from_residual.ensures.1 in
+    let same : of_content c.in_err-bytes-in-Some.field-0.0 ≡ Memory = cc (p.1, p.2, is) in
+    subst (λ (a : ActiveFile). ContentIsWhole (g.D.Disk.held c.args.disk.now) a.file.content) file
+    (c.in_err-bytes-in-Some.ensures.refusal.memory (content_memory c.in_err-bytes-in-Some.field-0.0 same) told)
 
 pub returns-in_err-bytes-in-Some-clause-refused : goal.returns-in_err-bytes-in-Some-clause-refused
 returns-in_err-bytes-in-Some-clause-refused g c is none =
