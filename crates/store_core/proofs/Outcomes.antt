@@ -5,8 +5,8 @@ use Rattle.std.specs.Prelude.{Option, None, Some, is_some, Result, Ok, ◌⊎◌
 use Rattle.disk_trait.specs.Files.{Files}
 use Rattle.disk_trait.specs.declared.damage.Damage.{Damage}
 use Rattle.flowfile_record.specs.declared.event.Event.{Event}
-use Rattle.disk_trait.specs.Images.{After, Since}
-use Rattle.disk_trait.proofs.Moments.{wider, wider_where_left}
+use Rattle.disk_trait.specs.Images.{After, Since, calls_later}
+use Rattle.disk_trait.proofs.Moments.{more_calls, wider, wider_where_left}
 use Rattle.flowfile_record.specs.declared.stored.ActiveFile.{ActiveFile}
 use Rattle.flowfile_record.specs.declared.stored.Placed.{Placed}
 use Rattle.record_codec.specs.Placeless.{placeless_active, placeless_entry}
@@ -24,9 +24,10 @@ use Rattle.kept_state.specs.Changes.{no_files, placed_in}
 use Rattle.machine_model.specs.State.{State}
 use Rattle.machine_model.specs.Changing.{HaveDigests, state_after}
 use Rattle.prov_store.specs.Events.{events_in}
-use Rattle.prov_store.specs.State.{EventsState, EventsAreAppended}
+use Rattle.prov_store.specs.State.{EventsState, EventsAreAppended, files_for}
 use Rattle.store_core.specs.Change.{HasLiveContents}
-use Rattle.store_core.specs.Committed.{PreparedChange, IsPreparedChange, HasChange, HoldsEither, KeepsShared}
+use Rattle.store_core.specs.Writing.{fresh_count}
+use Rattle.store_core.specs.Committed.{PreparedChange, IsPreparedChange, HasChange, HoldsEither, KeepsShared, calls_of_commit}
 use Rattle.store_core.specs.Touched.{ClaimsGrow, MayTouch, TouchesOnly}
 use Rattle.store_core.specs.Flow.{flow_in}
 use Rattle.store_core.specs.Placing.{contents_of, GrowsAhead, GrowsByFresh, AppendsEvents, ArePlaced, HoldsMore, IsPlacedAs, PlacesAll, ReferAlike, StaysStored}
@@ -293,6 +294,20 @@ module _ {D : Type 0} (tells : Bool) (held : D → Files) (moment : D → ℕ) (
       (λ k. ap (λ (n : List ℕ). count_of given k + references_to k (contents_of (kept_by s).files n)) gone ∙ counts k)
       (ap (λ (n : List ℕ). held_in given + length (contents_of (kept_by s).files n)) gone ∙ held_less)
       sizes kept log slots_are opened
+
+-- how many calls the disk took: those ahead of the log, and then the log's
+pub called : (inside s : StoreState) (change p : PreparedChange) (placed : List Placed) (old mid end : ℕ) → inside ≡ s → change ≡ p → placed ≡ change.settled.placed → IsPreparedChange s p
+    → mid ≡ calls_later (fresh_count placed + files_for inside.events.end (length change.events.events)) old → end ≡ calls_later 4 mid
+    → end ≡ calls_later (calls_of_commit p.settled s.events.end) old
+called inside s change p placed old mid end view p_view placed_is prepared ahead logged =
+    let last : ℕ = s.events.end in
+    let more = λ (l : List Placed) (t : StoreState) (c : PreparedChange). fresh_count l + files_for t.events.end (length c.events.events) in
+    let first : more placed inside change ≡ fresh_count p.settled.placed + files_for last (length p.settled.events) =
+    ap (λ (l : List Placed). more l inside change) placed_is
+    ∙ ap (λ (t : StoreState). more change.settled.placed t change) view
+    ∙ ap (λ (c : PreparedChange). more c.settled.placed s c) p_view
+    ∙ ap (λ (l : List Event). fresh_count p.settled.placed + files_for last (length l)) prepared.events in
+    logged ∙ ap (calls_later 4) ahead ∙ more_calls (more placed inside change) 4 old ∙ ap (λ (n : ℕ). calls_later (n + 4) old) first
 
 -- the events of the change are counted
 pub events_counted : (inside s : StoreState) (change p : PreparedChange) (known : EventsState) → inside ≡ s → change ≡ p → IsPreparedChange s p → EventsAreAppended change.events.events inside.events known → EventsAreAppended p.settled.events s.events known

@@ -6,6 +6,8 @@ use Rattle.std.specs.List.{filter_map, cons_option}
 use Rattle.std.proofs.lemmas.List.Sums.{sum_by-append}
 use Rattle.std.proofs.lemmas.List.{take_more, take_all, take-append-drop, append-nil, map-append, nil_from_length}
 use Rattle.disk_trait.specs.Files.{Files}
+use Rattle.disk_trait.specs.Images.{calls_later}
+use Rattle.disk_trait.proofs.Moments.{more_calls}
 use Rattle.flowfile_record.specs.Shared.{AreShared, is_stored, own_bytes}
 use Rattle.flowfile_record.specs.declared.content.ContentRef.{ContentRef}
 use Rattle.flowfile_record.specs.declared.stored.ActiveFile.{ActiveFile}
@@ -16,7 +18,8 @@ use Rattle.record_codec.specs.declared.entry.LogEntry.{LogEntry}
 use Rattle.content_repo.specs.Slots.{size_of, references_to, taken, SlotsHaveRoom}
 use Rattle.content_repo.specs.declared.slot.Slot.{Slot}
 use Rattle.kept_state.specs.Changes.{placed_in, record_of}
-use Rattle.store_core.specs.Change.{IsFresh, fresh_sizes_of}
+use Rattle.store_core.specs.Change.{IsFresh, fresh_contents_of, fresh_sizes_of}
+use Rattle.store_core.specs.Writing.{fresh_count}
 use Rattle.store_core.specs.Placing.{bytes_in, IsPlacedAs, ArePlaced, HoldsMore, IsHeldIn, IsRecordedAt, MayPlace, MayPlaceOne, MayShare, PlacesOne, PlacesAll, ClaimsGrowBehind, ReferAlike, StaysStored, references_of}
 use Rattle.store_core.proofs.Growing.{same_grown}
 use Rattle.store_core.proofs.Sharing.{may_share, refer_next, refer_none, zip_wider}
@@ -176,6 +179,33 @@ placed_all tells placed start slots files entry i le so_far =
       holds = subst (λ (l : List ActiveFile). HoldsMore l start slots) (sym whole) so_far.holds;
       grown = omega (arith, so_far.grown, ap {B = ℕ} (λ (l : List Placed). sum (fresh_sizes_of l)) none);
     }
+
+-- ---- how many contents are written
+
+counts-cons : (p : Placed) (placed : List Placed) → fresh_count (p ∷ placed) ≡ fresh_count (p ∷ []) + fresh_count placed
+counts-cons p placed = by (own_bytes p.fresh)
+  where
+    by : (own : Option (List ℕ)) → length (cons_option own (fresh_contents_of placed)) ≡ length (cons_option own []) + length (fresh_contents_of placed)
+    by None = omega arith
+    by (Some bytes) = omega arith
+
+-- what is left to write from this place on is all that there is from the start on
+abbrev pub IsLeftToWrite : List Placed → (i start now : ℕ) → Type 0
+IsLeftToWrite placed i start now = calls_later (fresh_count (drop i placed)) now ≡ calls_later (fresh_count placed) start
+
+pub written_next : (placed : List Placed) (i start mid now : ℕ) (p : Placed) → i < length placed → p ≡ get_or placed i p → IsLeftToWrite placed i start mid → now ≡ calls_later (fresh_count (p ∷ [])) mid
+    → IsLeftToWrite placed (i + 1) start now
+written_next placed i start mid now p lt here so_far one =
+    let rest = drop (i + 1) placed in
+    ap (calls_later (fresh_count rest)) one
+    ∙ more_calls (fresh_count (p ∷ [])) (fresh_count rest) mid
+    ∙ ap (λ (n : ℕ). calls_later n mid) (sym (ap fresh_count (split_at placed i p lt here) ∙ counts-cons p rest))
+    ∙ so_far
+
+pub written_all : (placed : List Placed) (i start now : ℕ) → length placed ≤ i → IsLeftToWrite placed i start now → now ≡ calls_later (fresh_count placed) start
+written_all placed i start now le so_far =
+    let none : drop i placed ≡ [] = nil_from_length (drop i placed) (omega (arith, length-drop i placed, le)) in
+    sym (ap (λ (l : List Placed). calls_later (fresh_count l) now) none) ∙ so_far
 
 -- ---- contents that are in the store
 

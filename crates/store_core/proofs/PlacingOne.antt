@@ -4,6 +4,7 @@ use Rattle.std.specs.Prelude.{Option, None, Some, slice_get, sum, ◌⊎◌}
 use Rattle.std.specs.List.{cons_option}
 use Rattle.sha2.proofs.Facts256.{length-sha256}
 use Rattle.disk_trait.specs.Files.{Files}
+use Rattle.disk_trait.specs.Images.{calls_later, next_moment}
 use Rattle.flowfile_record.specs.Shared.{is_stored, own_bytes}
 use Rattle.flowfile_record.specs.declared.content.ContentRef.{ContentRef}
 use Rattle.flowfile_record.specs.declared.stored.ActiveFile.{ActiveFile}
@@ -21,6 +22,7 @@ use Rattle.content_repo.specs.Slots.{count_of, size_of, held_in, end_of, slot_wi
 use Rattle.content_repo.specs.declared.slot.Slot.{Slot}
 use Rattle.kept_state.specs.Changes.{placed_in, record_of, at_content, entry_with_content, with_content_at, HasContentLike}
 use Rattle.store_core.specs.Change.{IsFresh, fresh_sizes_of}
+use Rattle.store_core.specs.Writing.{fresh_count}
 use Rattle.store_core.specs.Placing.{IsHeldIn, MayPlaceOne, MayShare, IsRecordedAt, PlacesOne, references_of}
 use Rattle.store_core.proofs.Referring.{appended, bytes_same, held_more, refers_once, one_of}
 use Rattle.store_core.proofs.Rooms.{counted_alike, room_alike, shape}
@@ -33,7 +35,7 @@ sizes_own p own is = ap (λ (o : Option (List ℕ)). map length (cons_option o [
 sizes_some : (p : Placed) (bytes : List ℕ) → p.fresh ≡ Bytes bytes → fresh_sizes_of (p ∷ []) ≡ length bytes ∷ []
 sizes_some p bytes some = sizes_own p (Some bytes) (ap own_bytes some)
 
-stored_own : (fresh : Fresh) → is_stored fresh ≡ true → own_bytes fresh ≡ None
+pub stored_own : (fresh : Fresh) → is_stored fresh ≡ true → own_bytes fresh ≡ None
 stored_own No is = refl
 stored_own Staged is = refl
 stored_own (Bytes bytes) is = absurd cc
@@ -42,6 +44,17 @@ stored_own (As of) is = refl
 pub stored_of : (fresh : Fresh) → (fresh ≡ No) ⊎ (fresh ≡ Staged) → is_stored fresh ≡ true
 stored_of fresh (inl is) = ap is_stored is
 stored_of fresh (inr is) = ap is_stored is
+
+-- ---- how many contents are written
+
+count_own : (p : Placed) (own : Option (List ℕ)) → own_bytes p.fresh ≡ own → fresh_count (p ∷ []) ≡ length (cons_option own [])
+count_own p own is = ap (λ (o : Option (List ℕ)). length (cons_option o [])) is
+
+pub one_written : (p : Placed) (bytes : List ℕ) (moment : ℕ) → p.fresh ≡ Bytes bytes → next_moment moment ≡ calls_later (fresh_count (p ∷ [])) moment
+one_written p bytes moment some = ap (λ (n : ℕ). calls_later n moment) (sym (count_own p (Some bytes) (ap own_bytes some)))
+
+pub none_written : (p : Placed) (moment : ℕ) → own_bytes p.fresh ≡ None → moment ≡ calls_later (fresh_count (p ∷ [])) moment
+none_written p moment none = ap (λ (n : ℕ). calls_later n moment) (sym (count_own p None none))
 
 -- ---- the record of a file, with its content
 

@@ -2,7 +2,7 @@
 use Rattle.std.specs.Prelude.{◌≡◌, ◌⊎◌, ℕ, ◌+◌, ◌-◌, ◌^◌, ◌≤◌, length, map, min, All, Ok}
 use Rattle.std.specs.List.{AllZip}
 use Rattle.disk_trait.specs.Files.{Files}
-use Rattle.disk_trait.specs.Images.{Since}
+use Rattle.disk_trait.specs.Images.{Since, calls_later}
 use Rattle.flowfile_record.specs.Stored.{Kept}
 use Rattle.flowfile_record.specs.declared.change.Change.TheVariants as change
 use Rattle.flowfile_record.specs.declared.change.Settled.{Settled}
@@ -13,12 +13,13 @@ use Rattle.kept_state.specs.Applied.{applied}
 use Rattle.kept_state.specs.Changes.{entry_of_change, expiry_entry, no_files, placed_in, record_of, MayExpireAs}
 use Rattle.machine_model.specs.Changing.{state_after}
 use Rattle.machine_model.specs.State.{State}
-use Rattle.prov_store.specs.State.{HasBlock, EventsAreAppended, NumberedEvents}
+use Rattle.prov_store.specs.State.{HasBlock, EventsAreAppended, NumberedEvents, files_for}
 use Rattle.store_core.specs.Change.{MayChange, ChangeIsWithinLimits}
 use Rattle.store_core.specs.Flow.{flow_in}
 use Rattle.store_core.specs.Placing.{GrowsByFresh, ReferAlike, StaysStored}
 use Rattle.store_core.specs.State.{stands_for}
 use Rattle.store_core.specs.Store.{StoreState, kept_by, EachStandsFor, FilesHold}
+use Rattle.store_core.specs.Writing.{fresh_count}
 
 -- a change with the entry that it makes, whose new contents have no place yet, and its events
 pub record PreparedChange : Type 0 where
@@ -80,12 +81,18 @@ pub record KeepsShared (settled : Settled) (old new : StoreState) : Type 0 where
   pub alike : ReferAlike settled.placed (placed_in entry)
   pub stays : AllZip StaysStored settled.placed (placed_in entry)
 
--- A commit is acknowledged: the disk's present moment is told, the events are the store's, the log has one entry more, the
+-- how many calls of the disk a commit makes: a write for each new content and for each file that gets events, and the
+-- log's two writes and two syncs
+abbrev pub calls_of_commit : Settled → (last_event : ℕ) → ℕ
+calls_of_commit s last_event = fresh_count s.placed + files_for last_event (length s.events) + 4
+
+-- A commit is acknowledged: the disk's present moment is told, it took no call too many, the events are the store's, the log has one entry more, the
 -- claims have as many bytes more as the new contents, files share their contents, and whatever a stop may leave stands for
 -- the state with the change.
 pub record IsAcknowledged {D : Type 0} (held : D → Files) (moment_of : D → ℕ) (images : D → ℕ → Files → Type 0)
     (s_old s_new : StoreState) (settled : Settled) (old new : D) (told : ℕ) : Type 0 where
   pub moment : told ≡ moment_of new
+  pub calls : moment_of new ≡ calls_later (calls_of_commit settled s_old.events.end) (moment_of old)
   pub events : EventsAreAppended settled.events s_old.events s_new.events
   pub entries : s_new.entries ≡ min (s_old.entries + 1) (2 ^ 64 - 1)
   pub grown : GrowsByFresh settled.placed s_old.slots s_new.slots

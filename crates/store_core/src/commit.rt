@@ -1,19 +1,16 @@
 //! A change becomes part of the store: its contents and its events first, then the log.
-ghost use Rattle.std.specs.Prelude.{◌≡◌, ◌+◌, false, map, IfOk, OnOk, IfErr, IsErr, IsTrue};
-ghost use Rattle.std.specs.List.{AllZip};
-ghost use Rattle.disk_trait.specs.Faults.{CountsFaults};
-ghost use Rattle.disk_trait.specs.Images.{After, Since};
-ghost use Rattle.record_codec.specs.Placeless.{placeless_entry};
+ghost use Rattle.std.specs.Prelude.{◌≡◌, ◌+◌, false, length, IfOk, OnOk, IsTrue};
 ghost use Rattle.content_repo.specs.Claims.{HasSizes, content_in};
-ghost use Rattle.kept_state.specs.Changes.{placed_in, record_of};
 ghost use Rattle.machine_model.specs.Changing.{HaveDigests};
-ghost use Rattle.prov_store.specs.State.{EventsAreReady};
+ghost use Rattle.prov_store.specs.State.{EventsAreReady, ChangesBy, files_for};
 ghost use Rattle.store_core.specs.Calls.{StopsOnFault};
 ghost use Rattle.store_core.specs.Change.{HasLiveContents};
 ghost use Rattle.store_core.specs.Committed.{IsPreparedChange, IsAcknowledged, IsAllOrNothing};
-ghost use Rattle.store_core.specs.Placing.{MayPlace, PlacesAll, AppendsEvents, GrowsAhead, StaysStored};
+ghost use Rattle.store_core.specs.Placing.{PlacesAll, AppendsEvents, GrowsAhead};
+ghost use Rattle.store_core.specs.Refusing.{RefusesBy};
 ghost use Rattle.store_core.specs.Store.{IsKeptOn};
 ghost use Rattle.store_core.specs.Touched.{CommitsTo};
+ghost use Rattle.store_core.specs.Writing.{fresh_count, KeepsEntry, LeavesSizes, MayPlaceIn};
 
 use crate::contents::{give_up, place_contents};
 use crate::{Prepared, Store, StoreError};
@@ -97,22 +94,18 @@ fn write_ahead<D: Disk>(
     placed: &[Placed],
     blocks: &EventBlocks<'_>,
 ) -> Result<(), StoreError>
-    requires recorded { placed_in entry.old ≡ map record_of placed.now }
-    requires may { MayPlace contents.old placed.now }
+    requires may { MayPlaceIn entry.old contents.old placed.now }
     requires sizes { IsTrue D.tells → HasSizes contents.old (D.held disk.old) }
     requires next { blocks.now.first ≡ events.old.end + 1 }
     requires ready { IsTrue D.tells → EventsAreReady events.old (D.held disk.old) }
     ensures placed { OnOk result (PlacesAll D.tells (D.held disk.new) placed.now contents.old contents.new entry.new) }
-    ensures same { placeless_entry entry.new ≡ placeless_entry entry.old }
-    ensures stays { AllZip StaysStored placed.now (placed_in entry.new) }
-    ensures sizes { OnOk result (IsTrue D.tells → HasSizes contents.new (D.held disk.new)) }
     ensures events { OnOk result
         (AppendsEvents D.tells blocks.now.events events.old events.new (D.held disk.old) (D.held disk.new)) }
-    ensures held { IsTrue D.tells → GrowsAhead contents.old events.old (D.held disk.old) (D.held disk.new) }
-    ensures images { Since D.moment D.images disk.old disk.new
-        (After (GrowsAhead contents.old events.old) (D.images disk.old (D.moment disk.old))) }
-    ensures refusal { IfErr result (λ error. error ≡ StoreError.Disk) }
-    ensures cause { CountsFaults (D.faults disk.old) (D.faults disk.new) (IsErr result) }
+    ensures written { OnOk result (LeavesSizes D.tells D.held D.moment contents.new
+        (fresh_count placed.now + files_for events.old.end (length blocks.now.events)) disk.old disk.new) }
+    ensures entry { KeepsEntry placed.now entry.old entry.new }
+    ensures grows { ChangesBy D.tells D.held D.moment D.images (GrowsAhead contents.old events.old) disk.old disk.new }
+    ensures refusal { RefusesBy (λ error. error ≡ StoreError.Disk) result D.faults disk.old disk.new }
 {
     place_contents(contents, disk, entry, placed)?;
     events.append(disk, blocks)?;

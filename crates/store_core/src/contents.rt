@@ -1,18 +1,18 @@
 //! The contents of a change: each is written once, each file that refers to it holds it once more, and those of the files
 //! that go are given up.
-ghost use Rattle.std.specs.Prelude.{◌≡◌, ℕ, ◌+◌, ◌<◌, ◌≤◌, Bool, length, map, IsTrue, IfOk, OnOk, IsErr};
-ghost use Rattle.std.specs.List.{AllZip};
+ghost use Rattle.std.specs.Prelude.{◌≡◌, ℕ, ◌+◌, ◌<◌, ◌≤◌, Bool, [], ◌∷◌, length, map, IsTrue, IfOk, OnOk, IsErr};
 ghost use Rattle.disk_trait.specs.Files.{Files};
-ghost use Rattle.disk_trait.specs.Images.{After, Since};
 ghost use Rattle.flowfile_record.specs.declared.stored.Fresh.TheVariants.{Bytes, As};
 ghost use Rattle.record_codec.specs.Placeless.{placeless_entry};
 ghost use Rattle.content_repo.specs.Claims.{HasSizes};
 ghost use Rattle.content_repo.specs.Errors.{RefusesOnFault};
 ghost use Rattle.content_repo.specs.Slots.{count_of, size_of, held_in, references_to};
 ghost use Rattle.content_repo.specs.declared.content.TheConstants.{HELD_MAX};
-ghost use Rattle.kept_state.specs.Changes.{placed_in, record_of};
+ghost use Rattle.kept_state.specs.Changes.{placed_in};
+ghost use Rattle.prov_store.specs.State.{ChangesBy};
 ghost use Rattle.store_core.specs.Change.{fresh_contents_of};
-ghost use Rattle.store_core.specs.Placing.{contents_of, ClaimsGrowBehind, MayPlace, MayPlaceOne, MayShare, IsRecordedAt, PlacesOne, PlacesAll, StaysStored};
+ghost use Rattle.store_core.specs.Placing.{contents_of, ClaimsGrowBehind, MayPlaceOne, MayShare, IsRecordedAt, PlacesOne, PlacesAll};
+ghost use Rattle.store_core.specs.Writing.{fresh_count, KeepsEntry, LeavesSizes, MayPlaceIn};
 
 use content_repo::{Content, ContentError};
 use disk_trait::Disk;
@@ -41,16 +41,13 @@ pub(crate) fn place_contents<D: Disk>(
     entry: &mut PreparedEntry,
     placed: &[Placed],
 ) -> Result<(), ContentError>
-    requires recorded { placed_in entry.old ≡ map record_of placed.now }
-    requires may { MayPlace contents.old placed.now }
+    requires may { MayPlaceIn entry.old contents.old placed.now }
     requires sizes { IsTrue D.tells → HasSizes contents.old (D.held disk.old) }
     ensures placed { OnOk result (PlacesAll D.tells (D.held disk.new) placed.now contents.old contents.new entry.new) }
-    ensures same { placeless_entry entry.new ≡ placeless_entry entry.old }
-    ensures stays { AllZip StaysStored placed.now (placed_in entry.new) }
-    ensures sizes { OnOk result (IsTrue D.tells → HasSizes contents.new (D.held disk.new)) }
-    ensures held { IsTrue D.tells → ClaimsGrowBehind contents.old (D.held disk.old) (D.held disk.new) }
-    ensures images { Since D.moment D.images disk.old disk.new
-        (After (ClaimsGrowBehind contents.old) (D.images disk.old (D.moment disk.old))) }
+    ensures written { OnOk result (LeavesSizes D.tells D.held D.moment contents.new (fresh_count placed.now)
+        disk.old disk.new) }
+    ensures entry { KeepsEntry placed.now entry.old entry.new }
+    ensures grows { ChangesBy D.tells D.held D.moment D.images (ClaimsGrowBehind contents.old) disk.old disk.new }
     ensures refusal { RefusesOnFault result (D.faults disk.old) (D.faults disk.new) }
 {
     for (place, one) in placed.iter().enumerate() {
@@ -75,10 +72,9 @@ fn place_content<D: Disk>(
         (PlacesOne D.tells (D.held disk.new) place one.now contents.old contents.new entry.old entry.new) }
     ensures unplaced { IsErr result → entry.new ≡ entry.old }
     ensures same { placeless_entry entry.new ≡ placeless_entry entry.old }
-    ensures sizes { OnOk result (IsTrue D.tells → HasSizes contents.new (D.held disk.new)) }
-    ensures held { IsTrue D.tells → ClaimsGrowBehind contents.old (D.held disk.old) (D.held disk.new) }
-    ensures images { Since D.moment D.images disk.old disk.new
-        (After (ClaimsGrowBehind contents.old) (D.images disk.old (D.moment disk.old))) }
+    ensures written { OnOk result (LeavesSizes D.tells D.held D.moment contents.new (fresh_count (one.now ∷ []))
+        disk.old disk.new) }
+    ensures grows { ChangesBy D.tells D.held D.moment D.images (ClaimsGrowBehind contents.old) disk.old disk.new }
     ensures refusal { RefusesOnFault result (D.faults disk.old) (D.faults disk.new) }
 {
     match &one.fresh {
@@ -111,10 +107,9 @@ fn write_content<D: Disk>(
         (PlacesOne D.tells (D.held disk.new) place one.now contents.old contents.new entry.old entry.new) }
     ensures unplaced { IsErr result → entry.new ≡ entry.old }
     ensures same { placeless_entry entry.new ≡ placeless_entry entry.old }
-    ensures sizes { OnOk result (IsTrue D.tells → HasSizes contents.new (D.held disk.new)) }
-    ensures held { IsTrue D.tells → ClaimsGrowBehind contents.old (D.held disk.old) (D.held disk.new) }
-    ensures images { Since D.moment D.images disk.old disk.new
-        (After (ClaimsGrowBehind contents.old) (D.images disk.old (D.moment disk.old))) }
+    ensures written { OnOk result (LeavesSizes D.tells D.held D.moment contents.new (fresh_count (one.now ∷ []))
+        disk.old disk.new) }
+    ensures grows { ChangesBy D.tells D.held D.moment D.images (ClaimsGrowBehind contents.old) disk.old disk.new }
     ensures refusal { RefusesOnFault result (D.faults disk.old) (D.faults disk.new) }
 {
     let at = contents.append(disk, bytes, one.file.content.digest)?;
