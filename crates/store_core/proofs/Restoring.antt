@@ -1,6 +1,6 @@
 -- What opening a store answers, by what was read of its files.
-use Rattle.std.proofs.Common.{◌≡◌, inl, inr, ℕ, List, sym, ap, subst, ◌∙◌}
-use Rattle.std.specs.Prelude.{Option, None, Some, Result, Ok, Err}
+use Rattle.std.proofs.Common.{◌≡◌, inl, inr, ℕ, Bool, List, IsTrue, sym, ap, subst, ◌∙◌}
+use Rattle.std.specs.Prelude.{Option, None, Some, Result, Ok, Err, IfOk}
 use Rattle.disk_trait.specs.Files.{Files}
 use Rattle.disk_trait.specs.Images.{Stays}
 use Rattle.disk_trait.specs.declared.damage.Damage.{Damage}
@@ -9,14 +9,15 @@ use Rattle.flowfile_wal.specs.Current.{current_number}
 use Rattle.machine_model.specs.State.{State}
 use Rattle.prov_store.specs.declared.error.EventsError.{EventsError}
 use Rattle.store_core.specs.declared.error.StoreError.{StoreError}
+use Rattle.store_core.specs.declared.reading.Found.{Found}
 use Rattle.store_core.specs.Errors.{of_events}
 use Rattle.store_core.specs.Flow.{Flow, flow_in}
 use Rattle.store_core.specs.Kept.{kept_in}
-use Rattle.store_core.specs.Opened.{IsFound, IsOfOther, IsShut}
+use Rattle.store_core.specs.Opened.{HasNoLeftovers, IsFound, IsOfOther, IsOpenedOn, IsRevived, IsShut}
 use Rattle.prov_store.specs.Events.{events_in}
 use Rattle.prov_store.specs.State.{EventsState, HasEvents}
 use Rattle.store_core.specs.State.{stands_for, contents_damage, live_contents}
-use Rattle.store_core.specs.Store.{StoreState, kept_by}
+use Rattle.store_core.specs.Store.{StoreState, IsKeptOn, kept_by}
 use Rattle.store_core.specs.Touched.{log_opened}
 use Rattle.flowfile_record.specs.declared.event.Event.{Event}
 use Rattle.store_core.proofs.Opening.{stands_whole, events_damaged}
@@ -83,6 +84,24 @@ is_found flow lot files k events s is contents says same log = record { log = lo
 
 pub found_at : (flow : Flow) (lot : ℕ) (s : StoreState) (a b : Files) → a ≡ b → IsFound flow lot s a → IsFound flow lot s b
 found_at flow lot s a b same is = subst (λ (files : Files). IsFound flow lot s files) same is
+
+-- what was read of this flow was made a store
+pub opened_on : {D : Type 0} (tells : Bool) (held : D → Files) (moment : D → ℕ) (images : D → ℕ → Files → Type 0) (flow : Flow) (lot : ℕ) (old new : D) (found : Found) (r : Result StoreState StoreError)
+    → flow_in found.state.kept ≡ flow → ((s : StoreState) → IsRevived lot found s → IsTrue tells → IsFound flow lot s (held old))
+    → IfOk r (IsRevived lot found) → IfOk r (λ s. IsKeptOn tells held moment images s new) → IfOk r (λ s. IsTrue tells → HasNoLeftovers s (held new))
+    → IfOk r (IsOpenedOn tells held moment images flow lot old new)
+opened_on tells held moment images flow lot old new found (Ok s) same finds revived kept tidy = record {
+  opened = record {
+    flow_is = ap flow_in revived.kept ∙ same;
+    lot_is = revived.lot_is;
+    works = revived.works;
+    contents = revived.contents;
+  };
+  found = finds s revived;
+  kept = kept;
+  tidy = tidy;
+}
+opened_on tells held moment images flow lot old new found (Err error) same finds revived kept tidy = tt
 
 module _ {D : Type 0} (holds : D → Files) (moment : D → ℕ) (images : D → ℕ → Files → Type 0) where
   pub stays_in_turn : (old mid new : D) → Stays holds moment images old mid → Stays holds moment images mid new → Stays holds moment images old new

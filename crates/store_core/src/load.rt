@@ -1,19 +1,16 @@
 //! A store is opened, whatever a stop left of it.
 ghost use Rattle.std.specs.Prelude.{◌≡◌, ◌⊎◌, ℕ, List, true, Err, IfOk, OnOk, IfErr, IsErrOf, IsTrue};
-ghost use Rattle.disk_trait.specs.Faults.{CountsFaults};
 ghost use Rattle.disk_trait.specs.Files.{Files};
 ghost use Rattle.disk_trait.specs.Images.{Since, Stays, IsOnly};
 ghost use Rattle.disk_trait.specs.declared.damage.Damage.{Damage as TheDamage};
 ghost use Rattle.flowfile_record.specs.Stored.{kept_of};
 ghost use Rattle.flowfile_wal.specs.Current.{current_number};
 ghost use Rattle.checkpoint_store.specs.Consistent.{IsConsistent};
-ghost use Rattle.kept_state.specs.declared.limit.Limit.{Limit as TheLimit};
 ghost use Rattle.store_core.specs.Calls.{RefusesToOpen, SinceSync, IsUnsynced, IsUnwritten};
 ghost use Rattle.store_core.specs.Flow.{agrees_with, flow_in};
 ghost use Rattle.store_core.specs.New.{kept_anew};
-ghost use Rattle.store_core.specs.Opened.{HasNoLeftovers, IsOpenedFor, IsOpenedOn, IsFound, IsOfOther, IsShut, IsToldDamaged, IsToldOther, SameMeaning};
+ghost use Rattle.store_core.specs.Opened.{IsOpenedOn, IsOfOther, IsShut, IsToldDamaged, IsToldOther, SameMeaning};
 ghost use Rattle.store_core.specs.State.{stands_for};
-ghost use Rattle.store_core.specs.Store.{IsKeptOn};
 ghost use Rattle.store_core.specs.Touched.{Revives};
 
 use crate::reading::{read_contents, read_kept};
@@ -69,26 +66,19 @@ fn restore<D: Disk>(
 ) -> Result<Store, StoreError>
     requires synced { IsOnly (D.held disk.old) (D.images disk.old (D.moment disk.old)) }
     requires flow { IsConsistent (kept_anew flow.now lot) }
-    ensures opened { IfOk result (IsOpenedFor flow.now lot) }
-    ensures found { IfOk result (λ store. IsTrue D.tells → IsFound flow.now lot store (D.held disk.old)) }
-    ensures kept { IfOk result (λ store. IsKeptOn D.tells D.held D.moment D.images store disk.new) }
-    ensures tidy { IfOk result (λ store. IsTrue D.tells → HasNoLeftovers store (D.held disk.new)) }
+    ensures opened { IfOk result (IsOpenedOn D.tells D.held D.moment D.images flow.now lot disk.old disk.new) }
     ensures images { Since D.moment D.images disk.old disk.new (SameMeaning flow.now lot (D.held disk.old)) }
     ensures alone { Since D.moment D.images disk.old disk.new
         (Revives (current_number (D.held disk.old)) (D.held disk.old)) }
-    ensures damaged { (damage : TheDamage) → IsErrOf result (StoreError.Damaged damage) → IsTrue D.tells
-        → stands_for flow.now lot (D.held disk.old) ≡ Err damage }
+    ensures damaged { (damage : TheDamage) → IsErrOf result (StoreError.Damaged damage)
+        → Stays D.held D.moment D.images disk.old disk.new
+        × (IsTrue D.tells → stands_for flow.now lot (D.held disk.old) ≡ Err damage) }
     ensures other_flow { (digest other : List ℕ) → IsErrOf result (StoreError.OtherFlow digest other)
-        → (other ≡ flow.now.digest) × (IsTrue D.tells → IsOfOther flow.now lot digest (D.held disk.old)) }
-    ensures unwritten { (damage : TheDamage) → IsErrOf result (StoreError.Damaged damage)
-        → Stays D.held D.moment D.images disk.old disk.new }
-    ensures other_unwritten { (digest other : List ℕ) → IsErrOf result (StoreError.OtherFlow digest other)
-        → Stays D.held D.moment D.images disk.old disk.new }
+        → Stays D.held D.moment D.images disk.old disk.new × (other ≡ flow.now.digest)
+        × (IsTrue D.tells → IsOfOther flow.now lot digest (D.held disk.old)) }
     ensures shut { IsTrue D.tells → IsShut flow.now lot (D.held disk.old)
         → Stays D.held D.moment D.images disk.old disk.new }
-    ensures kinds { (IsErrOf result StoreError.MustReopen → ⊥)
-        × ((limit : TheLimit) → IsErrOf result (StoreError.Limit limit) → ⊥) }
-    ensures cause { CountsFaults (D.faults disk.old) (D.faults disk.new) (IsErrOf result StoreError.Disk) }
+    ensures refusal { RefusesToOpen result D.faults disk.old disk.new }
 {
     let found = read_kept(alloc, disk, flow, lot)?;
     let kept = found.state.stored();

@@ -21,6 +21,7 @@ ghost use Rattle.store_core.specs.Flow.{agrees_with, flow_in};
 ghost use Rattle.store_core.specs.Found.{StoreIsFoundIn, IsStrayDamage};
 ghost use Rattle.store_core.specs.Kept.{snapshot_for, with_least, least_of, unless_swapped, with_entries, fitted, behind_snapshot, behind_log, kept_in};
 ghost use Rattle.store_core.specs.New.{kept_anew, first_from, first_stray};
+ghost use Rattle.store_core.specs.Refusing.{RefusesBy};
 ghost use Rattle.store_core.specs.State.{contents_damage, live_contents};
 
 use crate::{FlowIdentity, StoreError};
@@ -57,9 +58,8 @@ pub(crate) fn read_kept<D: Disk>(
     ensures anew { IfOk result (λ found. found.log.number ≡ None → found.state.kept ≡ kept_anew flow.now lot) }
     ensures damaged { (damage : TheDamage) → IsErrOf result (StoreError.Damaged damage) → IsTrue D.tells
         → kept_in flow.now lot (D.held disk.old) ≡ Err damage }
-    ensures refusal { IfErr result IsDiskMemoryOrDamage }
     ensures stays { Stays D.held D.moment D.images disk.old disk.new }
-    ensures cause { CountsFaults (D.faults disk.old) (D.faults disk.new) (IsErrOf result StoreError.Disk) }
+    ensures refusal { RefusesBy IsDiskMemoryOrDamage result D.faults disk.old disk.new }
 {
     let (log, entries) = Log::load(alloc, disk)?;
     let count = entries.len() as u64;

@@ -1,20 +1,20 @@
 //! What a stop left of a store's files is made whole again, or a store is made.
 ghost use Rattle.std.specs.Prelude.{◌≡◌, ◌⊎◌, ◌+◌, ◌<◌, ◌≤◌, ℕ, [], true, false, None, Some, Ok, Err, IfOk, OnOk, IfErr, IsErrOf, IsTrue, All, length};
 ghost use Rattle.disk_trait.specs.Files.{Files};
-ghost use Rattle.disk_trait.specs.Faults.{CountsFaults};
 ghost use Rattle.disk_trait.specs.Images.{After, Since, IsOnly};
 ghost use Rattle.flowfile_record.specs.Stored.{kept_of};
 ghost use Rattle.content_repo.specs.Claims.{CutTo, HasSizes, IsCovered, ShortenedTo};
 ghost use Rattle.content_repo.specs.Slots.{count_of, size_of, held_in, end_of, covered, references_to, IsNamed};
 ghost use Rattle.flowfile_wal.specs.Calls.{InEach};
-ghost use Rattle.flowfile_wal.specs.Steps.{IsReadyIn, IsCurrentIn};
+ghost use Rattle.flowfile_wal.specs.Steps.{IsCurrentIn};
 ghost use Rattle.checkpoint_store.specs.Consistent.{IsConsistent};
-ghost use Rattle.store_core.specs.Agreement.{Needs, IsPlain, Agrees, SameEventFiles, IsUnmade};
+ghost use Rattle.store_core.specs.Agreement.{Needs, IsPlain, Agrees, IsUnmade};
 ghost use Rattle.store_core.specs.Calls.{IsDiskOrMemory};
-ghost use Rattle.store_core.specs.Discard.{HasNoOthers};
 ghost use Rattle.store_core.specs.Flow.{flow_in};
 ghost use Rattle.store_core.specs.New.{kept_anew};
 ghost use Rattle.store_core.specs.Opened.{HasNoLeftovers, IsReadWhole, IsRevived, SameMeaning, IsNewStore};
+ghost use Rattle.store_core.specs.Refusing.{RefusesBy};
+ghost use Rattle.store_core.specs.Revived.{IsLogWhole, KeepsOrMakes, RevivesOn, HoldsTwice};
 ghost use Rattle.store_core.specs.State.{live_contents};
 ghost use Rattle.store_core.specs.Store.{IsKeptOn};
 ghost use Rattle.store_core.specs.Touched.{Revives, log_opened};
@@ -51,8 +51,7 @@ pub(crate) fn revive<D: Disk>(
     ensures images { Since D.moment D.images disk.old disk.new
         (SameMeaning (flow_in found.state.kept) lot (D.held disk.old)) }
     ensures alone { Since D.moment D.images disk.old disk.new (Revives found.log.number (D.held disk.old)) }
-    ensures refusal { IfErr result IsDiskOrMemory }
-    ensures cause { CountsFaults (D.faults disk.old) (D.faults disk.new) (IsErrOf result StoreError.Disk) }
+    ensures refusal { RefusesBy IsDiskOrMemory result D.faults disk.old disk.new }
 {
     let Found {
         mut log,
@@ -88,23 +87,13 @@ fn make_whole<D: Disk>(
         → IsCurrentIn log.old (D.held disk.old) }
     requires unmade { log.old.number ≡ None → IsTrue D.tells → IsUnmade (D.held disk.old) }
     requires consistent { IsConsistent (kept_of stored.now) }
-    ensures log { OnOk result ((log.new.number ≡ Some (log_opened log.old.number)) × (log.new.mended ≡ true)
-        × (log.new.failed ≡ false)) }
-    ensures ready { OnOk result (InEach (D.images disk.new (D.moment disk.new)) (IsReadyIn log.new)) }
-    ensures mended { (number : ℕ) (needs : Needs) → log.old.number ≡ Some number → IsPlain needs number
-        → Since D.moment D.images disk.old disk.new (After (Agrees needs) (D.images disk.old (D.moment disk.old))) }
-    ensures images { log.old.number ≡ None
-        → Since D.moment D.images disk.old disk.new (λ c. IsUnmade c ⊎ IsNewStore (kept_of stored.now) c) }
+    ensures whole { OnOk result (IsLogWhole D.tells D.held D.moment D.images (log_opened log.old.number) log.new
+        disk.new) }
     ensures made { OnOk result (log.old.number ≡ None
         → InEach (D.images disk.new (D.moment disk.new)) (IsNewStore (kept_of stored.now))) }
-    ensures others { OnOk result (IsTrue D.tells
-        → HasNoOthers (Some (log_opened log.old.number)) (D.held disk.new)) }
-    ensures events { Since D.moment D.images disk.old disk.new
-        (After SameEventFiles (D.images disk.old (D.moment disk.old))) }
-    ensures alone { Since D.moment D.images disk.old disk.new
-        (After (Revives log.old.number) (D.images disk.old (D.moment disk.old))) }
-    ensures refusal { IfErr result IsDiskOrMemory }
-    ensures cause { CountsFaults (D.faults disk.old) (D.faults disk.new) (IsErrOf result StoreError.Disk) }
+    ensures images { KeepsOrMakes D.moment D.images log.old.number (kept_of stored.now) disk.old disk.new }
+    ensures revives { RevivesOn D.moment D.images log.old.number disk.old disk.new }
+    ensures refusal { RefusesBy IsDiskOrMemory result D.faults disk.old disk.new }
 {
     match log.number() {
         Some(number) => mend(alloc, disk, log, number),
@@ -119,17 +108,12 @@ fn mend<D: Disk>(alloc: Global, disk: &mut D, log: &mut Log, number: u64) -> Res
     requires number { log.old.number ≡ Some number }
     requires current { IsTrue D.tells → IsCurrentIn log.old (D.held disk.old) }
     ensures log { OnOk result (log.new ≡ record log.old { mended = true }) }
-    ensures ready { OnOk result (InEach (D.images disk.new (D.moment disk.new)) (IsReadyIn log.new)) }
-    ensures others { OnOk result (IsTrue D.tells → HasNoOthers (Some number) (D.held disk.new)) }
+    ensures whole { OnOk result (IsLogWhole D.tells D.held D.moment D.images number log.new disk.new) }
     // What matters beside it stays, wherever a stop comes.
     ensures images { (needs : Needs) → IsPlain needs number
         → Since D.moment D.images disk.old disk.new (After (Agrees needs) (D.images disk.old (D.moment disk.old))) }
-    ensures events { Since D.moment D.images disk.old disk.new
-        (After SameEventFiles (D.images disk.old (D.moment disk.old))) }
-    ensures alone { Since D.moment D.images disk.old disk.new
-        (After (Revives (Some number)) (D.images disk.old (D.moment disk.old))) }
-    ensures refusal { IfErr result IsDiskOrMemory }
-    ensures cause { CountsFaults (D.faults disk.old) (D.faults disk.new) (IsErrOf result StoreError.Disk) }
+    ensures revives { RevivesOn D.moment D.images (Some number) disk.old disk.new }
+    ensures refusal { RefusesBy IsDiskOrMemory result D.faults disk.old disk.new }
 {
     log.mend(disk)?;
     discard(alloc, disk, Some(number))
@@ -146,18 +130,12 @@ fn make<D: Disk>(
     requires works { log.old.failed ≡ false }
     requires unmade { IsTrue D.tells → IsUnmade (D.held disk.old) }
     requires consistent { IsConsistent (kept_of stored.now) }
-    ensures log { OnOk result ((log.new.number ≡ Some FIRST_LOG) × (log.new.mended ≡ true) × (log.new.failed ≡ false)) }
-    ensures ready { OnOk result (InEach (D.images disk.new (D.moment disk.new)) (IsReadyIn log.new)) }
+    ensures whole { OnOk result (IsLogWhole D.tells D.held D.moment D.images FIRST_LOG log.new disk.new) }
     // Wherever a stop comes, no store is made yet, or it is made.
     ensures images { Since D.moment D.images disk.old disk.new (λ c. IsUnmade c ⊎ IsNewStore (kept_of stored.now) c) }
     ensures made { OnOk result (InEach (D.images disk.new (D.moment disk.new)) (IsNewStore (kept_of stored.now))) }
-    ensures others { OnOk result (IsTrue D.tells → HasNoOthers (Some FIRST_LOG) (D.held disk.new)) }
-    ensures events { Since D.moment D.images disk.old disk.new
-        (After SameEventFiles (D.images disk.old (D.moment disk.old))) }
-    ensures alone { Since D.moment D.images disk.old disk.new
-        (After (Revives None) (D.images disk.old (D.moment disk.old))) }
-    ensures refusal { IfErr result IsDiskOrMemory }
-    ensures cause { CountsFaults (D.faults disk.old) (D.faults disk.new) (IsErrOf result StoreError.Disk) }
+    ensures revives { RevivesOn D.moment D.images None disk.old disk.new }
+    ensures refusal { RefusesBy IsDiskOrMemory result D.faults disk.old disk.new }
 {
     discard(alloc, disk, None)?;
     checkpoint_store::write(alloc, disk, FIRST_LOG, stored)?;
@@ -175,17 +153,13 @@ fn hold_opened<D: Disk>(
     requires few { length opened.now ≤ LIVE_FILES_MAX }
     requires named { All IsNamed opened.now }
     requires within { IsTrue D.tells → All (IsCovered (D.held disk.old)) opened.now }
-    ensures counts { IfOk result (λ contents. (k : ℕ)
-        → count_of contents k ≡ references_to k opened.now + references_to k opened.now) }
-    ensures held { IfOk result (λ contents. held_in contents ≡ length opened.now + length opened.now) }
-    ensures sizes { IfOk result (λ contents. (k : ℕ) → size_of contents k ≡ covered k opened.now) }
+    ensures holds { IfOk result (HoldsTwice opened.now) }
     ensures files { IfOk result (λ contents. IsTrue D.tells → HasSizes contents (D.held disk.new)) }
     ensures cut { OnOk result (IsTrue D.tells
         → CutTo (λ k. covered k opened.now) (D.held disk.old) (D.held disk.new)) }
     ensures images { Since D.moment D.images disk.old disk.new
         (After (ShortenedTo (λ k. covered k opened.now)) (D.images disk.old (D.moment disk.old))) }
-    ensures refusal { IfErr result IsDiskOrMemory }
-    ensures cause { CountsFaults (D.faults disk.old) (D.faults disk.new) (IsErrOf result StoreError.Disk) }
+    ensures refusal { RefusesBy IsDiskOrMemory result D.faults disk.old disk.new }
 {
     let mut contents = Content::load(alloc, disk, opened)?;
     hold_all(&mut contents, opened);

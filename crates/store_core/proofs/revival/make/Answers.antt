@@ -1,10 +1,11 @@
-use Rattle.std.proofs.Common.{length}
+use Rattle.std.proofs.Common.{length, ap, ◌∙◌}
 use Rattle.std.specs.Prelude.{ℕ, List, None}
 use Rattle.flowfile_record.specs.Stored.{kept_of}
 use Rattle.checkpoint_store.specs.Begun.{IsBegunOrNot, log_file}
 use Rattle.checkpoint_store.specs.Snapshot.{snapshot, snapshot_file}
 use Rattle.disk_trait.specs.Files.{Files, At, Torn}
 use Rattle.disk_trait.specs.Images.{After, Since}
+use Rattle.flowfile_wal.specs.Steps.{LogState}
 use Rattle.store_core.specs.Discard.{Discards}
 use Rattle.store_core.proofs.Reviving.{EventsStaying, same_events_discarded, same_events_logged, same_events_snapshot, since_events, since_events_in_turn}
 use Rattle.store_core.proofs.Made.{since_discards, since_snapshot}
@@ -115,72 +116,81 @@ returns-clause-made g c =
     (each_staged moment images g.D.Disk.tells g.D.Disk.held k d1 d2 (λ d left. laws.left_is_told d2 (moment d2) d left) c.in_ok-write.ensures.synced (λ told. (c.in_ok-discard.ensures.others told).logs) c.in_ok-write.ensures.written)
     c.begin.ensures.images c.in_ok-begin.ensures.begun
 
-pub returns-in_err-discard-clause-events : goal.returns-in_err-discard-clause-events
-returns-in_err-discard-clause-events g c = since_discarded g.D.Disk.moment g.D.Disk.images c.args.disk.now c.discard.new.disk c.discard.ensures.images
+pub returns-in_err-discard-clause-revives : goal.returns-in_err-discard-clause-revives
+returns-in_err-discard-clause-revives g c = record {
+  events =
+      since_discarded g.D.Disk.moment g.D.Disk.images c.args.disk.now c.discard.new.disk c.discard.ensures.images;
+  alone =
+      since_revives g.D.Disk.moment g.D.Disk.images None c.args.disk.now c.discard.new.disk (Discards None) c.discard.ensures.images (revives_discarded None);
+}
 
-pub returns-in_err-write-clause-events : goal.returns-in_err-write-clause-events
-returns-in_err-write-clause-events g c =
-    since_written g.D.Disk.moment g.D.Disk.images (Torn 0 (length (snapshot (kept_of c.args.stored.now)))) c.args.disk.now c.discard.new.disk c.write.new.disk
-    c.discard.ensures.images c.write.ensures.images
+pub returns-in_err-write-clause-revives : goal.returns-in_err-write-clause-revives
+returns-in_err-write-clause-revives g c = record {
+  events =
+      since_written g.D.Disk.moment g.D.Disk.images (Torn 0 (length (snapshot (kept_of c.args.stored.now)))) c.args.disk.now c.discard.new.disk c.write.new.disk
+      c.discard.ensures.images c.write.ensures.images;
+  alone =
+      let moment = g.D.Disk.moment in
+      let images = g.D.Disk.images in
+      let d0 = c.args.disk.now in
+      let d1 = c.discard.new.disk in
+      let d2 = c.write.new.disk in
+      let torn = Torn 0 (length (snapshot (kept_of c.args.stored.now))) in
+      since_revived moment images None d0 d1 d2
+      (since_revives moment images None d0 d1 (Discards None) c.discard.ensures.images (revives_discarded None))
+      (since_revives moment images None d1 d2 (At (snapshot_file 1) torn) c.write.ensures.images (revives_first_snapshot torn));
+}
 
-pub returns-in_err-begin-clause-events : goal.returns-in_err-begin-clause-events
-returns-in_err-begin-clause-events g c =
-    since_begun g.D.Disk.moment g.D.Disk.images (Torn 0 (length (snapshot (kept_of c.args.stored.now)))) (λ before now. IsBegunOrNot 1 now) c.args.disk.now c.discard.new.disk c.write.new.disk c.begin.new.disk
-    c.discard.ensures.images c.write.ensures.images c.begin.ensures.images
+pub returns-in_err-begin-clause-revives : goal.returns-in_err-begin-clause-revives
+returns-in_err-begin-clause-revives g c = record {
+  events =
+      since_begun g.D.Disk.moment g.D.Disk.images (Torn 0 (length (snapshot (kept_of c.args.stored.now)))) (λ before now. IsBegunOrNot 1 now) c.args.disk.now c.discard.new.disk c.write.new.disk c.begin.new.disk
+      c.discard.ensures.images c.write.ensures.images c.begin.ensures.images;
+  alone =
+      let moment = g.D.Disk.moment in
+      let images = g.D.Disk.images in
+      let d0 = c.args.disk.now in
+      let d1 = c.discard.new.disk in
+      let d2 = c.write.new.disk in
+      let d3 = c.begin.new.disk in
+      let torn = Torn 0 (length (snapshot (kept_of c.args.stored.now))) in
+      since_revived moment images None d0 d2 d3
+      (since_revived moment images None d0 d1 d2
+      (since_revives moment images None d0 d1 (Discards None) c.discard.ensures.images (revives_discarded None))
+      (since_revives moment images None d1 d2 (At (snapshot_file 1) torn) c.write.ensures.images (revives_first_snapshot torn)))
+      (since_revives moment images None d2 d3 (At (log_file 1) (λ old new. IsBegunOrNot 1 new)) c.begin.ensures.images (revives_first_log (λ old new. IsBegunOrNot 1 new)));
+}
 
-pub returns-clause-events : goal.returns-clause-events
-returns-clause-events g c =
-    since_begun g.D.Disk.moment g.D.Disk.images (Torn 0 (length (snapshot (kept_of c.args.stored.now)))) (λ before now. IsBegunOrNot 1 now) c.args.disk.now c.discard.new.disk c.write.new.disk c.begin.new.disk
-    c.discard.ensures.images c.write.ensures.images c.begin.ensures.images
+pub returns-clause-revives : goal.returns-clause-revives
+returns-clause-revives g c = record {
+  events =
+      since_begun g.D.Disk.moment g.D.Disk.images (Torn 0 (length (snapshot (kept_of c.args.stored.now)))) (λ before now. IsBegunOrNot 1 now) c.args.disk.now c.discard.new.disk c.write.new.disk c.begin.new.disk
+      c.discard.ensures.images c.write.ensures.images c.begin.ensures.images;
+  alone =
+      let moment = g.D.Disk.moment in
+      let images = g.D.Disk.images in
+      let d0 = c.args.disk.now in
+      let d1 = c.discard.new.disk in
+      let d2 = c.write.new.disk in
+      let d3 = c.begin.new.disk in
+      let torn = Torn 0 (length (snapshot (kept_of c.args.stored.now))) in
+      since_revived moment images None d0 d2 d3
+      (since_revived moment images None d0 d1 d2
+      (since_revives moment images None d0 d1 (Discards None) c.discard.ensures.images (revives_discarded None))
+      (since_revives moment images None d1 d2 (At (snapshot_file 1) torn) c.write.ensures.images (revives_first_snapshot torn)))
+      (since_revives moment images None d2 d3 (At (log_file 1) (λ old new. IsBegunOrNot 1 new)) c.begin.ensures.images (revives_first_log (λ old new. IsBegunOrNot 1 new)));
+}
 
-pub returns-in_err-discard-clause-alone : goal.returns-in_err-discard-clause-alone
-returns-in_err-discard-clause-alone g c =
-    since_revives g.D.Disk.moment g.D.Disk.images None c.args.disk.now c.discard.new.disk (Discards None) c.discard.ensures.images (revives_discarded None)
-
-pub returns-in_err-write-clause-alone : goal.returns-in_err-write-clause-alone
-returns-in_err-write-clause-alone g c =
-    let moment = g.D.Disk.moment in
-    let images = g.D.Disk.images in
-    let d0 = c.args.disk.now in
-    let d1 = c.discard.new.disk in
-    let d2 = c.write.new.disk in
-    let torn = Torn 0 (length (snapshot (kept_of c.args.stored.now))) in
-    since_revived moment images None d0 d1 d2
-    (since_revives moment images None d0 d1 (Discards None) c.discard.ensures.images (revives_discarded None))
-    (since_revives moment images None d1 d2 (At (snapshot_file 1) torn) c.write.ensures.images (revives_first_snapshot torn))
-
-pub returns-in_err-begin-clause-alone : goal.returns-in_err-begin-clause-alone
-returns-in_err-begin-clause-alone g c =
-    let moment = g.D.Disk.moment in
-    let images = g.D.Disk.images in
-    let d0 = c.args.disk.now in
-    let d1 = c.discard.new.disk in
-    let d2 = c.write.new.disk in
-    let d3 = c.begin.new.disk in
-    let torn = Torn 0 (length (snapshot (kept_of c.args.stored.now))) in
-    since_revived moment images None d0 d2 d3
-    (since_revived moment images None d0 d1 d2
-    (since_revives moment images None d0 d1 (Discards None) c.discard.ensures.images (revives_discarded None))
-    (since_revives moment images None d1 d2 (At (snapshot_file 1) torn) c.write.ensures.images (revives_first_snapshot torn)))
-    (since_revives moment images None d2 d3 (At (log_file 1) (λ old new. IsBegunOrNot 1 new)) c.begin.ensures.images (revives_first_log (λ old new. IsBegunOrNot 1 new)))
-
-pub returns-clause-alone : goal.returns-clause-alone
-returns-clause-alone g c =
-    let moment = g.D.Disk.moment in
-    let images = g.D.Disk.images in
-    let d0 = c.args.disk.now in
-    let d1 = c.discard.new.disk in
-    let d2 = c.write.new.disk in
-    let d3 = c.begin.new.disk in
-    let torn = Torn 0 (length (snapshot (kept_of c.args.stored.now))) in
-    since_revived moment images None d0 d2 d3
-    (since_revived moment images None d0 d1 d2
-    (since_revives moment images None d0 d1 (Discards None) c.discard.ensures.images (revives_discarded None))
-    (since_revives moment images None d1 d2 (At (snapshot_file 1) torn) c.write.ensures.images (revives_first_snapshot torn)))
-    (since_revives moment images None d2 d3 (At (log_file 1) (λ old new. IsBegunOrNot 1 new)) c.begin.ensures.images (revives_first_log (λ old new. IsBegunOrNot 1 new)))
-
-pub returns-clause-others : goal.returns-clause-others
-returns-clause-others g c told =
-    let laws = g.met.D.Disk g.world.𝓛 g.world.𝓜 g.world.𝓡 ((λ s x. x), (λ x. x), (λ x. x), λ x. x) in
-    no_others_made g.D.Disk.moment g.D.Disk.images g.D.Disk.held _ _ c.discard.new.disk c.write.new.disk c.begin.new.disk (c.in_ok-discard.ensures.others told) (c.in_ok-write.ensures.written told)
-    c.in_ok-write.ensures.synced c.begin.ensures.images (laws.held_is_left c.begin.new.disk told)
+pub returns-clause-whole : goal.returns-clause-whole
+returns-clause-whole g c =
+    let state = c.begun.ensures.state in
+    record {
+      current = ap (λ (s : LogState). s.number) state;
+      mended = ap (λ (s : LogState). s.mended) state;
+      works = ap (λ (s : LogState). s.failed) state ∙ c.requires.works;
+      ready = c.begun.ensures.ready;
+      others = λ told.
+          let laws = g.met.D.Disk g.world.𝓛 g.world.𝓜 g.world.𝓡 ((λ s x. x), (λ x. x), (λ x. x), λ x. x) in
+          no_others_made g.D.Disk.moment g.D.Disk.images g.D.Disk.held _ _ c.discard.new.disk c.write.new.disk c.begin.new.disk (c.in_ok-discard.ensures.others told) (c.in_ok-write.ensures.written told)
+          c.in_ok-write.ensures.synced c.begin.ensures.images (laws.held_is_left c.begin.new.disk told);
+    }

@@ -8,9 +8,9 @@ use Rattle.store_core.proofs.Reviving.{mended_agrees, discarded_agrees, ready_nu
 use Rattle.store_core.proofs.Touching.{revives_discarded, revives_log, since_revived, since_revives}
 use Rattle.store_core.proofs.revival.mend.Goals as goal
 
-ready_if : {A E : Type 0} {P : Type 0} (r : Result A E) → P → OnOk r P
-ready_if (Ok x) p = p
-ready_if (Err e) p = tt
+with_others : {A E : Type 0} {P Q : Type 0} (r : Result A E) → (P → Q) → OnOk r P → OnOk r Q
+with_others (Ok x) to p = to p
+with_others (Err e) to p = tt
 
 pub returns-in_err-mend-clause-images : goal.returns-in_err-mend-clause-images
 returns-in_err-mend-clause-images g c needs plain =
@@ -27,37 +27,46 @@ returns-clause-images g c needs plain =
     (since_agrees g.D.Disk.moment g.D.Disk.images needs c.mend.new.disk c.discard.new.disk (Discards (Some number)) c.discard.ensures.images
     (λ d e left step. discarded_agrees needs number d e plain (ready_number c.mend.new.self number d same (c.in_ok-mend.ensures.ready.ready d left)) step))
 
-pub returns-clause-ready : goal.returns-clause-ready
-returns-clause-ready g c = ready_if c.discard.result
-    (λ e left.
+pub returns-clause-whole : goal.returns-clause-whole
+returns-clause-whole g c =
     let number = c.args.number in
-    let same : c.mend.new.self.number ≡ Some number = ap (λ (s : LogState). s.number) c.in_ok-mend.ensures.mended ∙ c.requires.number in
-    let after = at_the_end g.D.Disk.moment g.D.Disk.images c.mend.new.disk c.discard.new.disk
-    (After (Discards (Some number)) (g.D.Disk.images c.mend.new.disk (g.D.Disk.moment c.mend.new.disk))) c.discard.ensures.images e left in
-    discarded_ready c.mend.new.self number after.0 e same (c.in_ok-mend.ensures.ready.ready after.0 after.1) after.2)
+    let mended = c.in_ok-mend.ensures.mended in
+    let same : c.mend.new.self.number ≡ Some number = ap (λ (s : LogState). s.number) mended ∙ c.requires.number in
+    with_others c.discard.result
+    (λ others. record {
+      current = same;
+      mended = ap (λ (s : LogState). s.mended) mended;
+      works = ap (λ (s : LogState). s.failed) mended ∙ c.requires.works;
+      ready = λ e left.
+          let after = at_the_end g.D.Disk.moment g.D.Disk.images c.mend.new.disk c.discard.new.disk
+          (After (Discards (Some number)) (g.D.Disk.images c.mend.new.disk (g.D.Disk.moment c.mend.new.disk))) c.discard.ensures.images e left in
+          discarded_ready c.mend.new.self number after.0 e same (c.in_ok-mend.ensures.ready.ready after.0 after.1) after.2;
+      others = others;
+    })
+    c.discard.ensures.others
 
-pub returns-in_err-mend-clause-events : goal.returns-in_err-mend-clause-events
-returns-in_err-mend-clause-events g c =
-    since_events g.D.Disk.moment g.D.Disk.images c.args.disk.now c.mend.new.disk (KeepsLog c.args.number) (c.mend.ensures.images c.args.number c.requires.number)
-    (λ d e. same_events_logged c.args.number (SameLog c.args.number) d e)
-
-pub returns-clause-events : goal.returns-clause-events
-returns-clause-events g c =
+pub returns-in_err-mend-clause-revives : goal.returns-in_err-mend-clause-revives
+returns-in_err-mend-clause-revives g c =
     let number = c.args.number in
-    since_events_in_turn g.D.Disk.moment g.D.Disk.images c.args.disk.now c.mend.new.disk c.discard.new.disk
-    (since_events g.D.Disk.moment g.D.Disk.images c.args.disk.now c.mend.new.disk (KeepsLog number) (c.mend.ensures.images number c.requires.number)
-    (λ d e. same_events_logged number (SameLog number) d e))
-    (since_events g.D.Disk.moment g.D.Disk.images c.mend.new.disk c.discard.new.disk (Discards (Some number)) c.discard.ensures.images
-    (λ d e. same_events_discarded (Some number) d e))
+    record {
+      events =
+          since_events g.D.Disk.moment g.D.Disk.images c.args.disk.now c.mend.new.disk (KeepsLog number) (c.mend.ensures.images number c.requires.number)
+          (λ d e. same_events_logged number (SameLog number) d e);
+      alone = since_revives g.D.Disk.moment g.D.Disk.images (Some number) c.args.disk.now c.mend.new.disk (KeepsLog number) (c.mend.ensures.images number c.requires.number) (revives_log number (SameLog number));
+    }
 
-pub returns-in_err-mend-clause-alone : goal.returns-in_err-mend-clause-alone
-returns-in_err-mend-clause-alone g c =
+pub returns-clause-revives : goal.returns-clause-revives
+returns-clause-revives g c =
     let number = c.args.number in
-    since_revives g.D.Disk.moment g.D.Disk.images (Some number) c.args.disk.now c.mend.new.disk (KeepsLog number) (c.mend.ensures.images number c.requires.number) (revives_log number (SameLog number))
-
-pub returns-clause-alone : goal.returns-clause-alone
-returns-clause-alone g c =
-    let number = c.args.number in
-    since_revived g.D.Disk.moment g.D.Disk.images (Some number) c.args.disk.now c.mend.new.disk c.discard.new.disk
-    (since_revives g.D.Disk.moment g.D.Disk.images (Some number) c.args.disk.now c.mend.new.disk (KeepsLog number) (c.mend.ensures.images number c.requires.number) (revives_log number (SameLog number)))
-    (since_revives g.D.Disk.moment g.D.Disk.images (Some number) c.mend.new.disk c.discard.new.disk (Discards (Some number)) c.discard.ensures.images (revives_discarded (Some number)))
+    record {
+      events =
+          since_events_in_turn g.D.Disk.moment g.D.Disk.images c.args.disk.now c.mend.new.disk c.discard.new.disk
+          (since_events g.D.Disk.moment g.D.Disk.images c.args.disk.now c.mend.new.disk (KeepsLog number) (c.mend.ensures.images number c.requires.number)
+          (λ d e. same_events_logged number (SameLog number) d e))
+          (since_events g.D.Disk.moment g.D.Disk.images c.mend.new.disk c.discard.new.disk (Discards (Some number)) c.discard.ensures.images
+          (λ d e. same_events_discarded (Some number) d e));
+      alone =
+          since_revived g.D.Disk.moment g.D.Disk.images (Some number) c.args.disk.now c.mend.new.disk c.discard.new.disk
+          (since_revives g.D.Disk.moment g.D.Disk.images (Some number) c.args.disk.now c.mend.new.disk (KeepsLog number) (c.mend.ensures.images number c.requires.number) (revives_log number (SameLog number)))
+          (since_revives g.D.Disk.moment g.D.Disk.images (Some number) c.mend.new.disk c.discard.new.disk (Discards (Some number)) c.discard.ensures.images (revives_discarded (Some number)));
+    }
