@@ -109,7 +109,7 @@ module _ (flow : Flow) where
   same_files k after queues files are = record {
     count = are.count;
     each = λ place connection queue at got.
-        let was = are.each place connection queue at got in record { order = was.order; limits = was.limits; files = was.files ∙ ap (held_in place) (sym files) };
+        let was = are.each place connection queue at got in record { order = was.order; limits = was.limits; files = was.files ∙ ap (held_in place) (sym files); batches = was.batches };
   }
 
   pub files_at : (k : Kept) (queues : List QueueState) (place : ℕ) (queue : QueueState) → AreQueuesOf flow k queues → slice_get queues place ≡ Some queue → queue.files ≡ held_in place k.files
@@ -120,10 +120,10 @@ module _ (flow : Flow) where
 
   -- where one queue changes, and only the files of its connection
   one_changes : (k after : Kept) (c : ℕ) (change : QueueState → QueueState) (queues : List QueueState) → AreQueuesOf flow k queues
-      → ((queue : QueueState) → (change queue).order ≡ queue.order) → ((queue : QueueState) → (change queue).limits ≡ queue.limits)
+      → ((queue : QueueState) → (change queue).order ≡ queue.order) → ((queue : QueueState) → (change queue).limits ≡ queue.limits) → ((queue : QueueState) → (change queue).batches ≡ queue.batches)
       → ((queue : QueueState) → queue.files ≡ held_in c k.files → (change queue).files ≡ held_in c after.files)
       → ((place : ℕ) → place ≢ c → held_in place k.files ≡ held_in place after.files) → AreQueuesOf flow after (changed_at c change queues)
-  one_changes k after c change queues are order limits here others = record {
+  one_changes k after c change queues are order limits batches here others = record {
     count = length-changed c change queues ∙ are.count;
     each = λ place connection queue at got. elim (cases_eq place c) [
       | inl same ↦
@@ -134,10 +134,11 @@ module _ (flow : Flow) where
             order = ap (λ (q : QueueState). q.order) before.2 ∙ order before.0 ∙ was.order;
             limits = ap (λ (q : QueueState). q.limits) before.2 ∙ limits before.0 ∙ was.limits;
             files = ap (λ (q : QueueState). q.files) before.2 ∙ files ∙ ap (λ (p : ℕ). held_in p after.files) (sym same);
+            batches = ap (λ (q : QueueState). q.batches) before.2 ∙ batches before.0 ∙ was.batches;
           }
       | inr differ ↦
           let was = are.each place connection queue at (sym (got-other c place change queues differ) ∙ got) in
-          record { order = was.order; limits = was.limits; files = was.files ∙ others place differ }
+          record { order = was.order; limits = was.limits; files = was.files ∙ others place differ; batches = was.batches }
     ];
   }
 
@@ -146,7 +147,7 @@ module _ (flow : Flow) where
   out_of : (k after : Kept) (c n : ℕ) (queues : List QueueState) → AreQueuesOf flow k queues → AscendsByNumber active_number k.files → is_in_connection c (active_of n k.files) ≡ true
       → after.files ≡ without_item active_number n k.files → AreQueuesOf flow after (changed_at c (queue_without n) queues)
   out_of k after c n queues are ascends is files =
-      one_changes k after c (queue_without n) queues are (λ queue. refl) (λ queue. refl)
+      one_changes k after c (queue_without n) queues are (λ queue. refl) (λ queue. refl) (λ queue. refl)
       (λ queue was. ap (without_file n) was ∙ sym (held_in-without n c k.files) ∙ ap (held_in c) (sym files))
       (λ place ne. sym (others_stay c n place k.files ascends is ne) ∙ ap (held_in place) (sym files))
 
@@ -181,7 +182,7 @@ module _ (flow : Flow) where
   into k after a queues are ascends files =
       let joined : (place : ℕ) → held_in place after.files ≡ cond (a.connection == place) (queue_with_file a.file (held_in place k.files)) (held_in place k.files) =
       λ place. ap (held_in place) files ∙ held_in-with place a k.files ascends in
-      one_changes k after a.connection (queue_with a.file) queues are (λ queue. refl) (λ queue. refl)
+      one_changes k after a.connection (queue_with a.file) queues are (λ queue. refl) (λ queue. refl) (λ queue. refl)
       (λ queue was.
       ap (queue_with_file a.file) was
       ∙ sym (joined a.connection ∙ ap (λ b. cond b (queue_with_file a.file (held_in a.connection k.files)) (held_in a.connection k.files)) (eq-eqb a.connection a.connection refl)))

@@ -45,6 +45,7 @@ module _ (old new : List QueueState) (same : map without_room new ≡ map withou
           order = ap (λ (q : QueueState). q.order) found.2 ∙ was.order;
           limits = ap (λ (q : QueueState). q.limits) found.2 ∙ was.limits;
           files = ap (λ (q : QueueState). q.files) found.2 ∙ was.files;
+          batches = ap (λ (q : QueueState). q.batches) found.2 ∙ was.batches;
         };
   }
 

@@ -30,7 +30,7 @@ are-empty flow k = record {
   each = λ place connection queue at there.
       let is : Some (empty_queue connection) ≡ Some queue = sym (ap (option_map empty_queue) at) ∙ sym (slice_get-map empty_queue flow.connections place) ∙ there in
       let same : empty_queue connection ≡ queue = cc in
-      subst (IsQueueOf (with_files k []) place connection) same (record { order = refl; limits = refl; files = refl });
+      subst (IsQueueOf (with_files k []) place connection) same (record { order = refl; limits = refl; files = refl; batches = refl });
 }
 
 -- ---- one more file
@@ -115,7 +115,7 @@ module _ (flow : Flow) (k : Kept) (files : List ActiveFile) (active : ActiveFile
       ∙ (let here : (active.connection == active.connection) ≡ true = eq-eqb active.connection active.connection refl in sym (held-more k active.connection files active ∙ rw here refl))
 
   pub one-more : (queues : List QueueState) (queue after : QueueState) → AreQueuesOf flow (with_files k files) queues → slice_get queues active.connection ≡ Some queue
-      → after ≡ record queue { files = queue_with_file active.file queue.files; spare = after.spare } → AreQueuesOf flow (with_files k (files ++ active ∷ [])) (set queues active.connection after)
+      → after ≡ record queue { files = queue_with_file active.file queue.files; spare = after.spare; batch_room = after.batch_room } → AreQueuesOf flow (with_files k (files ++ active ∷ [])) (set queues active.connection after)
   one-more queues queue after are there is = record {
     count = length-set queues active.connection after ∙ are.count;
     each = λ place connection now at there_now.
@@ -138,6 +138,7 @@ module _ (flow : Flow) (k : Kept) (files : List ActiveFile) (active : ActiveFile
             order = ap (λ q. q.order) is ∙ before.order;
             limits = ap (λ q. q.limits) is ∙ before.limits;
             files = ap (λ q. q.files) is ∙ held-now queue.files before.files ∙ ap (held_of (with_files k (files ++ active ∷ []))) (sym same);
+            batches = ap (λ q. q.batches) is ∙ before.batches;
           })
 
       elsewhere : (place : ℕ) (connection : Connection) (now : QueueState) → place ≢ active.connection → slice_get flow.connections place ≡ Some connection
@@ -152,4 +153,5 @@ module _ (flow : Flow) (k : Kept) (files : List ActiveFile) (active : ActiveFile
             order = before.order;
             limits = before.limits;
             files = before.files ∙ sym (held-more k place files active ∙ rw no refl);
+            batches = before.batches;
           }

@@ -16,7 +16,7 @@ use Rattle.content_repo.specs.Slots.{end_of}
 use Rattle.machine_model.specs.declared.flow.Flow.{Flow}
 use Rattle.machine_model.specs.Files.{queues_of}
 use Rattle.machine_model.specs.View.{FileView, QueueView}
-use Rattle.flow_queue.specs.Queue.{QueueState, queue_as_seen, views_of}
+use Rattle.flow_queue.specs.Queue.{QueueState, queue_as_seen, seen_batch, views_of}
 use Rattle.store_core.specs.State.{contents_damage, digest_damage, first_damage, state_with}
 use Rattle.engine_queues.specs.Laws.{HeldContentsHaveSizes, QueuesAreSeen, QueuesShowKept, SeesTheSame}
 use Rattle.engine_queues.specs.Queues.{AreQueuesOf, queue_seen}
@@ -38,8 +38,9 @@ shown_at flow k queues place is count are = elim (slice_get_cases flow.connectio
   | inl there ↦ elim (slice_get_cases queues place).1 [
     | inl found ↦
         let files = (are.each place there.0 found.0 there.2 found.2).files in
+        let none = (are.each place there.0 found.0 there.2 found.2).batches in
         let views = ap views_of files ∙ held_views (filter (λ a. a.connection == place) k.files) in
-        ap (λ (queue : Option QueueState). option_map_or queue_as_seen queue empty_queue) found.2 ∙ (λ i. record { active = views i; batches = [] })
+        ap (λ (queue : Option QueueState). option_map_or queue_as_seen queue empty_queue) found.2 ∙ (λ i. record { active = views i; batches = map seen_batch (none i) })
     | inr past ↦ absurd (omega (arith, there.1, past.0, are.count))
   ]
   | inr past ↦

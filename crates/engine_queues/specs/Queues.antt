@@ -18,11 +18,12 @@ held_of k place =
     map (λ active. record { file = active.file; in_flight = false })
     (filter (λ active. active.connection == place) k.files)
 
--- it has the order and the limits of its connection, and the live files of it
+-- it has the order and the limits of its connection, the live files of it, and no batch
 pub record IsQueueOf (k : Kept) (place : ℕ) (connection : Connection) (queue : QueueState) : Type 0 where
   pub order : queue.order ≡ connection.order
   pub limits : queue.limits ≡ connection.limits
   pub files : queue.files ≡ held_of k place
+  pub batches : queue.batches ≡ []
 
 -- there is one for each connection of the flow
 pub record AreQueuesOf (flow : Flow) (k : Kept) (queues : List QueueState) : Type 0 where

@@ -1,5 +1,5 @@
 -- How the queues of a flow change with a session that is committed, and with files that expire.
-use Rattle.std.specs.Prelude.{◌≡◌, ℕ, ◌+◌, ◌-◌, ◌<◌, ◌≤◌, ◌==◌, zero, suc, true, List, [], ◌∷◌, length, map, count_by, Some, IsSome, slice_get}
+use Rattle.std.specs.Prelude.{◌≡◌, ℕ, ◌+◌, ◌-◌, ◌<◌, ◌≤◌, ◌==◌, zero, suc, false, true, List, [], ◌∷◌, length, map, count_by, Some, IsSome, slice_get}
 use Rattle.std.specs.Option.{option_map_or}
 use Rattle.flowfile_record.specs.Stored.{Kept}
 use Rattle.flowfile_record.specs.declared.change.Change.TheVariants as change
@@ -60,7 +60,7 @@ HasRoomFor settled queues = HasRoomIn (placed_connections settled) queues
 
 -- the queue but for its room
 abbrev pub without_room : QueueState → QueueState
-without_room queue = record queue { spare = 0 }
+without_room queue = record queue { spare = 0; batch_room = false }
 
 -- ---- files leave
 

@@ -43,7 +43,11 @@ fn empty_queues(alloc: Global, connections: &[Connection]) -> Result<Vec<Queue>,
 fn put_copy(queue: &mut Queue, file: &FlowFile) -> Result<(), AllocError>
     requires { IsApart file.now queue.old.files }
     ensures { OnOk result
-        (queue.new ≡ record queue.old { files = queue_with_file file.now queue.old.files; spare = queue.new.spare }) }
+        (queue.new ≡ record queue.old {
+          files = queue_with_file file.now queue.old.files;
+          spare = queue.new.spare;
+          batch_room = queue.new.batch_room;
+        }) }
 {
     let copy = file.copy()?;
     queue.reserve(1)?;

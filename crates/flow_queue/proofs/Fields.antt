@@ -24,8 +24,10 @@ use Rattle.flow_queue.proofs.Numbered.{ascends-filter, ascends-map}
 abbrev Fits64 : Held → Type 0
 Fits64 held = held_bytes held < 2 ^ 64
 
-pub same_state : (one other : QueueState) → one.order ≡ other.order → one.limits ≡ other.limits → one.files ≡ other.files → one.spare ≡ other.spare → one ≡ other
-same_state one other order limits files spare = λ i. record { order = order i; limits = limits i; files = files i; spare = spare i }
+pub same_state : (one other : QueueState) → one.order ≡ other.order → one.limits ≡ other.limits → one.files ≡ other.files → one.spare ≡ other.spare → one.batches ≡ other.batches
+    → one.batch_room ≡ other.batch_room → one ≡ other
+same_state one other order limits files spare batches batch_room =
+    λ i. record { order = order i; limits = limits i; files = files i; spare = spare i; batches = batches i; batch_room = batch_room i }
 
 pub on-err : {X E : Type 0} (result : Result X E) (P : Type 0) → P → OnErr result P
 on-err (Ok x) P h = tt
@@ -85,7 +87,7 @@ module _ (file : FlowFile) (files : List Held) (apart : IsApart file files) wher
 
 -- ---- a file leaves
 
-one_gone : (n : ℕ) (held : Held) (files : List Held) → AscendsByNumber held_number files → item_of held_number n files ≡ Some held → sum_by held_bytes files ≡ held_bytes held + sum_by held_bytes (without_file n files)
+pub one_gone : (n : ℕ) (held : Held) (files : List Held) → AscendsByNumber held_number files → item_of held_number n files ≡ Some held → sum_by held_bytes files ≡ held_bytes held + sum_by held_bytes (without_file n files)
 one_gone n held [] up is = cc
 one_gone n held (first ∷ files) up is =
     elim (cases_Bool (held_number first == n)) [

@@ -1,5 +1,6 @@
 pub mod Ages
 pub mod AtRest
+pub mod Batches
 pub mod Bins
 pub mod Compared
 pub mod Crosses
@@ -8,6 +9,8 @@ pub mod Fields
 pub mod ForCallers
 pub mod InOrder
 pub mod Numbered
+pub mod OutBatch
 pub mod Parts
 pub mod Ranks
+pub mod Swapped
 pub mod Taken

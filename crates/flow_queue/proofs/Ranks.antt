@@ -31,7 +31,7 @@ number file = file.number
 -- ---- the files that numbers stand for
 
 -- the file of a view's number is that of the view
-abbrev Found : List Held → FileView → Type 0
+abbrev pub Found : List Held → FileView → Type 0
 Found files view = option_map held_view (item_of held_number view.number files) ≡ Some view
 
 found : (files : List Held) (view : FileView) → AscendsByNumber held_number files → Contains (views_of files) view → Found files view

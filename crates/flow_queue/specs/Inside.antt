@@ -1,5 +1,5 @@
 -- The fields of a queue, and what they stand for.
-use Rattle.std.specs.Prelude.{◌≡◌, ℕ, ◌+◌, ◌<◌, ◌≤◌, ◌^◌, List, [], All, length, sum_by}
+use Rattle.std.specs.Prelude.{◌≡◌, ℕ, ◌+◌, ◌<◌, ◌≤◌, ◌^◌, true, List, [], All, length, sum_by}
 use Rattle.std.specs.VecDeque.{deque_capacity}
 use Rattle.flow_queue.specs.declared.held.Held.{Held}
 use Rattle.flow_queue.specs.declared.queue.Queue.TheInside.{Inside}
@@ -13,6 +13,8 @@ queue_in queue = record {
   limits = queue.limits;
   files = queue.files.items;
   spare = queue.files.room;
+  batches = queue.batches.items;
+  batch_room = queue.batch_room;
 }
 
 -- what holds of the files: the sum of the sizes is kept
@@ -21,8 +23,8 @@ pub record AreSound (files : List Held) (bytes : ℕ) : Type 0 where
   pub sizes : All (λ held. held_bytes held < 2 ^ 64) files
   pub sum : bytes ≡ sum_by held_bytes files
 
--- the numbers stand in the order of the queue, and where files expire from the oldest on; those of as many more files as
--- there is room for have capacity
+-- The numbers stand in the order of the queue, and where files expire from the oldest on; those of as many more files as
+-- there is room for have capacity, and so has a batch where there is room for one.
 pub record IsSoundQueue (queue : Inside) : Type 0 where
   pub files : AreSound queue.files.items queue.bytes
   pub ranked : IsRanked queue.order queue.files.items queue.by_rank.items
@@ -30,3 +32,4 @@ pub record IsSoundQueue (queue : Inside) : Type 0 where
   pub oldest_first : queue.oldest_first ≡ []
   pub ages : HasAges queue.limits queue.files.items queue.by_age.items
   pub age_room : HasAgeRoom queue.limits (length queue.files.items + queue.files.room) (deque_capacity queue.by_age)
+  pub batch_room : queue.batch_room ≡ true → 0 < queue.batches.room

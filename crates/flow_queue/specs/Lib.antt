@@ -4,3 +4,4 @@ pub mod Inside
 pub mod Picking
 pub mod Queue
 pub mod Ranked
+pub mod Swapping

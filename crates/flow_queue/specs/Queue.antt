@@ -12,16 +12,19 @@ use Rattle.machine_model.specs.Due.{numbers_of}
 use Rattle.machine_model.specs.Laws.{ArrivalsDiffer}
 use Rattle.machine_model.specs.Order.{eligible_files}
 use Rattle.machine_model.specs.Taking.{picks}
-use Rattle.machine_model.specs.View.{FileView, QueueView}
+use Rattle.machine_model.specs.View.{FileView, BatchView, QueueView}
+use Rattle.flow_queue.specs.declared.batch.Batch.{Batch}
 use Rattle.flow_queue.specs.declared.held.Held.{Held}
 
--- the order and the limits of its connection, its files in the order of their numbers, and for how many more there is
--- room
+-- The order and the limits of its connection, its active files in the order of their numbers and for how many more there
+-- is room, its swapped batches in the order of theirs and whether there is room for one more.
 pub record QueueState : Type 0 where
   pub order : List Prioritizer
   pub limits : QueueLimits
   pub files : List Held
   pub spare : ℕ
+  pub batches : List Batch
+  pub batch_room : Bool
 
 -- ---- how it is seen
 
@@ -46,9 +49,11 @@ held_view held = record {
 abbrev pub views_of : List Held → List FileView
 views_of files = map held_view files
 
--- no file of it is swapped out
+abbrev pub seen_batch : Batch → BatchView
+seen_batch batch = record { number = batch.number; files = batch.files; size = batch.bytes }
+
 abbrev pub queue_as_seen : QueueState → QueueView
-queue_as_seen queue = record { active = views_of queue.files; batches = [] }
+queue_as_seen queue = record { active = views_of queue.files; batches = map seen_batch queue.batches }
 
 -- what holds of the files of every queue: no two have one number or one arrival
 pub record AreApart (files : List Held) : Type 0 where

@@ -4,6 +4,7 @@
 //! say of the queue as it is seen, the files that a session works on among its files.
 #![tactic(auto)]
 
+mod batch;
 mod held;
 mod queue;
 #[cfg(test)]

@@ -1,15 +1,17 @@
 //! A queue, and how it changes.
-ghost use Rattle.std.specs.Prelude.{◌≡◌, ◌+◌, ◌-◌, ◌<◌, ◌≤◌, [], Some, false, true, IsSome, OnOk, OnErr};
+ghost use Rattle.std.specs.Prelude.{◌≡◌, ◌+◌, ◌-◌, ◌<◌, ◌≤◌, ◌⊎◌, [], Some, false, true, IsSome, OnOk, OnErr};
 ghost use Rattle.flow_queue.specs.Queue.{IsApart, AreApart, queue_with_file, without_file, held_file, flight_of, with_flight, IsAtRest, IsInFlight};
 
 mod ages;
 mod bins;
 mod choosing;
 mod ranked;
+mod swapping;
 mod wholes;
 
 use self::ages::{put_age, reserve_ages, take_age};
 use self::ranked::{put_number, take_number};
+use crate::batch::Batch;
 use crate::held::Held;
 use flowfile_record::{FlowFile, NumberedList};
 use machine_model::QueueLimits;
@@ -18,7 +20,8 @@ use std::alloc::{AllocError, Global};
 use std::collections::VecDeque;
 use std::marker::Model;
 
-/// The files that wait at the end of a connection, those that a session works on too, and room for more.
+/// The files that wait at the end of a connection, those that a session works on too, the batches of its files that are
+/// swapped out, and room for more.
 #[derive(Drop)]
 pub struct Queue {
     order: Order,
@@ -31,6 +34,9 @@ pub struct Queue {
     oldest_first: Order,
     // Those of their contents.
     bytes: u128,
+    batches: NumberedList<Batch>,
+    // Whether a batch may go out, or be entered, without taking memory.
+    batch_room: bool,
 }
 
 impl Model for Queue {
@@ -50,9 +56,16 @@ impl Model for Queue {
 }
 
 impl Queue {
-    /// A queue without files, and without room.
+    /// A queue without files and batches, and without room.
     pub fn new(alloc: Global, order: Order, limits: QueueLimits) -> Queue
-        ensures { result ≡ record { order = order; limits = limits; files = []; spare = 0 } }
+        ensures { result ≡ record {
+          order = order;
+          limits = limits;
+          files = [];
+          spare = 0;
+          batches = [];
+          batch_room = false;
+        } }
     {
         Queue {
             order,
@@ -62,20 +75,27 @@ impl Queue {
             by_age: VecDeque::new(alloc),
             oldest_first: Order::new(Vec::new(alloc)),
             bytes: 0,
+            batches: NumberedList::new(alloc),
+            batch_room: false,
         }
     }
 
-    /// Makes room for so many more files. It fails only where there was less.
+    /// Makes room for so many more files, and for one more batch. It fails only where there was less.
     pub fn reserve(&mut self, count: u32) -> Result<(), AllocError>
-        ensures same { self.new ≡ record self.old { spare = self.new.spare } }
+        ensures same { self.new
+            ≡ record self.old { spare = self.new.spare; batch_room = self.new.batch_room } }
         ensures room { OnOk result (count ≤ self.new.spare) }
+        ensures batch { OnOk result (self.new.batch_room ≡ true) }
         ensures none_lost { self.old.spare ≤ self.new.spare }
-        ensures fails { OnErr result (self.old.spare < count) }
+        ensures fails { OnErr result ((self.old.spare < count) ⊎ (self.old.batch_room ≡ false)) }
         ensures failed { OnErr result (self.new ≡ self.old) }
     {
         self.by_rank.reserve(count as usize)?;
         reserve_ages(&mut self.by_age, &self.limits, count)?;
-        self.files.reserve(u64::from(count))
+        self.batches.reserve(1)?;
+        self.files.reserve(u64::from(count))?;
+        self.batch_room = true;
+        Ok(())
     }
 
     /// Puts a file that no session works on into the queue. There is room for it.

@@ -189,6 +189,19 @@ fn rules_pick(rt: &impl Abort, alloc: Global) -> Result<(), Fail> {
     Ok(())
 }
 
+fn batches_count(rt: &impl Abort, alloc: Global) -> Result<(), Fail> {
+    let mut queue = Queue::new(alloc, Order::new(Vec::new(alloc)), LIMITS);
+    let mut list = Vec::new(alloc);
+    assert!(rt; !queue.out_batch(&mut list)?);
+    assert_eq!(rt; queue.in_due(), None);
+    queue.reserve(0)?;
+    queue.known_batch(7, 5, 9);
+    assert!(rt; queue.is_full());
+    assert_eq!(rt; queue.in_due(), Some(7));
+    assert_eq!(rt; queue.len(), 0);
+    Ok(())
+}
+
 #[test]
 fn files_go_by_priority_and_rule(rt: HostRuntime) -> Result<(), Fail> {
     let alloc = rt.alloc();
@@ -207,5 +220,6 @@ fn files_go_by_priority_and_rule(rt: HostRuntime) -> Result<(), Fail> {
         assert_eq!(rt; file.number, number);
     }
     assert_eq!(rt; queue.len(), 0);
-    rules_pick(&rt, alloc)
+    rules_pick(&rt, alloc)?;
+    batches_count(&rt, alloc)
 }

@@ -1,5 +1,5 @@
 //! What a queue answers.
-ghost use Rattle.std.specs.Prelude.{◌≡◌, nat_lt, min, [], ◌∷◌, None, length, map, filter, All, IfOk, IfSome, IsOk, OnOk, OnErr, is_some};
+ghost use Rattle.std.specs.Prelude.{◌≡◌, ◌&&◌, ◌||◌, nat_lt, min, [], ◌∷◌, None, length, map, filter, All, IfOk, IfSome, IsOk, OnOk, OnErr, is_some};
 ghost use Rattle.std.specs.List.{reduce};
 ghost use Rattle.std.specs.Option.{option_map};
 ghost use Rattle.machine_model.specs.Due.{expired_numbers};
@@ -13,6 +13,7 @@ use super::Queue;
 use super::ages::may_have_expired;
 use super::bins::pick_bin;
 use super::ranked::{best_of, first_eligible};
+use super::swapping::{bytes_short_of, files_short_of};
 use super::wholes::pick_whole;
 use crate::held::Held;
 use flowfile_record::NumberedList;
@@ -21,7 +22,7 @@ use std::alloc::AllocError;
 use std::collections::VecDeque;
 
 impl Queue {
-    /// How many files there are, those that a session works on too.
+    /// How many files are active, those that a session works on too.
     pub fn len(&self) -> u64
         ensures len { result ≡ length self.now.files }
         ensures apart { AreApart self.now.files }
@@ -68,13 +69,15 @@ impl Queue {
         list_expired(&self.files, &self.limits, moment, list)
     }
 
-    /// Whether the queue has reached one of its limits.
+    /// Whether the queue has reached one of its limits, with the files that are swapped out.
     pub fn is_full(&self) -> bool
         ensures { result ≡ is_full self.now.limits (queue_as_seen self.now) }
     {
-        let QueueLimits { objects, bytes, .. } = self.limits;
-        (objects > 0 && objects <= self.files.len())
-            || (bytes > 0 && u128::from(bytes) <= self.bytes)
+        let files_short = files_short_of(self.limits.objects, &self.batches);
+        let bytes_short = bytes_short_of(self.limits.bytes, &self.batches);
+        let has_files = files_short <= self.files.len();
+        let has_bytes = bytes_short <= self.bytes;
+        is_filled(&self.limits, has_files, has_bytes)
     }
 
     /// When the first penalty of a file ends that hasn't ended by a moment.
@@ -83,6 +86,14 @@ impl Queue {
     {
         next_end(&self.files, moment)
     }
+}
+
+// Whether one of the limits that are set is reached.
+fn is_filled(limits: &QueueLimits, has_files: bool, has_bytes: bool) -> bool
+    ensures { result
+        ≡ ((nat_lt 0 limits.now.objects && has_files) || (nat_lt 0 limits.now.bytes && has_bytes)) }
+{
+    (limits.objects > 0 && has_files) || (limits.bytes > 0 && has_bytes)
 }
 
 fn list_expired(

@@ -45,4 +45,5 @@ invariant_of-self c =
       oldest_first = c.self.invariant.oldest_first;
       ages = λ expire. still-ranked [] _ _ _ _ without refl (c.take_age.ensures.ages expire);
       age_room = λ expire. omega (arith, c.self.invariant.age_room expire, left, ap length c.in-Some-take.ensures.items, c.in-Some-take.ensures.room, c.take_age.ensures.capacity);
+      batch_room = c.self.invariant.batch_room;
     }

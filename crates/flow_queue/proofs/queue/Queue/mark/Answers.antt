@@ -34,6 +34,7 @@ invariant_of-self c =
       oldest_first = c.self.invariant.oldest_first;
       ages = λ expire. still-ranked [] _ _ _ _ is refl (ranked-mark [] files queue.by_age.items c.self.invariant.files.apart (c.self.invariant.ages expire) c.args.number c.args.in_flight);
       age_room = λ expire. omega (arith, c.self.invariant.age_room expire, ap length is, length-mark c.args.number c.args.in_flight files, c.put.ensures.room, c.in-Some.ensures.room);
+      batch_room = c.self.invariant.batch_room;
     }
 
 pub returns : goal.returns
@@ -49,3 +50,4 @@ returns c =
     same_state _ _ (ap (λ q. q.order) c.self.view_is) (ap (λ q. q.limits) c.self.view_is)
     (is ∙ ap (λ q. with_flight c.args.number c.args.in_flight q.files) c.self.view_is)
     (omega (arith, c.put.ensures.room, c.in-Some.ensures.room, ap (λ q. q.spare) c.self.view_is))
+    (ap (λ q. q.batches) c.self.view_is) (ap (λ q. q.batch_room) c.self.view_is)

@@ -51,4 +51,5 @@ invariant_of-self c =
       oldest_first = c.self.invariant.oldest_first;
       ages = λ expire. still-ranked [] _ _ _ _ c.put.ensures.items refl (c.put_age.ensures.ages expire);
       age_room = λ expire. omega (arith, c.self.invariant.age_room expire, ap length c.put.ensures.items, length-with held_number new files, c.put.ensures.room, c.put_age.ensures.capacity);
+      batch_room = c.self.invariant.batch_room;
     }

@@ -1,0 +1,166 @@
+-- Files of some numbers, and the numbers of files that stay or rest, in the order of the queue.
+use Rattle.std.proofs.Common.{◌≡◌, ◌≢◌, inl, inr, ℕ, ◌+◌, ◌-◌, ◌*◌, ◌/◌, ◌^◌, ◌<◌, ◌≤◌, ◌==◌, ◌&&◌, not, nat_le, Bool, true, false, cond, List, [], ◌∷◌, length, map, drop, Option, Some, None, is_some, refl, sym, ap, ◌∙◌, subst, arith}
+use Rattle.std.specs.Prelude.{All, Contains, IsSome, filter, find, sum_by}
+use Rattle.std.specs.Option.{option_map, option_map_or}
+use Rattle.std.proofs.lemmas.Bool.{true≢false, cases_Bool, cases_eq, eqb-true, eq-eqb, ne_eqb}
+use Rattle.std.proofs.lemmas.List.{length-map}
+use Rattle.std.proofs.lemmas.List.Elements.{All-nil, All-cons, All-head, All-tail, All-weaker, All-filter}
+use Rattle.std.proofs.lemmas.List.Filters.{sum_by-filter_both}
+use Rattle.std.proofs.lemmas.List.Kept.{AllPairs-filter}
+use Rattle.flowfile_record.specs.NumberedItems.{item_of}
+use Rattle.flowfile_record.proofs.ByNumber.{eqb_comm, item_of-without_other}
+use Rattle.prioritizer.specs.declared.prioritizer.Prioritizer.{Prioritizer}
+use Rattle.machine_model.specs.Due.{numbers_of}
+use Rattle.machine_model.specs.Files.{are_distinct, is_number_among}
+use Rattle.machine_model.specs.Laws.{ArrivalsDiffer}
+use Rattle.machine_model.specs.Order.{in_order}
+use Rattle.machine_model.specs.View.{FileView, at_rest}
+use Rattle.flow_queue.specs.declared.held.Held.{Held}
+use Rattle.flow_queue.specs.Inside.{AreSound}
+use Rattle.flow_queue.specs.Queue.{AreApart, held_number, held_bytes, held_view, views_of, flight_of, without_file}
+use Rattle.flow_queue.specs.Ranked.{IsRanked}
+use Rattle.flow_queue.specs.Swapping.{files_going, files_staying, goes_out, is_held, is_resting, resting_among}
+use Rattle.flow_queue.proofs.InOrder.{Differ, filter-mapped, in_order-filter}
+use Rattle.flow_queue.proofs.Numbered.{ascends-filter}
+use Rattle.flow_queue.proofs.Ranks.{Found, all-found}
+
+-- ---- the files that stay when some go
+
+pub staying-cons : (n : ℕ) (ns : List ℕ) (files : List Held) → files_staying (n ∷ ns) files ≡ files_staying ns (without_file n files)
+staying-cons n ns [] = refl
+staying-cons n ns (held ∷ files) =
+    let rest = staying-cons n ns files in
+    elim (cases_Bool (n == held_number held)) [
+      | inl t ↦
+          let other : (held_number held == n) ≡ true = eqb_comm (held_number held) n ∙ t in
+          rw (t, other) rest
+      | inr f ↦
+          let other : (held_number held == n) ≡ false = eqb_comm (held_number held) n ∙ f in
+          rw (f, other) (elim (cases_Bool (is_number_among ns (held_number held))) [ inl s ↦ rw s rest | inr o ↦ rw o (ap (λ (l : List Held). held ∷ l) rest) ])
+    ]
+
+pub staying-none : (files : List Held) → files_staying [] files ≡ files
+staying-none [] = refl
+staying-none (held ∷ files) = ap (λ (l : List Held). held ∷ l) (staying-none files)
+
+pub bytes-parted : (numbers : List ℕ) (files : List Held) → sum_by held_bytes (files_going numbers files) + sum_by held_bytes (files_staying numbers files) ≡ sum_by held_bytes files
+bytes-parted numbers files = sum_by-filter_both (goes_out numbers) (λ held. not (goes_out numbers held)) (λ held. refl) held_bytes files
+
+-- ---- what is kept by a test of the number
+
+module _ (q : ℕ → Bool) where
+  abbrev keeps : Held → Bool
+  keeps held = q (held_number held)
+
+  none_held : (b : Bool) → false ≡ (b && false)
+  none_held true = refl
+  none_held false = refl
+
+  pub held-kept : (n : ℕ) (files : List Held) → is_held (filter keeps files) n ≡ (q n && is_held files n)
+  held-kept n [] = none_held (q n)
+  held-kept n (held ∷ files) =
+      let rest = held-kept n files in
+      elim (cases_eq (held_number held) n) [
+        | inl is ↦
+            let here : (held_number held == n) ≡ true = eq-eqb (held_number held) n is in
+            elim (cases_Bool (q n)) [
+              | inl t ↦ let kept : q (held_number held) ≡ true = ap q is ∙ t in rw (kept, here, t) refl
+              | inr f ↦
+                  let kept : q (held_number held) ≡ false = ap q is ∙ f in
+                  rw (kept, here, f) (rest ∙ ap (λ b. b && is_held files n) f)
+            ]
+        | inr ne ↦
+            let away : (held_number held == n) ≡ false = ne_eqb (held_number held) n ne in
+            elim (cases_Bool (q (held_number held))) [
+              | inl t ↦ rw (t, away) rest
+              | inr f ↦ rw (f, away) rest
+            ]
+      ]
+
+  pub sound-kept : (files : List Held) (bytes total : ℕ) → AreSound files bytes → total ≡ sum_by held_bytes (filter keeps files) → AreSound (filter keeps files) total
+  sound-kept files bytes total are is =
+      let stays : FileView → Bool = λ view. q view.number in
+      record {
+        apart = record {
+          numbers = ascends-filter held_number keeps files are.apart.numbers;
+          arrivals = subst ArrivalsDiffer (filter-mapped held_view stays files) (AllPairs-filter Differ stays (views_of files) are.apart.arrivals);
+        };
+        sizes = All-filter keeps (λ held. held_bytes held < 2 ^ 64) files are.sizes;
+        sum = is;
+      }
+
+-- ---- numbers in the order of the queue
+
+same-filter : {X : Type 0} (p q : X → Bool) (xs : List X) → All (λ x. p x ≡ q x) xs → filter p xs ≡ filter q xs
+same-filter p q [] all = refl
+same-filter p q (x ∷ xs) all =
+    (λ i. cond (All-head (λ y. p y ≡ q y) x xs all i) (x ∷ filter p xs) (filter p xs))
+    ∙ ap (λ l. cond (q x) (x ∷ l) l) (same-filter p q xs (All-tail (λ y. p y ≡ q y) x xs all))
+
+module _ (order : List Prioritizer) (files : List Held) (numbers : List ℕ) (apart : AreApart files) (ranked : IsRanked order files numbers) where
+  pub ranked-filter : (p : ℕ → Bool) (q : FileView → Bool) → ((view : FileView) → Found files view → p view.number ≡ q view)
+      → filter p numbers ≡ numbers_of (in_order order (filter q (views_of files)))
+  ranked-filter p q says =
+      let own = in_order order (views_of files) in
+      let same = All-weaker (Found files) (λ (view : FileView). p view.number ≡ q view) says own (all-found order files apart.numbers) in
+      ap (filter p) ranked
+      ∙ filter-mapped (λ (view : FileView). view.number) p own
+      ∙ ap numbers_of (same-filter (λ (view : FileView). p view.number) q own same)
+      ∙ ap numbers_of (sym (in_order-filter order q (views_of files) apart.arrivals))
+
+  found-held : (n : ℕ) (view : FileView) → (o : Option Held) → option_map held_view o ≡ Some view → is_some o ≡ true
+  found-held n view None h = cc
+  found-held n view (Some held) h = refl
+
+  with-true : (b : Bool) → (b && true) ≡ b
+  with-true true = refl
+  with-true false = refl
+
+  pub ranked-kept : (q : ℕ → Bool) → IsRanked order (filter (λ held. q (held_number held)) files) (filter (is_held (filter (λ held. q (held_number held)) files)) numbers)
+  ranked-kept q =
+      let kept = filter (λ held. q (held_number held)) files in
+      ranked-filter (is_held kept) (λ (view : FileView). q view.number)
+      (λ view f. held-kept q view.number files ∙ ap (λ b. q view.number && b) (found-held view.number view (item_of held_number view.number files) f) ∙ with-true (q view.number))
+      ∙ ap (λ views. numbers_of (in_order order views)) (filter-mapped held_view (λ (view : FileView). q view.number) files)
+
+  rests-found : (view : FileView) (o : Option Held) → option_map held_view o ≡ Some view → option_map_or (λ held. not held.in_flight) o false ≡ not view.in_flight
+  rests-found view None h = cc
+  rests-found view (Some held) h = let is : held_view held ≡ view = cc in ap (λ (v : FileView). not v.in_flight) is
+
+  pub resting-ranked : resting_among files numbers ≡ numbers_of (in_order order (at_rest (views_of files)))
+  resting-ranked = ranked-filter (is_resting files) (λ (view : FileView). not view.in_flight) (λ view f. rests-found view (item_of held_number view.number files) f)
+
+-- ---- files are taken one by one
+
+not-among : (n : ℕ) (ns : List ℕ) → not (is_number_among ns n) ≡ true → All (λ m. m ≢ n) ns
+not-among n [] h = All-nil (λ m. m ≢ n)
+not-among n (m ∷ ns) h =
+    elim (m == n) as (λ b. (m == n) ≡ b → not (is_some (cond b (Some m) (find (λ k. k == n) ns))) ≡ true → All (λ k. k ≢ n) (m ∷ ns)) [
+      | true ↦ λ is h. absurd (true≢false (sym h))
+      | false ↦ λ is h. All-cons (λ k. k ≢ n) m ns (λ e. true≢false (sym (eq-eqb m n e) ∙ is)) (not-among n ns h)
+    ] refl h
+
+pub distinct-parts : (n : ℕ) (ns : List ℕ) → are_distinct (n ∷ ns) ≡ true → All (λ m. m ≢ n) ns × (are_distinct ns ≡ true)
+distinct-parts n ns h =
+    elim (cases_Bool (is_number_among ns n)) [
+      | inl t ↦ let none : false ≡ true = rw t at h in absurd (true≢false (sym none))
+      | inr f ↦ let rest : are_distinct ns ≡ true = rw f at h in (not-among n ns (ap not f), rest)
+    ]
+
+abbrev pub AreThere : List Held → List ℕ → Type 0
+AreThere files numbers = All (λ n. IsSome (item_of held_number n files)) numbers
+
+pub still-there : (n : ℕ) (ns : List ℕ) (files : List Held) → All (λ m. m ≢ n) ns → AreThere files ns → AreThere (without_file n files) ns
+still-there n [] files apart there = All-nil (λ m. IsSome (item_of held_number m (without_file n files)))
+still-there n (m ∷ ns) files apart there =
+    All-cons (λ k. IsSome (item_of held_number k (without_file n files))) m ns
+    (subst (λ (o : Option Held). IsSome o) (sym (item_of-without_other held_number m n files (All-head (λ k. k ≢ n) m ns apart))) (All-head (λ k. IsSome (item_of held_number k files)) m ns there))
+    (still-there n ns files (All-tail (λ k. k ≢ n) m ns apart) (All-tail (λ k. IsSome (item_of held_number k files)) m ns there))
+
+there-at : (o : Option Held) → option_map (λ (held : Held). held.in_flight) o ≡ Some false → IsSome o
+there-at None h = cc
+there-at (Some held) h = refl
+
+-- files that rest are there
+pub all-there : (files : List Held) (numbers : List ℕ) → All (λ n. flight_of n files ≡ Some false) numbers → AreThere files numbers
+all-there files numbers rest = All-weaker (λ n. flight_of n files ≡ Some false) (λ n. IsSome (item_of held_number n files)) (λ n h. there-at (item_of held_number n files) h) numbers rest

@@ -1,0 +1,46 @@
+use Rattle.std.proofs.Common.{◌≡◌, ℕ, ◌+◌, ◌-◌, ◌<◌, ◌≤◌, ◌^◌, Bool, false, Option, Some, None, List, [], not, length, refl, sym, ◌∙◌, ap, subst, arith}
+use Rattle.std.specs.Prelude.{All, IsSome, filter, sum_by}
+use Rattle.std.proofs.lemmas.Bool.{true≢false}
+use Rattle.machine_model.specs.Files.{is_number_among}
+use Rattle.flow_queue.specs.Inside.{AreSound}
+use Rattle.flow_queue.specs.Queue.{held_bytes}
+use Rattle.flow_queue.specs.Swapping.{files_going, files_staying, is_held, with_batch}
+use Rattle.flow_queue.proofs.Fields.{same_state}
+use Rattle.flow_queue.proofs.Ranks.{still-ranked}
+use Rattle.flow_queue.proofs.Swapped.{bytes-parted, ranked-kept, sound-kept}
+use Rattle.flow_queue.proofs.queue.Queue.swap_out.Goals as goal
+
+pub invariant_of-self : goal.invariant_of-self
+invariant_of-self c =
+    let queue = c.self.inside in
+    let files = queue.files.items in
+    let ns = c.args.numbers.now in
+    let stays : ℕ → Bool = λ n. not (is_number_among ns n) in
+    let taken = c.take_files-bytes.ensures.files in
+    let left : queue.bytes - c.take_files-bytes.result ≡ sum_by held_bytes (files_staying ns files) = omega (arith, c.take_files-bytes.ensures.bytes, c.self.invariant.files.sum, ap (sum_by held_bytes) taken) in
+    let sound = sound-kept stays files queue.bytes (queue.bytes - c.take_files-bytes.result) c.self.invariant.files left in
+    record {
+      files = subst (λ fs. AreSound fs (queue.bytes - c.take_files-bytes.result)) (sym taken) sound;
+      ranked = still-ranked queue.order _ _ _ _ taken (c.keep_standing.ensures.numbers ∙ ap (λ fs. filter (is_held fs) queue.by_rank.items) taken)
+          (ranked-kept queue.order files queue.by_rank.items c.self.invariant.files.apart c.self.invariant.ranked stays);
+      room = omega (arith, c.self.invariant.room, c.take_files-bytes.ensures.room, c.take_files-bytes.ensures.count, c.keep_standing.ensures.capacity);
+      oldest_first = c.self.invariant.oldest_first;
+      ages = λ expire. still-ranked [] _ _ _ _ taken (c.keep_standing-2.ensures.numbers ∙ ap (λ fs. filter (is_held fs) queue.by_age.items) taken)
+          (ranked-kept [] files queue.by_age.items c.self.invariant.files.apart (c.self.invariant.ages expire) stays);
+      age_room = λ expire. omega (arith, c.self.invariant.age_room expire, c.take_files-bytes.ensures.room, c.take_files-bytes.ensures.count, c.keep_standing-2.ensures.capacity);
+      batch_room = λ is. absurd (true≢false (sym is));
+    }
+
+pub returns : goal.returns
+returns c =
+    let queue = c.self.inside in
+    let ns = c.args.numbers.now in
+    let taken = c.take_files-bytes.ensures.files in
+    let bytes : c.take_files-bytes.result ≡ sum_by held_bytes (files_going ns queue.files.items)
+    = omega (arith, c.take_files-bytes.ensures.bytes, ap (sum_by held_bytes) taken, bytes-parted ns queue.files.items) in
+    same_state _ _ (ap (λ q. q.order) c.self.view_is) (ap (λ q. q.limits) c.self.view_is)
+    (taken ∙ ap (λ q. files_staying ns q.files) c.self.view_is)
+    (omega (arith, c.take_files-bytes.ensures.room, ap (λ q. q.spare) c.self.view_is))
+    (c.put.ensures.items
+    ∙ (λ i. with_batch (record { number = c.args.batch; files = length ns; bytes = (bytes ∙ ap (λ q. sum_by held_bytes (files_going ns q.files)) c.self.view_is) i }) (ap (λ q. q.batches) c.self.view_is i)))
+    refl
