@@ -8,6 +8,7 @@ use Rattle.flowfile_record.specs.Stored.{Kept}
 use Rattle.flowfile_record.specs.declared.change.Settled.{Settled}
 use Rattle.flowfile_record.specs.declared.content.ContentRef.{ContentRef}
 use Rattle.flowfile_record.specs.declared.event.Event.{Event}
+use Rattle.flowfile_record.specs.declared.flow_file.FlowFile.{FlowFile}
 use Rattle.flowfile_record.specs.declared.limits.TheConstants.{NUMBER_LIMIT}
 use Rattle.record_codec.specs.ActiveFile.{active}
 use Rattle.machine_model.specs.declared.flow.Flow.{Flow}
@@ -20,7 +21,6 @@ use Rattle.settlement.specs.Contents.{IsBodyWithin}
 use Rattle.settlement.specs.Handed.{AreReadSources, ended_session, content_sizes}
 use Rattle.settlement.specs.declared.handed.Ended.{Ended}
 use Rattle.store_core.specs.Flow as store
-use Rattle.store_core.specs.Flow.{flow_in}
 use Rattle.store_core.specs.State.{state_with}
 
 -- what a store keeps of a flow
@@ -44,6 +44,12 @@ pub record MayCommit (flow : Flow) (given : Given) (k : Kept) (ended : Ended) : 
   pub parts : All (λ file. IsBodyWithin ended.sources file.body) ended.outcome.files
   pub bytes : ContentRef → List ℕ
   pub read : AreReadSources bytes ended.taken ended.sources
+
+-- the settled session is that of the processor at this place, at this moment, and these files, which it took, are gone
+pub record TellsOfSession (place at : ℕ) (taken : List FlowFile) (settled : Settled) : Type 0 where
+  pub processor : settled.processor ≡ place
+  pub moment : settled.moment ≡ at
+  pub gone : settled.gone ≡ map (λ file. file.number) taken
 
 -- the events up to a last one, numbered in a row
 abbrev pub AreEventsUpTo : (last : ℕ) → List Event → Type 0

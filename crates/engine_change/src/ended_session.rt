@@ -1,11 +1,11 @@
 //! What a session changes of the store that it worked on.
-ghost use Rattle.std.specs.Prelude.{◌≡◌, ◌<◌, ◌≤◌, ◌^◌, [], length, unwrap_or, All, IfOk, IfSome};
+ghost use Rattle.std.specs.Prelude.{◌≡◌, ◌<◌, ◌≤◌, [], length, unwrap_or, All, IfOk, IfSome};
 ghost use Rattle.flowfile_record.specs.declared.name.TheConstants.{NAME_MAX};
 ghost use Rattle.machine_model.specs.Sound.{IsSound};
 ghost use Rattle.store_core.specs.Change.{HasLiveContents, MayChange};
 ghost use Rattle.store_core.specs.Flow.{flow_in};
 ghost use Rattle.store_core.specs.Store.{kept_by};
-ghost use Rattle.engine_change.specs.Committing.{identity_of, HasTexts, LeavesDigests, LeavesState, MayCommit};
+ghost use Rattle.engine_change.specs.Committing.{identity_of, HasTexts, LeavesDigests, LeavesState, MayCommit, TellsOfSession};
 
 use flowfile_record::{Event, Outcome, Settled};
 use machine_model::{Flow, Given};
@@ -29,6 +29,8 @@ pub fn settle_session(
     ensures may { IfOk result (MayChange (kept_by store.now)) }
     ensures live { IfOk result (HasLiveContents store.now) }
     ensures digests { IfOk result (LeavesDigests ended) }
+    // It tells of this session.
+    ensures tells { IfOk result (TellsOfSession ended.processor given.now.moment ended.taken) }
     // The state behind it is the one that the machine settles.
     ensures leaves { IfOk result (LeavesState flow.now given.now ended (kept_by store.now)) }
 {

@@ -52,6 +52,11 @@ returns-clause-live c =
 pub returns-clause-digests : goal.returns-clause-digests
 returns-clause-digests c = c.in_ok-settled.ensures.tells.digests
 
+pub returns-clause-tells : goal.returns-clause-tells
+returns-clause-tells c =
+    let tells = c.in_ok-settled.ensures.tells in
+    record { processor = tells.processor; moment = tells.moment; gone = tells.gone }
+
 pub returns-clause-leaves : goal.returns-clause-leaves
 returns-clause-leaves c =
     let case : Case = record { flow = c.args.flow.now; given = c.args.given.now; k = kept_by c.args.store.now; ended = c.args.ended; settled = c.in_ok-settled.settled } in
