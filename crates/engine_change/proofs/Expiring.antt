@@ -1,5 +1,5 @@
 -- Files that expire: the live files of their numbers, their events, the state behind them, and the machine's step.
-use Rattle.std.proofs.Common.{length-drop, append_assoc, ◌≡◌, ◌≢◌, ℕ, zero, suc, ◌+◌, ◌^◌, ◌<◌, ◌≤◌, ◌==◌, ◌&&◌, not, Bool, true, false, cond, List, [], ◌∷◌, ◌++◌, length, map, drop, refl, sym, ap, subst, ◌∙◌, inl, inr, arith}
+use Rattle.std.proofs.Common.{length-drop, ◌≡◌, ◌≢◌, ℕ, zero, suc, ◌+◌, ◌^◌, ◌<◌, ◌≤◌, ◌==◌, ◌&&◌, not, Bool, true, false, cond, List, [], ◌∷◌, ◌++◌, length, map, drop, refl, sym, ap, subst, ◌∙◌, inl, inr, arith}
 use Rattle.std.specs.Prelude.{All, Contains, Option, None, Some, filter, is_some, nat_le, nat_lt, option_and_then, slice_get, slice_set, unwrap_or}
 use Rattle.std.specs.FinSet.{from_list, union}
 use Rattle.std.specs.List.{cons_option, enumerate_from, list_all, list_any}
@@ -51,7 +51,7 @@ use Rattle.store_core.specs.Store.{kept_by}
 use Rattle.store_core.specs.Valid.{KeptIsValid, LiveFilesAreQueued, QueuedFilesAreLive}
 use Rattle.store_core.proofs.Sound.{IsSoundIn, each_sound}
 use Rattle.engine_change.specs.Committing.{AreEventsUpTo, HasTexts, identity_of}
-use Rattle.engine_change.specs.Expiring.{AscendingStay, ExpiriesAreSteps, HaveContents, HeldContentsAreRead, StandsForItsBytes, LeavesExpired, MayExpireIn, expiring_files, expiry_draft, expiry_event, expiry_events}
+use Rattle.engine_change.specs.Expiring.{AscendingStay, ExpiriesAreSteps, HaveContents, HeldContentsAreRead, StandsForItsBytes, LeavesExpired, MayExpireIn, expiring_files, expiry_draft, expiry_events}
 use Rattle.engine_change.proofs.Each.{all_from_each, each_from_all, each_made}
 use Rattle.engine_change.proofs.Fits.{AreFew, FitsAsAny, have_blocks}
 
@@ -461,35 +461,6 @@ pub record IsTold (component : List ℕ) (moment : ℕ) (k : Kept) (numbers : Li
   pub counted : last ≡ k.last_event + done
   pub active : moves.are_all_active k.files (drop done numbers) ≡ true
   pub whole : told ++ expiry_events component moment k last (drop done numbers) ≡ expiry_events component moment k k.last_event numbers
-
-pub told_none : (component : List ℕ) (moment : ℕ) (k : Kept) (numbers : List ℕ) → moves.are_all_active k.files numbers ≡ true → IsTold component moment k numbers 0 k.last_event []
-told_none component moment k numbers are = record { counted = omega arith; active = are; whole = refl }
-
--- the next number is that of a live file
-pub next_live : (component : List ℕ) (moment : ℕ) (k : Kept) (numbers : List ℕ) (done last number : ℕ) (told : List Event) → IsTold component moment k numbers done last told
-    → drop done numbers ≡ number ∷ drop (done + 1) numbers → is_some (active_of number k.files) ≡ true
-next_live component moment k numbers done last number told is next =
-    (and_parts (is_some (active_of number k.files)) (moves.are_all_active k.files (drop (done + 1) numbers)) (ap (moves.are_all_active k.files) (sym next) ∙ is.active)).0
-
-pub told_next : (component : List ℕ) (moment : ℕ) (k : Kept) (numbers : List ℕ) (done last number : ℕ) (told : List Event) (a : ActiveFile) → IsTold component moment k numbers done last told
-    → drop done numbers ≡ number ∷ drop (done + 1) numbers → active_of number k.files ≡ Some a
-    → IsTold component moment k numbers (done + 1) (last + 1) (told ++ expiry_event component moment a (last + 1) ∷ [])
-told_next component moment k numbers done last number told a is next found =
-    let rest = expiry_events component moment k (last + 1) (drop (done + 1) numbers) in
-    record {
-      counted = let before = is.counted in omega (arith, before);
-      active = (and_parts (is_some (active_of number k.files)) (moves.are_all_active k.files (drop (done + 1) numbers)) (ap (moves.are_all_active k.files) (sym next) ∙ is.active)).1;
-      whole =
-          append_assoc told (expiry_event component moment a (last + 1) ∷ []) rest
-          ∙ sym (ap (λ (o : Option ActiveFile). told ++ numbered_from (last + 1) (map (expiry_draft component moment) (cons_option o (expiring_files k (drop (done + 1) numbers))))) found)
-          ∙ sym (ap (λ (ns : List ℕ). told ++ expiry_events component moment k last ns) next)
-          ∙ is.whole;
-    }
-
-pub told_all : (component : List ℕ) (moment : ℕ) (k : Kept) (numbers : List ℕ) (done last : ℕ) (told : List Event) → IsTold component moment k numbers done last told → drop done numbers ≡ []
-    → told ≡ expiry_events component moment k k.last_event numbers
-told_all component moment k numbers done last told is none =
-    sym (append-nil told) ∙ sym (ap (λ (ns : List ℕ). told ++ expiry_events component moment k last ns) none) ∙ is.whole
 
 -- ---- contents that are held
 
