@@ -12,6 +12,7 @@ use Rattle.machine_model.specs.Changing.{HaveDigests, state_after}
 use Rattle.machine_model.specs.State.{Machine}
 use Rattle.machine_model.specs.Stepping.{step, without_name}
 use Rattle.machine_model.specs.Valid.{IsValid}
+use Rattle.engine_change.specs.Committing.{TellsOfSession}
 use Rattle.engine_choice.specs.Choice.{coming_of}
 use Rattle.engine_session.specs.Handing.{AreTaken}
 use Rattle.run_law.specs.Journal.{inbox_left}
@@ -19,8 +20,10 @@ use Rattle.run_law.specs.Puts.{IsPutBy, Outgoing}
 use Rattle.run_law.specs.Run.{IsPutStep, IsStateOf}
 use Rattle.run_law.specs.Turns.{ComesNext}
 use Rattle.engine_session.specs.Job.{JobStandsIn}
+use Rattle.engine_session.specs.Sending.{sending_of}
 use Rattle.engine_session.specs.declared.change.Changed.{Changed}
 use Rattle.engine_session.specs.declared.change.Sending.{Sending}
+use Rattle.engine_session.specs.declared.done.Done.{Done}
 use Rattle.engine_session.specs.declared.job.Job.{Job}
 
 -- an outbox once this was sent: it stands there, and was put
@@ -52,6 +55,12 @@ step_of job = Session job.processor job.numbers job.given.moment (without_bytes 
 abbrev pub IsSentBy : Flow → Machine → Step → Option Sending → Type 0
 IsSentBy flow before one None = ⊤
 IsSentBy flow before one (Some sending) = IsPutStep flow before one sending.name
+
+-- It tells of the session of this work, and what is sent is what the processor sent, with the bytes of the first file
+-- that it took.
+pub record TellsOfWork (done : Done) (changed : Changed) : Type 0 where
+  pub session : TellsOfSession done.processor done.given.moment done.files changed.settled
+  pub sending : changed.sending ≡ sending_of done.outcome.sent done.sources
 
 -- It is the step that comes next. Behind it the state is that behind the change; the inbox has lost the file that the
 -- session was given, if one, and the outbox has what it sends.

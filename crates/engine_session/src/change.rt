@@ -7,7 +7,7 @@ ghost use Rattle.store_core.specs.Change.{HasLiveContents, MayChange};
 ghost use Rattle.store_core.specs.Flow.{flow_in};
 ghost use Rattle.store_core.specs.Store.{kept_by};
 ghost use Rattle.engine_change.specs.Committing.{identity_of};
-ghost use Rattle.engine_session.specs.Change.{MakesStep, TellsDigests};
+ghost use Rattle.engine_session.specs.Change.{MakesStep, TellsDigests, TellsOfWork};
 ghost use Rattle.engine_session.specs.Done.{IsWorkOn};
 ghost use Rattle.engine_session.specs.Job.{MayHand};
 ghost use Rattle.engine_session.specs.declared.job.Job.{Job as TheJob};
@@ -58,8 +58,8 @@ pub fn session_change(
     ensures live { IfOk result (λ changed. HasLiveContents store.now changed.settled) }
     ensures gone { IfOk result (λ changed.
         are_active_in (kept_by store.now).files changed.connection changed.settled.gone ≡ true) }
-    // It sends what its processor did, with the bytes of the first file that it took.
-    ensures sending { IfOk result (λ changed. changed.sending ≡ sending_of done.outcome.sent done.sources) }
+    // It tells of this session, and sends what its processor did.
+    ensures tells { IfOk result (TellsOfWork done) }
     // It is a step of the machine.
     ensures step { IfOk result (λ changed. (job : TheJob) → MayHand flow.now (kept_by store.now) job
         → IsWorkOn flow.now (kept_by store.now).store job done

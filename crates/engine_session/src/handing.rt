@@ -1,6 +1,5 @@
 //! What a session is handed of the files that a store keeps.
-ghost use Rattle.machine_model.specs.Placing.{uuid_text};
-ghost use Rattle.std.specs.Prelude.{◌≡◌, length, IfOk};
+ghost use Rattle.std.specs.Prelude.{◌≡◌, IfOk};
 ghost use Rattle.store_core.specs.Store.{kept_by};
 ghost use Rattle.engine_session.specs.Handing.{files_fit_a_content, live_among, live_files, taken_as, taken_with_contents};
 

@@ -1,4 +1,7 @@
+use Rattle.std.proofs.Common.{map, ap, ◌∙◌}
+use Rattle.settlement.specs.declared.handed.Ended.{Ended}
 use Rattle.store_core.specs.Store.{kept_by}
+use Rattle.engine_session.specs.Sending.{sending_of}
 use Rattle.engine_session.proofs.SessionSteps.{Laws, makes_step_on, may_settle_on, tells_digests_on}
 use Rattle.engine_session.proofs.change.session_change.Goals as goal
 
@@ -7,6 +10,20 @@ settle_session-requires-clause-may c =
     may_settle_on c.args.flow.now (kept_by c.args.store.now) c.requires.done.0 c.args.done c.end_session-ended.result c.take_sending.new.ended c.requires.sound c.state-stored.ensures.consistent c.requires.done.1 c.requires.done.2
     c.end_session-ended.ensures.is c.in_ok-sending.ensures.left
     c.taken_files_are_handed.ensures.may c.taken_files_are_handed.ensures.machine c.end_session-ended.ensures.may
+
+pub returns-clause-tells : goal.returns-clause-tells
+returns-clause-tells c =
+    let session = c.in_ok-settled.ensures.tells in
+    let is = c.end_session-ended.ensures.is in
+    let left = c.in_ok-sending.ensures.left in
+    record {
+      session = record {
+        processor = session.processor ∙ ap (λ (e : Ended). e.processor) left ∙ ap (λ (e : Ended). e.processor) is;
+        moment = session.moment;
+        gone = session.gone ∙ ap (λ (e : Ended). map (λ file. file.number) e.taken) left ∙ ap (λ (e : Ended). map (λ file. file.number) e.taken) is;
+      };
+      sending = c.in_ok-sending.ensures.is ∙ ap (λ (e : Ended). sending_of e.outcome.sent e.sources) is;
+    }
 
 pub returns-clause-step : goal.returns-clause-step
 returns-clause-step c job hand work =
