@@ -9,12 +9,11 @@ use Rattle.kept_state.specs.Fits.{are_active_in}
 use Rattle.kept_state.specs.declared.limit.Limit.{Limit as TheLimit}
 use Rattle.machine_model.specs.Changing.{HaveDigests}
 use Rattle.machine_model.specs.State.{Machine}
-use Rattle.machine_model.specs.declared.flow.Flow.{Flow}
 use Rattle.machine_model.specs.declared.journal.Step.{Step}
 use Rattle.store_core.specs.Change.{HasLiveContents, MayChange}
 use Rattle.store_core.specs.Store.{StoreState, kept_by}
 use Rattle.run_law.specs.Puts.{Outgoing, Start}
-use Rattle.run_law.specs.Work.{IsReadDamaged}
+use Rattle.run_law.specs.Work.{DoesNotTell}
 use Rattle.engine_session.specs.Sending.{sending_of}
 use Rattle.engine_session.specs.declared.change.Changed.{Changed}
 use Rattle.engine_session.specs.declared.done.Done.{Done}
@@ -39,13 +38,11 @@ pub record IsReread {D A : Type 0} (result : Result A EngineError) (held : D →
   pub inbox : now_left ≡ left
   pub outbox : now_out ≡ out
 
--- It meets no limit, a store that works is asked, and damage is that of a live content, on a disk that doesn't tell.
-pub record FailsToReread {D A : Type 0} (result : Result A EngineError) (flow : Flow) (tells : Bool) (held : D → Files)
-    (moment : D → ℕ) (images : D → ℕ → Files → Type 0) (lot : ℕ) (disk : D) : Type 0 where
+-- It meets no limit, a store that works is asked, and damage is answered only on a disk that doesn't tell.
+pub record FailsToReread {A : Type 0} (result : Result A EngineError) (tells : Bool) : Type 0 where
   pub unlimited : (limit : TheLimit) → IsErrOf result (Limit limit) → ⊥
   pub works : IsErrOf result MustReopen → ⊥
-  pub damaged : (damage : Damage) → IsErrOf result (Damaged damage)
-      → IsReadDamaged flow tells held moment images lot disk
+  pub damaged : (damage : Damage) → IsErrOf result (Damaged damage) → DoesNotTell tells
 
 -- ---- the change is written
 

@@ -8,7 +8,7 @@ use Rattle.machine_model.specs.declared.flow.Flow.{Flow}
 use Rattle.machine_model.specs.declared.journal.Entry.{Entry}
 use Rattle.store_core.specs.Store.{StoreState}
 use Rattle.run_law.specs.Ending.{journal_full}
-use Rattle.run_law.specs.Work.{IsAtWork, IsReadDamaged, IsRefused}
+use Rattle.run_law.specs.Work.{DoesNotTell, IsAtWork, IsRefused}
 use Rattle.engine_steps.specs.Engine.{EngineState}
 use Rattle.run_law.specs.declared.ended.Ended.{Ended}
 use Rattle.run_law.specs.declared.ended.Ended.TheVariants as ended
@@ -82,16 +82,15 @@ pub record IsJournalFull (limit : TheLimit) (most : ℕ) (journal : List Entry) 
   pub told : limit ≡ journal_full most
   pub full : most ≤ length journal
 
--- A limit is one that a store at work refused a change by, or that of a full journal. Damage is that of a live content,
--- on a disk that doesn't tell.
+-- A limit is one that a store at work refused a change by, or that of a full journal. Damage is answered only on a disk
+-- that doesn't tell.
 pub record HasCause {D A : Type 0} (result : Result A EngineError) (flow : Flow) (tells : Bool) (held : D → Files)
-    (moment : D → ℕ) (images : D → ℕ → Files → Type 0) (lot most : ℕ) (journal : List Entry) (s : StoreState) (new : D)
+    (moment : D → ℕ) (images : D → ℕ → Files → Type 0) (most : ℕ) (journal : List Entry) (s : StoreState) (new : D)
     : Type 0 where
   pub limited : (limit : TheLimit) → IsErrOf result (Limit limit)
       → IsRefused flow tells held moment images limit s new
       ⊎ (IsJournalFull limit most journal × IsAtWork flow tells held moment images s new)
-  pub damaged : (damage : Damage) → IsErrOf result (Damaged damage)
-      → IsReadDamaged flow tells held moment images lot new
+  pub damaged : (damage : Damage) → IsErrOf result (Damaged damage) → DoesNotTell tells
 
 -- How `tend` refuses: so, and by the disk, for want of memory, or by a limit.
 pub record RefusesToTend {D A : Type 0} (result : Result A EngineError) (tells : Bool) (held : D → Files) (moment : D → ℕ)
@@ -105,15 +104,13 @@ pub record RefusesToTend {D A : Type 0} (result : Result A EngineError) (tells :
       × IsAtWork e_old.flow tells held moment images e_new.store new)
   pub disk : CountsFaults (faults old) (faults new) (IsErrOf result Disk)
 
--- How `read` refuses: so, by no limit, by damage that a live content has on a disk that doesn't tell, and by a device only
--- where it failed.
+-- How `read` refuses: so, by no limit, by damage only on a disk that doesn't tell, and by a device only where it failed.
 pub record EngineRefusesToRead {D I O A : Type 0} (result : Result A EngineError) (tells : Bool) (held : D → Files)
     (moment : D → ℕ) (images : D → ℕ → Files → Type 0) (faults : D → ℕ) (in_faults : I → ℕ) (out_faults : O → ℕ)
     (e_old e_new : EngineState) (old new : D) (in_old in_new : I) (out_old out_new : O) : Type 0 where
   pub reopen : Reopens {W = D × I × O} result e_old e_new (old, in_old, out_old) (new, in_new, out_new)
   pub unlimited : (limit : TheLimit) → IsErrOf result (Limit limit) → ⊥
-  pub damaged : (damage : Damage) → IsErrOf result (Damaged damage)
-      → IsReadDamaged e_old.flow tells held moment images e_old.store.lot new
+  pub damaged : (damage : Damage) → IsErrOf result (Damaged damage) → DoesNotTell tells
   pub devices : CountsEachFault result (faults old) (faults new) (in_faults in_old) (in_faults in_new)
       (out_faults out_old) (out_faults out_new)
 
@@ -122,7 +119,6 @@ pub record RefusesToCommit {D I O A : Type 0} (result : Result A EngineError) (t
     (moment : D → ℕ) (images : D → ℕ → Files → Type 0) (faults : D → ℕ) (in_faults : I → ℕ) (out_faults : O → ℕ)
     (e_old e_new : EngineState) (old new : D) (in_old in_new : I) (out_old out_new : O) : Type 0 where
   pub reopen : Reopens {W = D × I × O} result e_old e_new (old, in_old, out_old) (new, in_new, out_new)
-  pub why : HasCause result e_old.flow tells held moment images e_old.store.lot e_old.most e_new.journal e_new.store
-      new
+  pub why : HasCause result e_old.flow tells held moment images e_old.most e_new.journal e_new.store new
   pub devices : CountsEachFault result (faults old) (faults new) (in_faults in_old) (in_faults in_new)
       (out_faults out_old) (out_faults out_new)

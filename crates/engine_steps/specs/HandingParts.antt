@@ -9,19 +9,18 @@ use Rattle.kept_state.specs.declared.limit.Limit.{Limit as TheLimit}
 use Rattle.machine_model.specs.declared.flow.Flow.{Flow}
 use Rattle.store_core.specs.Store.{StoreState}
 use Rattle.run_law.specs.Puts.{outgoing}
-use Rattle.run_law.specs.Work.{IsAtWork, IsReadDamaged}
+use Rattle.run_law.specs.Work.{DoesNotTell}
 use Rattle.engine_steps.specs.Errors.{IsReadBy}
 use Rattle.engine_steps.specs.declared.error.EngineError.{EngineError}
 use Rattle.engine_steps.specs.declared.error.EngineError.TheVariants.{Damaged, Disk, Inbox, Outbox, Limit, MustReopen}
 
 -- Contents were read by a store that works: nothing is written, and the store has failed only where the disk did.
--- Damage is that of a live content, on a disk that doesn't tell; the disk's error is answered only where it failed.
+-- Damage is answered only on a disk that doesn't tell, and the disk's error only where it failed.
 pub record ReadsContents {D A : Type 0} (result : Result A EngineError) (tells : Bool) (held : D → Files)
     (moment : D → ℕ) (images : D → ℕ → Files → Type 0) (faults : D → ℕ) (s t : StoreState) (old new : D) : Type 0 where
   pub store : IsReadBy result s t
   pub stays : Stays held moment images old new
-  pub damaged : (damage : Damage) → IsErrOf result (Damaged damage) → (flow : Flow)
-      → IsAtWork flow tells held moment images s old → IsReadDamaged flow tells held moment images s.lot new
+  pub damaged : (damage : Damage) → IsErrOf result (Damaged damage) → DoesNotTell tells
   pub cause : CountsFaults (faults old) (faults new) (IsErrOf result Disk)
 
 -- The inbox has what it had, and its error is answered only where it failed.

@@ -24,5 +24,4 @@ pub record LeavesEngine {D A : Type 0} (result : Result A EngineError) (tells : 
   pub left : IsTrue in_tells → AreTakeable files e_new.listing.names
   pub works : IsErrOf result MustReopen → ⊥
   pub failed : e_new.failed ≡ true → IsErrOf result Outbox
-  pub why : HasCause result e_old.flow tells held moment images e_old.store.lot e_old.most e_new.journal e_new.store
-      disk
+  pub why : HasCause result e_old.flow tells held moment images e_old.most e_new.journal e_new.store disk

@@ -22,7 +22,7 @@ ghost use Rattle.engine_steps.specs.Errors.{CountsEachFault, HasCause, IsReadBy,
 ghost use Rattle.engine_steps.specs.Journal.{journaled};
 ghost use Rattle.engine_steps.specs.Ready.{EngineIsReady, IsUsableWith};
 ghost use Rattle.engine_steps.specs.Running.{CommitsRun, IsRunning, Stops};
-ghost use Rattle.run_law.specs.Work.{IsReadDamaged, WritesLog};
+ghost use Rattle.run_law.specs.Work.{DoesNotTell, WritesLog};
 ghost use Rattle.engine_steps.specs.declared.error.EngineError.{EngineError as TheError};
 ghost use Rattle.run_law.specs.Puts.{Start, outgoing};
 
@@ -153,8 +153,7 @@ impl Engine<'_> {
         ensures reread { IsReread result D.held D.moment D.images self.old self.new disk.old disk.new
             (I.left inbox.old) (I.left inbox.new) (outgoing O.standing O.puts outbox.old)
             (outgoing O.standing O.puts outbox.new) }
-        ensures refusal { FailsToReread result self.old.flow D.tells D.held D.moment D.images self.old.store.lot
-            disk.new }
+        ensures refusal { FailsToReread result D.tells }
         ensures cause { CountsEachFault result (D.faults disk.old) (D.faults disk.new)
             (I.faults inbox.old) (I.faults inbox.new) (O.faults outbox.old) (O.faults outbox.new) }
     {

@@ -19,7 +19,7 @@ ghost use Rattle.engine_steps.specs.Errors.{CountsEachFault, IsReadBy, OnlyReads
 ghost use Rattle.engine_steps.specs.Handing.{JobIsHanded, IsHandedAs, MayBeReceived, MayBeTaken};
 ghost use Rattle.engine_steps.specs.NextJob.{IsNextJob};
 ghost use Rattle.engine_steps.specs.Ready.{EngineIsReady, IsUsableWith};
-ghost use Rattle.run_law.specs.Work.{IsAtWork, IsReadDamaged};
+ghost use Rattle.run_law.specs.Work.{DoesNotTell, IsAtWork};
 ghost use Rattle.run_law.specs.Puts.{outgoing};
 ghost use Rattle.engine_steps.specs.HandingParts.{AsksInbox, AsksOutbox, LeavesAsRead, ReadsContents};
 

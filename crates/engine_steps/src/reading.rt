@@ -10,7 +10,7 @@ ghost use Rattle.machine_model.specs.declared.flow.Flow.{Flow as TheFlow};
 ghost use Rattle.store_core.specs.Store.{live_in};
 ghost use Rattle.engine_steps.specs.Errors.{IsReadBy};
 ghost use Rattle.engine_steps.specs.Handing.{HaveRead};
-ghost use Rattle.run_law.specs.Work.{IsAtWork, IsReadDamaged};
+ghost use Rattle.run_law.specs.Work.{DoesNotTell, IsAtWork};
 ghost use Rattle.engine_steps.specs.HandingParts.{ReadsContents};
 
 use crate::EngineError;
@@ -126,7 +126,7 @@ fn read_content<D: Disk>(
     requires work { (flow : TheFlow) × IsAtWork flow D.tells D.held D.moment D.images store.old disk.old }
     requires live { Contains (live_in store.old) at.now }
     ensures read { IfOk result (λ bytes. IsRead D.tells (D.held disk.old) at.now bytes.items) }
-    ensures undamaged { (damage : TheDamage) → IsErrOf result (EngineError.Damaged damage) → IsTrue D.tells → ⊥ }
+    ensures undamaged { (damage : TheDamage) → IsErrOf result (EngineError.Damaged damage) → DoesNotTell D.tells }
     ensures store { IsReadBy result store.old store.new }
     ensures stays { Stays D.held D.moment D.images disk.old disk.new }
     ensures kinds { IfErr result (λ error. (error ≡ EngineError.Disk) ⊎ (error ≡ EngineError.Memory)

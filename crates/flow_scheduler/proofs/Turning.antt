@@ -16,7 +16,6 @@ use Rattle.engine_choice.specs.declared.choice.Taking.TheVariants as taking
 use Rattle.run_law.specs.Ending.{journal_full}
 use Rattle.run_law.specs.Laws.{NextStepsAreInTurn, SparedRunsGoOn}
 use Rattle.run_law.specs.Turns.{ComesNext}
-use Rattle.run_law.specs.Work.{IsReadDamaged}
 use Rattle.engine_steps.specs.Engine.{EngineState, IsOfSameRun}
 use Rattle.engine_steps.specs.Errors.{CountsEachFault, OnlyReads, Reopens}
 use Rattle.engine_steps.specs.Handing.{JobIsHanded}
@@ -116,13 +115,6 @@ module _ {D : Type 0} (tells : Bool) (held : D → Files) (moment : D → ℕ) (
             met = inr (ap journal_full (sym full));
           };
         }
-
--- ---- damage of a later state of the same run
-
-module _ {D : Type 0} (tells : Bool) (held : D → Files) (moment : D → ℕ) (images : D → ℕ → Files → Type 0) where
-  pub damaged_by : (flow other : Flow) (lot other_lot : ℕ) (disk : D) → other ≡ flow → other_lot ≡ lot → IsReadDamaged other tells held moment images other_lot disk → IsReadDamaged flow tells held moment images lot disk
-  damaged_by flow other lot other_lot disk flow_is lot_is damaged =
-      subst (λ (f : Flow). IsReadDamaged f tells held moment images lot disk) flow_is (subst (λ (n : ℕ). IsReadDamaged other tells held moment images n disk) lot_is damaged)
 
 -- ---- a session's moment
 

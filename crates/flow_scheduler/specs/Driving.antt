@@ -30,8 +30,7 @@ pub record LeavesRun {D A : Type 0} (result : Result A EngineError) (tells : Boo
   pub works : IsErrOf result MustReopen → ⊥
   pub same : IsOfSameRun e_old e_new
   pub alone : WritesLog moment images e_old.store.log.number old new
-  pub why : HasCause result e_old.flow tells held moment images e_old.store.lot e_old.most e_new.journal e_new.store
-      new
+  pub why : HasCause result e_old.flow tells held moment images e_old.most e_new.journal e_new.store new
 
 -- a turn's journal has one entry more at most, of a step that was made at this moment
 abbrev pub GrowsAt : (moment : ℕ) → (old new : List Entry) → Type 0

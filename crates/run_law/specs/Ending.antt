@@ -9,7 +9,7 @@ use Rattle.machine_model.specs.declared.flow.Flow.{Flow}
 use Rattle.run_law.specs.declared.ended.Ended.{Ended}
 use Rattle.run_law.specs.declared.ended.Ended.TheVariants as ending
 use Rattle.run_law.specs.declared.ended.Fault.TheVariants as fault
-use Rattle.run_law.specs.Work.{IsEndedByLimit, IsReadDamaged, IsShortOn}
+use Rattle.run_law.specs.Work.{DoesNotTell, IsEndedByLimit, IsShortOn}
 
 -- the journal has as many entries as it may
 abbrev pub journal_full : (most : ℕ) → Limit
@@ -41,12 +41,12 @@ pub record EndsOnFaults (ended : Ended) (disk_old disk_new inbox_old inbox_new o
   pub inbox : CountsFaults inbox_old inbox_new (ended ≡ ending.Fault fault.Inbox)
   pub outbox : CountsFaults outbox_old outbox_new (ended ≡ ending.Fault fault.Outbox)
 
--- Its causes: a limit that was met, damage that a content has, and a device's fault only where it was counted.
+-- Its causes: a limit that was met, damage only on a disk that doesn't tell, and a device's fault only where it was
+-- counted.
 pub record EndsForCause {D : Type 0} (ended : Ended) (flow : Flow) (tells : Bool) (held : D → Files) (moment : D → ℕ)
     (images : D → ℕ → Files → Type 0) (faults : D → ℕ) (lot most : ℕ) (old new : D)
     (inbox_old inbox_new outbox_old outbox_new : ℕ) : Type 0 where
   pub limited : (limit : Limit) → ended ≡ ending.Limit limit
       → IsLimitMet flow tells held moment images lot (moment old) most limit new
-  pub damaged : (damage : Damage) → ended ≡ ending.Fault (fault.Damaged damage)
-      → IsReadDamaged flow tells held moment images lot new
+  pub damaged : (damage : Damage) → ended ≡ ending.Fault (fault.Damaged damage) → DoesNotTell tells
   pub faults_counted : EndsOnFaults ended (faults old) (faults new) inbox_old inbox_new outbox_old outbox_new

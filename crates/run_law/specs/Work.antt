@@ -1,11 +1,10 @@
 -- A store at work for a flow, and what its calls leave on any disk.
-use Rattle.std.specs.Prelude.{◌≡◌, ◌⊎◌, ℕ, ◌≤◌, ◌<◌, Bool, false, IsTrue, Contains, [], length, Option, Some, Ok}
+use Rattle.std.specs.Prelude.{◌≡◌, ◌⊎◌, ℕ, ◌≤◌, ◌<◌, Bool, false, IsTrue, [], length, Option, Some, Ok}
 use Rattle.disk_trait.specs.Files.{Files}
-use Rattle.disk_trait.specs.Images.{After, Since, Stays}
+use Rattle.disk_trait.specs.Images.{After, Since}
 use Rattle.disk_trait.specs.declared.file_name.FileKind.TheVariants.{Claim, Events, Log, Snapshot}
 use Rattle.disk_trait.specs.declared.file_name.FileName.{FileName}
 use Rattle.flowfile_record.specs.declared.change.Settled.{Settled}
-use Rattle.flowfile_record.specs.declared.content.ContentRef.{ContentRef}
 use Rattle.flowfile_wal.specs.Calls.{InEach}
 use Rattle.flowfile_wal.specs.Current.{CurrentLog, current_log}
 use Rattle.kept_state.specs.declared.limit.Limit.{Limit}
@@ -77,18 +76,9 @@ pub record IsRefused {D : Type 0} (flow : Flow) (tells : Bool) (held : D → Fil
   pub may : MayChange (kept_by s) settled
   pub passes : IsLimitOf s settled limit
 
--- A store at work read a live content, and that told damage, as only a disk does that doesn't tell what it holds. Since
--- then the disk is as it was.
-pub record IsReadDamaged {D : Type 0} (flow : Flow) (tells : Bool) (held : D → Files) (moment : D → ℕ)
-    (images : D → ℕ → Files → Type 0) (lot : ℕ) (new : D) : Type 0 where
-  pub at : D
-  pub store : StoreState
-  pub lot_is : store.lot ≡ lot
-  pub work : IsAtWork flow tells held moment images store at
-  pub content : ContentRef
-  pub live : Contains (live_in store) content
-  pub untold : IsTrue tells → ⊥
-  pub stays : Stays held moment images at new
+-- It is a device that doesn't tell what it holds. On a disk that tells, no live content is damaged.
+abbrev pub DoesNotTell : (tells : Bool) → Type 0
+DoesNotTell tells = IsTrue tells → ⊥
 
 -- A store at work refused a change by this limit, from this moment on, and then it was closed: by that only claims
 -- without a live content changed.

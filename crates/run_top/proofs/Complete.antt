@@ -62,7 +62,7 @@ module _ {D I O : Type 0} (flow : Flow) (tells : Bool) (held : D → Files) (mom
       absurd (not_other flow lot (held old) state of other.0 other.1)
   run_completes (Damaged damage) why told state of disk inbox outbox sink = ⊎_elim
       (λ shut. absurd (not_shut flow lot (held old) state of damage (shut.told.found told)))
-      (λ read. absurd (read.read.untold told))
+      (λ read. absurd (read.untold told))
       (why.damaged damage refl)
   run_completes Disk why told state of disk inbox outbox sink = absurd (disk refl)
   run_completes Inbox why told state of disk inbox outbox sink = absurd (inbox refl)

@@ -18,7 +18,7 @@ use Rattle.run_law.specs.Laws.{FailedOpeningsEnd}
 use Rattle.run_law.specs.Puts.{Outgoing, Start}
 use Rattle.run_law.specs.Run.{HasRun, machine_at}
 use Rattle.run_law.specs.Turns.{AreMadeAt}
-use Rattle.run_law.specs.Work.{IsEndedByLimit, IsReadDamaged}
+use Rattle.run_law.specs.Work.{DoesNotTell, IsEndedByLimit}
 use Rattle.run_law.specs.declared.ended.Ended.{Ended}
 use Rattle.run_law.specs.declared.ended.Ended.TheVariants as ending
 use Rattle.run_law.specs.declared.ended.Fault.TheVariants as fault
@@ -154,15 +154,12 @@ module _ {D : Type 0} (tells : Bool) (held : D → Files) (moment : D → ℕ) (
 
   pub ran_why : (ended : Ended) (most : ℕ) {I O : Type 0} (old mid new : D) (inbox_old inbox_new : I) (outbox_old outbox_new : O) → moment old + 1 ≤ moment mid → moment mid ≤ moment new
       → ((limit : Limit) → ended ≡ ending.Limit limit → IsLimitMet flow tells held moment images other (moment mid) most limit new)
-      → ((damage : Damage) → ended ≡ ending.Fault (fault.Damaged damage) → IsReadDamaged flow tells held moment images other new)
+      → ((damage : Damage) → ended ≡ ending.Fault (fault.Damaged damage) → DoesNotTell tells)
       → AnswerHasCause flow (answer_of_end ended) tells held moment images lot most old new inbox_old inbox_new outbox_old outbox_new
   ran_why ended most old mid new inbox_old inbox_new outbox_old outbox_new begun later met damaged = record {
     one_of = end_of_run ended;
     other_flow = λ is. absurd ((of_end ended).other_flow is);
-    damaged = λ damage is. inr (record {
-      opened = omega (arith, begun, later);
-      read = subst (λ (l : ℕ). IsReadDamaged flow tells held moment images l new) same (damaged damage (damaged_end ended damage is));
-    });
+    damaged = λ damage is. inr (record { opened = omega (arith, begun, later); untold = damaged damage (damaged_end ended damage is) });
     limited = λ limit is. record {
       opened = omega (arith, begun, later);
       met = subst (λ (l : ℕ). IsLimitMet flow tells held moment images l (moment old + 1) most limit new) same (met_since most old mid new begun limit (met limit (limit_end ended limit is)));

@@ -23,7 +23,7 @@ use Rattle.run_law.specs.Ending.{IsQuietOrBlocked, IsFault, IsLimitMet}
 use Rattle.run_law.specs.Puts.{Outgoing, Start, outgoing}
 use Rattle.run_law.specs.Run.{HasRun, machine_at}
 use Rattle.run_law.specs.Turns.{AreMadeAt}
-use Rattle.run_law.specs.Work.{IsReadDamaged, IsShortOn, MayWriteFrom}
+use Rattle.run_law.specs.Work.{DoesNotTell, IsShortOn, MayWriteFrom}
 use Rattle.run_law.specs.declared.ended.Ended.{Ended}
 use Rattle.run_law.specs.declared.ended.Ended.TheVariants as ending
 use Rattle.run_law.specs.declared.ended.Fault.{Fault}
@@ -159,11 +159,10 @@ pub record RunHasWritten {D : Type 0} (answer : Answer) (moment : D → ℕ) (im
   pub alone : WritesAlone moment images files old new
   pub short : LeavesShortLog answer moment images checkpoint new
 
--- a live content was read behind the opening's first sync, and that told damage
-pub record IsToldByRead {D : Type 0} (flow : Flow) (tells : Bool) (held : D → Files) (moment : D → ℕ)
-    (images : D → ℕ → Files → Type 0) (lot : ℕ) (old new : D) : Type 0 where
+-- it was told behind the opening's first sync, by a disk that doesn't tell what it holds
+pub record IsToldByRead {D : Type 0} (tells : Bool) (moment : D → ℕ) (old new : D) : Type 0 where
   pub opened : moment old + 1 ≤ moment new
-  pub read : IsReadDamaged flow tells held moment images lot new
+  pub untold : DoesNotTell tells
 
 -- this limit was met behind the opening's first sync
 pub record RunIsLimited {D : Type 0} (flow : Flow) (tells : Bool) (held : D → Files) (moment : D → ℕ)
@@ -181,8 +180,8 @@ IsOfRun Source = ⊥
 IsOfRun Absent = ⊥
 IsOfRun _ = ⊤
 
--- The answer of a flow that was read has its cause: the store that stands is another flow's, its files or a content
--- that was read are damaged, or the limit was met.
+-- The answer of a flow that was read has its cause: the store that stands is another flow's, its files are damaged or,
+-- on a disk that doesn't tell, perhaps a content that was read, or the limit was met.
 pub record AnswerHasCause {D I O : Type 0} (flow : Flow) (answer : Answer) (tells : Bool) (held : D → Files)
     (moment : D → ℕ)
     (images : D → ℕ → Files → Type 0) (lot most : ℕ) (old new : D) (inbox_old inbox_new : I) (outbox_old outbox_new : O)
@@ -192,7 +191,7 @@ pub record AnswerHasCause {D I O : Type 0} (flow : Flow) (answer : Answer) (tell
       → IsToldShut (identity_of flow) answer tells held moment lot old new inbox_old inbox_new outbox_old outbox_new
   pub damaged : (damage : Damage) → answer ≡ Damaged damage
       → IsToldShut (identity_of flow) answer tells held moment lot old new inbox_old inbox_new outbox_old outbox_new
-      ⊎ IsToldByRead flow tells held moment images lot old new
+      ⊎ IsToldByRead tells moment old new
   pub limited : (limit : Limit) → answer ≡ Limited limit
       → RunIsLimited flow tells held moment images lot most limit old new
 

@@ -5,9 +5,7 @@ use Rattle.flowfile_record.specs.declared.flow_file.FlowFile.{FlowFile}
 use Rattle.content_repo.specs.Claims.{content_in}
 use Rattle.store_core.specs.Store.{StoreState, live_in}
 use Rattle.engine_session.specs.Handing.{AreReadOf}
-use Rattle.run_law.specs.Work.{IsAtWork, IsReadDamaged}
 use Rattle.engine_steps.specs.declared.error.EngineError.{EngineError}
-use Rattle.engine_steps.proofs.Commits.{work_read}
 use Rattle.engine_steps.proofs.reading.read_contents.Goals as goal
 
 pub loop-place-init : goal.loop-place-init
@@ -34,14 +32,9 @@ pub returns-in_err-read-clause-contents : goal.returns-in_err-read-clause-conten
 returns-in_err-read-clause-contents g c = record {
   store = search rules;
   stays = search rules;
-  damaged = λ damage is flow work.
-      let D = g.D.Disk in
-      let inv = c.loop-place.invariant in
+  damaged = λ damage is.
       let p = err_from_is_err_and c.from_residual.result c.from_residual.ensures.1 in
       let was : c.in_err-read.field-0.0 ≡ EngineError.Damaged damage = cc (p.1, p.2, is) in
-      let at_work = subst (λ (s : StoreState). IsAtWork flow D.tells D.held D.moment D.images s c.loop-place.disk) (sym inv.same)
-      (work_read flow D.tells D.held D.moment D.images c.args.store.now c.args.disk.now c.loop-place.disk inv.stays work) in
-      subst (λ (s : StoreState). IsReadDamaged flow D.tells D.held D.moment D.images s.lot c.read_next.new.disk) inv.same
-      (c.in_err-read.ensures.contents.damaged damage (ap Err was) flow at_work);
+      c.in_err-read.ensures.contents.damaged damage (ap Err was);
   cause = search rules;
 }

@@ -36,18 +36,9 @@ pub returns-in_err-bytes-in-None-clause-contents : goal.returns-in_err-bytes-in-
 returns-in_err-bytes-in-None-clause-contents g c = record {
   store = search rules;
   stays = search rules;
-  damaged = λ damage is flow work.
+  damaged = λ damage is.
       let p = err_from_is_err_and c.from_residual-in_err-bytes-in-None.result c.from_residual-in_err-bytes-in-None.ensures.1 in
       let was : c.in_err-bytes-in-None.field-0.0 ≡ EngineError.Damaged damage = cc (p.1, p.2, is) in
-      record {
-        at = c.args.disk.now;
-        store = c.args.store.now;
-        lot_is = refl;
-        work = work;
-        content = c.args.file.now.content;
-        live = c.requires.live;
-        untold = c.read_content.ensures.undamaged damage (c.in_err-bytes-in-None.was ∙ ap Err was);
-        stays = c.read_content.ensures.stays;
-      };
+      c.read_content.ensures.undamaged damage (c.in_err-bytes-in-None.was ∙ ap Err was);
   cause = search rules;
 }

@@ -17,7 +17,7 @@ use Rattle.engine_steps.specs.Running.{Stops}
 use Rattle.engine_steps.specs.declared.error.EngineError.{EngineError}
 use Rattle.flow_scheduler.proofs.Closing.{IsNoLimit, begun, by_damage, closes_blocked, closes_limited, closes_quiet, closes_so, ends_on_faults, has_ended, limit_met, limit_of, no_limit_faults, not_opened, run_of, wanted_or_disk, works_at_limit, works_on}
 use Rattle.flow_scheduler.proofs.Growing.{none_made}
-use Rattle.flow_scheduler.proofs.Turning.{damaged_by, each_counts_after}
+use Rattle.flow_scheduler.proofs.Turning.{each_counts_after}
 use Rattle.engine_steps.proofs.Short.{ends_by_error, ends_short, no_rest}
 use Rattle.run_law.proofs.Writing.{same_log, writes_in_turn, writes_none, writes_on}
 use Rattle.flow_scheduler.proofs.Shown.{closes_or_fails, fails_to_open, fails_to_run, none_shown, run_shows}
@@ -255,9 +255,7 @@ returns-in_default g c =
           (writes_none D.moment D.images c.args.store.log.number c.args.disk.now) c.drive.ensures.leaves.alone;
       why = record {
         limited = λ limit ends. absurd (no_limit_faults error none limit (sym so ∙ ends));
-        damaged = λ damage ends.
-            damaged_by D.tells D.held D.moment D.images c.args.flow.now e0.flow c.args.store.lot e0.store.lot c.drive.new.disk is.flow_is (ap (λ (t : StoreState). t.lot) is.store_is)
-            (c.drive.ensures.leaves.why.damaged damage (c.in-Err-drive.is ∙ ap Err (by_damage error damage (sym so ∙ ends))));
+        damaged = λ damage ends. c.drive.ensures.leaves.why.damaged damage (c.in-Err-drive.is ∙ ap Err (by_damage error damage (sym so ∙ ends)));
         faults_counted =
             ends_on_faults c.drive.result error end (D.faults c.args.disk.now) (D.faults c.drive.new.disk) (g.I.Inbox.faults c.args.inbox.now) (g.I.Inbox.faults c.drive.new.inbox) (g.O.Outbox.faults c.args.outbox.now) (g.O.Outbox.faults c.drive.new.outbox)
             c.in-Err-drive.is (λ reopen. c.drive.ensures.leaves.works (c.in-Err-drive.is ∙ ap Err reopen)) so

@@ -14,7 +14,7 @@ returns-else-self g c =
       refusal = record {
         reopen = search rules;
         unlimited = search rules;
-        damaged = λ damage is. c.read_job-job.ensures.leaves.contents.damaged damage is c.args.self.now.flow (c.requires.usable.usable works).work;
+        damaged = λ damage is. c.read_job-job.ensures.leaves.contents.damaged damage is;
         devices = search rules;
       };
     }

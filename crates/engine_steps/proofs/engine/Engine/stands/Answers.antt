@@ -23,5 +23,5 @@ pub returns-in_err-job-clause-refusal : goal.returns-in_err-job-clause-refusal
 returns-in_err-job-clause-refusal g c = record {
   unlimited = search rules;
   works = search rules;
-  damaged = λ damage is. c.in_err-job.ensures.leaves.contents.damaged damage (search rules) c.args.self.now.flow c.requires.ready.work;
+  damaged = λ damage is. c.in_err-job.ensures.leaves.contents.damaged damage (search rules);
 }
