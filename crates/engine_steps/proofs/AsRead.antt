@@ -33,6 +33,7 @@ module _ {A : Type 0} (result : Result A EngineError) where
       by (Err (EngineError.Damaged damage)) is = other (EngineError.Damaged damage) is (λ e. cc)
       by (Err EngineError.Inbox) is = other EngineError.Inbox is (λ e. cc)
       by (Err EngineError.Outbox) is = other EngineError.Outbox is (λ e. cc)
+      by (Err EngineError.Put) is = other EngineError.Put is (λ e. cc)
       by (Err (EngineError.Limit limit)) is = other (EngineError.Limit limit) is (λ e. cc)
       by (Err EngineError.MustReopen) is = other EngineError.MustReopen is (λ e. cc)
       by (Err EngineError.Memory) is = other EngineError.Memory is (λ e. cc)

@@ -127,6 +127,7 @@ module _ (tells : Bool) {D : Type 0} (held : D → Files) (moment : D → ℕ) (
         of EngineError.Disk none = ends fault.Disk
         of EngineError.Inbox none = ends fault.Inbox
         of EngineError.Outbox none = ends fault.Outbox
+        of EngineError.Put none = ends fault.Outbox
         of (EngineError.Limit limit) none = absurd (none limit refl)
         of EngineError.MustReopen none = ends fault.Disk
         of EngineError.Memory none = ends fault.Memory
@@ -164,7 +165,7 @@ module _ (tells : Bool) {D : Type 0} (held : D → Files) (moment : D → ℕ) (
       -- the outbox's at the put, which was tried or left everything as it was
       pub stops_at_put : FaultsEnd tells held moment images → OutboxFaultsEnd tells held moment images → f.journal ≡ e.journal
           → IsSpared e.flow moment images e.store.lot run.reached old new → (now_out : Outgoing) → IsLeftBySend changed.sending out now_out
-          → Stops EngineError.Outbox tells held moment images f opened first start (step_moment one) new left now_out
+          → Stops EngineError.Put tells held moment images f opened first start (step_moment one) new left now_out
       stops_at_put between law journal_is spared now_out is later by = at_put changed.sending s.sent (put_one (with_sending changed.sending out) refl) is
         where
           at_put : (sending : Option Sending) → IsSentBy e.flow run.reached (step_of job) sending → IsPutBy e.flow run.reached one s.after out (with_sending sending out) → IsLeftBySend sending out now_out
@@ -315,12 +316,13 @@ module _ (tells : Bool) {D : Type 0} (held : D → Files) (moment : D → ℕ) (
           stays EngineError.Disk apart = absurd (apart refl)
           stays EngineError.Inbox apart = refl
           stays EngineError.Outbox apart = refl
+          stays EngineError.Put apart = refl
           stays (EngineError.Limit limit) apart = refl
           stays EngineError.MustReopen apart = refl
           stays EngineError.Memory apart = refl
 
       -- where the commit hadn't begun and nothing was put, the run goes on
-      pub goes_on_unwritten : SparedRunsGoOn moment images → f.listing.names ≡ e.listing.names → f.last ≡ e.last → (error ≡ EngineError.Disk → ⊥) → (error ≡ EngineError.Outbox → ⊥)
+      pub goes_on_unwritten : SparedRunsGoOn moment images → f.listing.names ≡ e.listing.names → f.last ≡ e.last → (error ≡ EngineError.Disk → ⊥) → (error ≡ EngineError.Put → ⊥)
           → IsRunning moment images f opened first start (step_moment one) new left now_out
       goes_on_unwritten law names last disk outbox =
           subst (λ (d : D). IsRunning moment images f opened first start (step_moment one) d left now_out) (sym (written.unwritten error is disk).0)
@@ -335,7 +337,7 @@ module _ (tells : Bool) {D : Type 0} (held : D → Files) (moment : D → ℕ) (
             };
           }))
 
-      stops_unwritten : FaultsEnd tells held moment images → IsNoLimit error → (error ≡ EngineError.Disk → ⊥) → (error ≡ EngineError.Outbox → ⊥)
+      stops_unwritten : FaultsEnd tells held moment images → IsNoLimit error → (error ≡ EngineError.Disk → ⊥) → (error ≡ EngineError.Put → ⊥)
           → Stops error tells held moment images f opened first start (step_moment one) new left now_out
       stops_unwritten law none disk outbox =
           subst (λ (d : D). Stops error tells held moment images f opened first start (step_moment one) d left now_out) (sym (written.unwritten error is disk).0)
@@ -349,13 +351,13 @@ module _ (tells : Bool) {D : Type 0} (held : D → Files) (moment : D → ℕ) (
         (subst (λ (lot : ℕ). IsBetween e.flow moment images lot run.reached s.after mid new) same_lot (written.cut_off is e.flow run.reached s.after work holds_there s.state))
         now_out (written.sent_before is out_telling)
 
-    stops_put : FaultsEnd tells held moment images → OutboxFaultsEnd tells held moment images → (is : result ≡ Err EngineError.Outbox) → (f : EngineState) → f.flow ≡ e.flow → f.store ≡ t → f.journal ≡ journaled result one e.journal
-        → Stops EngineError.Outbox tells held moment images f opened first start (step_moment one) new left now_out
+    stops_put : FaultsEnd tells held moment images → OutboxFaultsEnd tells held moment images → (is : result ≡ Err EngineError.Put) → (f : EngineState) → f.flow ≡ e.flow → f.store ≡ t → f.journal ≡ journaled result one e.journal
+        → Stops EngineError.Put tells held moment images f opened first start (step_moment one) new left now_out
     stops_put between law is f flow_is store_is journal_is =
-        let other : EngineError.Outbox ≡ EngineError.Disk → ⊥ = λ e. cc in
-        subst (λ (d : D). Stops EngineError.Outbox tells held moment images f opened first start (step_moment one) d left now_out) (sym (written.unwritten EngineError.Outbox is other).0)
+        let other : EngineError.Put ≡ EngineError.Disk → ⊥ = λ e. cc in
+        subst (λ (d : D). Stops EngineError.Put tells held moment images f opened first start (step_moment one) d left now_out) (sym (written.unwritten EngineError.Put is other).0)
         (stops_at_put e f opened first start time mid mid left out run flow_is (ap (λ (u : StoreState). u.lot) store_is ∙ lot_now) (content_in (held mid)) job changed s one one_is le between law
-        (unjournaled EngineError.Outbox is f flow_is store_is journal_is other) still now_out (written.put is out_telling))
+        (unjournaled EngineError.Put is f flow_is store_is journal_is other) still now_out (written.put is out_telling))
 
     module _ (turns : NextStepsAreInTurn moment images) (spared : SparedRunsGoOn moment images) (image : images mid (moment mid) (held mid)) (limit : Limit) (f : EngineState)
         (flow_is : f.flow ≡ e.flow) (store_is : f.store ≡ t) (names : f.listing.names ≡ e.listing.names) (last : f.last ≡ e.last) where
@@ -363,7 +365,7 @@ module _ (tells : Bool) {D : Type 0} (held : D → Files) (moment : D → ℕ) (
           → Stops (EngineError.Limit limit) tells held moment images f opened first start (step_moment one) new left now_out
       stops_past is journal_is =
           let other : EngineError.Limit limit ≡ EngineError.Disk → ⊥ = λ e. cc in
-          let another : EngineError.Limit limit ≡ EngineError.Outbox → ⊥ = λ e. cc in
+          let another : EngineError.Limit limit ≡ EngineError.Put → ⊥ = λ e. cc in
           let same = written.unwritten (EngineError.Limit limit) is other in
           subst (λ (d : D). Stops (EngineError.Limit limit) tells held moment images f opened first start (step_moment one) d left now_out) (sym same.0)
           (subst (λ (o : Outgoing). Stops (EngineError.Limit limit) tells held moment images f opened first start (step_moment one) mid left o) (sym (written.unsent (EngineError.Limit limit) is other another))
@@ -378,10 +380,11 @@ module _ (tells : Bool) {D : Type 0} (held : D → Files) (moment : D → ℕ) (
     stops_written between disk outbox turns spared image (EngineError.Damaged damage) is f flow_is store_is journal_is names last =
         stops_unwritten (EngineError.Damaged damage) is f flow_is store_is journal_is between (λ limit e. cc) (λ e. cc) (λ e. cc)
     stops_written between disk outbox turns spared image EngineError.Inbox is f flow_is store_is journal_is names last = stops_unwritten EngineError.Inbox is f flow_is store_is journal_is between (λ limit e. cc) (λ e. cc) (λ e. cc)
+    stops_written between disk outbox turns spared image EngineError.Outbox is f flow_is store_is journal_is names last = stops_unwritten EngineError.Outbox is f flow_is store_is journal_is between (λ limit e. cc) (λ e. cc) (λ e. cc)
     stops_written between disk outbox turns spared image EngineError.MustReopen is f flow_is store_is journal_is names last = stops_unwritten EngineError.MustReopen is f flow_is store_is journal_is between (λ limit e. cc) (λ e. cc) (λ e. cc)
     stops_written between disk outbox turns spared image EngineError.Memory is f flow_is store_is journal_is names last = stops_unwritten EngineError.Memory is f flow_is store_is journal_is between (λ limit e. cc) (λ e. cc) (λ e. cc)
     stops_written between disk outbox turns spared image EngineError.Disk is f flow_is store_is journal_is names last = stops_cut_off disk is f flow_is (ap (λ (u : StoreState). u.lot) store_is ∙ lot_now) journal_is
-    stops_written between disk outbox turns spared image EngineError.Outbox is f flow_is store_is journal_is names last = stops_put between outbox is f flow_is store_is journal_is
+    stops_written between disk outbox turns spared image EngineError.Put is f flow_is store_is journal_is names last = stops_put between outbox is f flow_is store_is journal_is
     stops_written between disk outbox turns spared image (EngineError.Limit limit) is f flow_is store_is journal_is names last = stops_past turns spared image limit f flow_is store_is names last is journal_is
 
 pub named_so : (o : Option (List ℕ)) → IsSome o → (name : List ℕ) × (o ≡ Some name)

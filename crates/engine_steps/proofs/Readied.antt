@@ -45,6 +45,7 @@ as_many (EngineError.Damaged damage) one journal most apart le = le
 as_many EngineError.Disk one journal most apart le = absurd (apart refl)
 as_many EngineError.Inbox one journal most apart le = le
 as_many EngineError.Outbox one journal most apart le = le
+as_many EngineError.Put one journal most apart le = le
 as_many (EngineError.Limit limit) one journal most apart le = le
 as_many EngineError.MustReopen one journal most apart le = le
 as_many EngineError.Memory one journal most apart le = le

@@ -19,7 +19,7 @@ use Rattle.run_law.specs.declared.ended.Ended.TheVariants as ended
 use Rattle.engine_steps.specs.Errors.{ended_by}
 use Rattle.engine_steps.specs.Ready.{is_log_due}
 use Rattle.engine_steps.specs.declared.error.EngineError.{EngineError}
-use Rattle.engine_steps.specs.declared.error.EngineError.TheVariants.{Damaged, Disk, Inbox, Outbox, Limit, MustReopen, Memory}
+use Rattle.engine_steps.specs.declared.error.EngineError.TheVariants.{Damaged, Disk, Inbox, Outbox, Put, Limit, MustReopen, Memory}
 
 -- ---- of files, by what a store has in memory
 
@@ -76,6 +76,7 @@ not_quiet (Damaged damage) is = cc
 not_quiet Disk is = cc
 not_quiet Inbox is = cc
 not_quiet Outbox is = cc
+not_quiet Put is = cc
 not_quiet (Limit limit) is = cc
 not_quiet MustReopen is = cc
 not_quiet Memory is = cc
@@ -85,6 +86,7 @@ not_blocked (Damaged damage) place is = cc
 not_blocked Disk place is = cc
 not_blocked Inbox place is = cc
 not_blocked Outbox place is = cc
+not_blocked Put place is = cc
 not_blocked (Limit limit) place is = cc
 not_blocked MustReopen place is = cc
 not_blocked Memory place is = cc

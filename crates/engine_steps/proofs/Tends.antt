@@ -92,6 +92,7 @@ journaled_kept (EngineError.Damaged damage) one journal other = refl
 journaled_kept EngineError.Disk one journal other = absurd (other refl)
 journaled_kept EngineError.Inbox one journal other = refl
 journaled_kept EngineError.Outbox one journal other = refl
+journaled_kept EngineError.Put one journal other = refl
 journaled_kept (EngineError.Limit limit) one journal other = refl
 journaled_kept EngineError.MustReopen one journal other = refl
 journaled_kept EngineError.Memory one journal other = refl

@@ -23,22 +23,22 @@ use Rattle.engine_steps.specs.Committing.{HasWritten, IsLeftBySend, with_room}
 use Rattle.engine_steps.specs.Errors.{engine_error}
 use Rattle.engine_session.specs.declared.change.Changed.{Changed}
 use Rattle.engine_steps.specs.declared.error.EngineError.{EngineError}
-use Rattle.engine_steps.specs.declared.error.EngineError.TheVariants.{Disk, Limit, Memory, Outbox}
+use Rattle.engine_steps.specs.declared.error.EngineError.TheVariants.{Disk, Limit, Memory, Put}
 use Rattle.run_law.specs.Puts.{Outgoing}
 use Rattle.engine_steps.proofs.Commits.{work_roomy}
 
 -- the errors that come before the commit
 abbrev pub IsBefore : EngineError → Type 0
-IsBefore error = (error ≡ Memory) ⊎ (error ≡ Outbox) ⊎ ((limit : TheLimit) × (error ≡ Limit limit))
+IsBefore error = (error ≡ Memory) ⊎ (error ≡ Put) ⊎ ((limit : TheLimit) × (error ≡ Limit limit))
 
 not_disk : (error : EngineError) → IsBefore error → error ≡ Disk → ⊥
 not_disk error (inl memory) disk = cc
-not_disk error (inr (inl outbox)) disk = cc
+not_disk error (inr (inl put)) disk = cc
 not_disk error (inr (inr (limit, limited))) disk = cc
 
-before_kinds : (error : EngineError) → IsBefore error → (error ≡ Disk) ⊎ (error ≡ Memory) ⊎ (error ≡ Outbox) ⊎ ((limit : TheLimit) × (error ≡ Limit limit))
+before_kinds : (error : EngineError) → IsBefore error → (error ≡ Disk) ⊎ (error ≡ Memory) ⊎ (error ≡ Put) ⊎ ((limit : TheLimit) × (error ≡ Limit limit))
 before_kinds error (inl memory) = inr (inl memory)
-before_kinds error (inr (inl outbox)) = inr (inr (inl outbox))
+before_kinds error (inr (inl put)) = inr (inr (inl put))
 before_kinds error (inr (inr limited)) = inr (inr (inr limited))
 
 same_error : (one other : EngineError) → ◌≡◌ {A = Result ℕ EngineError} (Err one) (Err other) → one ≡ other
@@ -51,7 +51,7 @@ module _ {D : Type 0} (tells : Bool) (held : D → Files) (moment : D → ℕ) (
 
   -- an error before the commit
   pub unwritten_by : (error : EngineError) → IsBefore error → new ≡ old → t ≡ with_room t.memory.room s → ((flow : Flow) → AreQueuesOf flow (kept_by s) queues → AreQueuesOf flow (kept_by s) now_queues)
-      → ((error ≡ Outbox → ⊥) → now_out ≡ out) → (error ≡ Outbox → IsTrue out_tells → IsLeftBySend changed.sending out now_out)
+      → ((error ≡ Put → ⊥) → now_out ≡ out) → (error ≡ Put → IsTrue out_tells → IsLeftBySend changed.sending out now_out)
       → ((limit : TheLimit) → error ≡ Limit limit → IsLimitOf s changed.settled limit) → (result : Result ℕ EngineError) → result ≡ Err error → Written result
   unwritten_by error before same roomy still unsent put passes result was = subst Written (sym was) (record {
     stepped = tt;
@@ -60,8 +60,8 @@ module _ {D : Type 0} (tells : Bool) (held : D → Files) (moment : D → ℕ) (
     sent = tt;
     sent_before = λ is. absurd (not_disk error before (same_error error Disk is));
     unwritten = λ other is not. (same, roomy);
-    unsent = λ other is not not_outbox. unsent (λ outbox. not_outbox (sym (same_error error other is) ∙ outbox));
-    put = λ is. put (same_error error Outbox is);
+    unsent = λ other is not not_put. unsent (λ put. not_put (sym (same_error error other is) ∙ put));
+    put = λ is. put (same_error error Put is);
     passes = λ limit is. passes limit (same_error error (Limit limit) is);
     kinds = before_kinds error before;
     work = λ not flow queued. record {
@@ -83,7 +83,7 @@ module _ {D : Type 0} (tells : Bool) (held : D → Files) (moment : D → ℕ) (
     sent = tt;
     sent_before = λ is. sent;
     unwritten = λ other is not. absurd (not (sym (same_error Disk other is)));
-    unsent = λ other is not not_outbox. absurd (not (sym (same_error Disk other is)));
+    unsent = λ other is not not_put. absurd (not (sym (same_error Disk other is)));
     put = λ is. absurd cc;
     passes = λ limit is. absurd cc;
     kinds = inl refl;

@@ -22,7 +22,7 @@ use Rattle.engine_steps.specs.declared.commit.Committed.{Committed}
 use Rattle.engine_steps.specs.declared.commit.Committed.TheVariants.{Acked, Changed}
 use Rattle.engine_session.specs.declared.done.Done.{Done}
 use Rattle.engine_steps.specs.declared.error.EngineError.{EngineError}
-use Rattle.engine_steps.specs.declared.error.EngineError.TheVariants.{Disk, Inbox, Outbox, Limit}
+use Rattle.engine_steps.specs.declared.error.EngineError.TheVariants.{Disk, Inbox, Put, Limit}
 use Rattle.engine_session.specs.declared.job.Job.{Job}
 
 -- it is the work on the job that comes next at its moment
@@ -97,12 +97,12 @@ IsInboxLeft (Err Inbox) received old new = (new ≡ old) ⊎ (new ≡ without_re
 IsInboxLeft _ received old new = new ≡ old
 
 -- What the outbox has then of what the session sends: it was put where the session is acknowledged; where disk or inbox
--- failed it may have been; where the outbox failed it may have been tried; and else nothing was.
+-- failed it may have been; where the put failed it may have been tried; and else nothing was.
 abbrev pub IsOutboxBehind : Result Committed EngineError → Option Sending → (old new : Outgoing) → Type 0
 IsOutboxBehind (Ok (Acked entry moment)) sending old new = new ≡ with_sending sending old
 IsOutboxBehind (Err Disk) sending old new = (new ≡ old) ⊎ (new ≡ with_sending sending old)
 IsOutboxBehind (Err Inbox) sending old new = (new ≡ old) ⊎ (new ≡ with_sending sending old)
-IsOutboxBehind (Err Outbox) sending old new = (new ≡ old) ⊎ IsLeftBySend sending old new
+IsOutboxBehind (Err Put) sending old new = IsLeftBySend sending old new
 IsOutboxBehind _ sending old new = new ≡ old
 
 -- Nothing was made of the session: there is no entry, no limit was met, and the store must be opened anew only where it

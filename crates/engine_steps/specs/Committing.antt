@@ -14,7 +14,7 @@ use Rattle.run_law.specs.Run.{StandsFor}
 use Rattle.engine_session.specs.Change.{with_sending}
 use Rattle.engine_session.specs.declared.change.Changed.{Changed}
 use Rattle.engine_steps.specs.declared.error.EngineError.{EngineError}
-use Rattle.engine_steps.specs.declared.error.EngineError.TheVariants.{Disk, Inbox, Outbox, Limit, Memory}
+use Rattle.engine_steps.specs.declared.error.EngineError.TheVariants.{Disk, Inbox, Put, Limit, Memory}
 use Rattle.flow_queue.specs.Queue.{QueueState}
 use Rattle.store_core.specs.Store.{StoreState, kept_by}
 use Rattle.engine_queues.specs.Queues.{AreQueuesOf}
@@ -42,12 +42,12 @@ IsLeftBySend None old new = ⊥
 IsLeftBySend (Some sending) old new = (new ≡ old) ⊎ PutIsTried sending old new
 
 -- What the outbox has where a session that sends this was committed: it was put where the session is acknowledged, or
--- the disk failed behind the put; it was tried where the outbox failed; and else nothing was.
+-- the disk failed behind the put; it was tried where the put failed; and else nothing was.
 abbrev pub IsOutboxLeft : Result ℕ EngineError → Option Sending → (old new : Outgoing) → Type 0
 IsOutboxLeft (Ok moment) sending old new = new ≡ with_sending sending old
 IsOutboxLeft (Err Disk) sending old new = new ≡ with_sending sending old
 IsOutboxLeft (Err Inbox) sending old new = new ≡ with_sending sending old
-IsOutboxLeft (Err Outbox) sending old new = IsLeftBySend sending old new
+IsOutboxLeft (Err Put) sending old new = IsLeftBySend sending old new
 IsOutboxLeft (Err _) sending old new = new ≡ old
 
 -- What is left where a change was sent and committed, and why it wasn't. Any error but the disk's comes before the commit,
@@ -69,11 +69,11 @@ pub record HasWritten {D : Type 0} (result : Result ℕ EngineError) (tells : Bo
   pub sent_before : IsErrOf result Disk → IsTrue out_tells → now_out ≡ with_sending changed.sending out
   pub unwritten : (error : EngineError) → IsErrOf result error → (error ≡ Disk → ⊥)
       → (new ≡ old) × (t ≡ with_room t.memory.room s)
-  pub unsent : (error : EngineError) → IsErrOf result error → (error ≡ Disk → ⊥) → (error ≡ Outbox → ⊥)
+  pub unsent : (error : EngineError) → IsErrOf result error → (error ≡ Disk → ⊥) → (error ≡ Put → ⊥)
       → now_out ≡ out
-  pub put : IsErrOf result Outbox → IsTrue out_tells → IsLeftBySend changed.sending out now_out
+  pub put : IsErrOf result Put → IsTrue out_tells → IsLeftBySend changed.sending out now_out
   pub passes : (limit : TheLimit) → IsErrOf result (Limit limit) → IsLimitOf s changed.settled limit
-  pub kinds : IfErr result (λ error. (error ≡ Disk) ⊎ (error ≡ Memory) ⊎ (error ≡ Outbox)
+  pub kinds : IfErr result (λ error. (error ≡ Disk) ⊎ (error ≡ Memory) ⊎ (error ≡ Put)
       ⊎ ((limit : TheLimit) × (error ≡ Limit limit)))
   pub work : (IsErrOf result Disk → ⊥) → (flow : Flow)
       → IsAtWorkWithQueues flow tells held moment images s queues old

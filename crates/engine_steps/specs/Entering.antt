@@ -24,7 +24,7 @@ use Rattle.engine_steps.specs.Errors.{IsReadBy}
 use Rattle.engine_steps.specs.Journal.{journaled}
 use Rattle.engine_steps.specs.Running.{IsRunning, Stops}
 use Rattle.engine_steps.specs.declared.error.EngineError.{EngineError}
-use Rattle.engine_steps.specs.declared.error.EngineError.TheVariants.{Damaged, Disk, Inbox, Outbox, Limit, MustReopen, Memory}
+use Rattle.engine_steps.specs.declared.error.EngineError.TheVariants.{Damaged, Disk, Inbox, Put, Limit, MustReopen, Memory}
 
 -- ---- the job is read again
 
@@ -38,10 +38,12 @@ pub record IsReread {D A : Type 0} (result : Result A EngineError) (held : D →
   pub inbox : now_left ≡ left
   pub outbox : now_out ≡ out
 
--- It meets no limit, a store that works is asked, and damage is answered only on a disk that doesn't tell.
+-- It meets no limit, a store that works is asked, nothing is put, and damage is answered only on a disk that doesn't
+-- tell.
 pub record FailsToReread {A : Type 0} (result : Result A EngineError) (tells : Bool) : Type 0 where
   pub unlimited : (limit : TheLimit) → IsErrOf result (Limit limit) → ⊥
   pub works : IsErrOf result MustReopen → ⊥
+  pub unput : IsErrOf result Put → ⊥
   pub damaged : (damage : Damage) → IsErrOf result (Damaged damage) → DoesNotTell tells
 
 -- ---- the change is written
@@ -67,7 +69,7 @@ pub record NotesStep (result : Result ℕ EngineError) (one : Step) (old new : E
     failed = new.failed;
     tended = new.tended;
   }
-  pub failed : (new.failed ≡ true) ↔ ((old.failed ≡ true) ⊎ IsErrOf result Outbox)
+  pub failed : (new.failed ≡ true) ↔ ((old.failed ≡ true) ⊎ IsErrOf result Put)
   pub tended : (new.tended ≡ None) ⊎ (IsErrOf result Memory × (new ≡ old))
 
 -- ---- the session is entered

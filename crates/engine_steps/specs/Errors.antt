@@ -18,7 +18,7 @@ use Rattle.store_core.specs.declared.error.StoreError.TheVariants as store
 use Rattle.world_io.specs.declared.error.WorldError.{WorldError}
 use Rattle.world_io.specs.declared.error.WorldError.TheVariants as world
 use Rattle.engine_steps.specs.declared.error.EngineError.{EngineError}
-use Rattle.engine_steps.specs.declared.error.EngineError.TheVariants.{Damaged, Disk, Inbox, Outbox, Limit, MustReopen, Memory}
+use Rattle.engine_steps.specs.declared.error.EngineError.TheVariants.{Damaged, Disk, Inbox, Outbox, Put, Limit, MustReopen, Memory}
 
 -- how a run ends by an error; MustReopen is the first of none
 abbrev pub ended_by : EngineError → Ended
@@ -26,6 +26,7 @@ ended_by (Damaged damage) = ended.Fault (fault.Damaged damage)
 ended_by Disk = ended.Fault fault.Disk
 ended_by Inbox = ended.Fault fault.Inbox
 ended_by Outbox = ended.Fault fault.Outbox
+ended_by Put = ended.Fault fault.Outbox
 ended_by (Limit limit) = ended.Limit limit
 ended_by MustReopen = ended.Fault fault.Disk
 ended_by Memory = ended.Fault fault.Memory
@@ -45,23 +46,25 @@ inbox_error_of world.Failed = Inbox
 inbox_error_of world.Memory = Memory
 
 -- A device's fault count never falls, and its error is answered only where the count rose, or stands at its type's
--- end.
+-- end. The outbox has two: of a question, and of a put.
 pub record CountsEachFault {A : Type 0} (result : Result A EngineError)
     (disk_old disk_new inbox_old inbox_new outbox_old outbox_new : ℕ) : Type 0 where
   pub disk : CountsFaults disk_old disk_new (IsErrOf result Disk)
   pub inbox : CountsFaults inbox_old inbox_new (IsErrOf result Inbox)
   pub outbox : CountsFaults outbox_old outbox_new (IsErrOf result Outbox)
+  pub put : CountsFaults outbox_old outbox_new (IsErrOf result Put)
 
 -- ---- a store that must be opened anew
 
 -- MustReopen comes exactly where the engine's store must be opened anew, and then nothing is done. From Disk on it must
--- be, and from a put that failed.
+-- be, and from a put that failed; from no other answer on, a refused question of the outbox among them.
 pub record Reopens {W A : Type 0} (result : Result A EngineError) (e_old e_new : EngineState) (old new : W) : Type 0
   where
     pub exactly : IsErrOf result MustReopen ↔ (e_old.failed ≡ true)
     pub untouched : e_old.failed ≡ true → (e_new ≡ e_old) × (new ≡ old)
     pub from : IsErrOf result Disk → e_new.failed ≡ true
-    pub only : e_new.failed ≡ true → (e_old.failed ≡ true) ⊎ IsErrOf result Disk ⊎ IsErrOf result Outbox
+    pub from_put : IsErrOf result Put → e_new.failed ≡ true
+    pub only : e_new.failed ≡ true → (e_old.failed ≡ true) ⊎ IsErrOf result Disk ⊎ IsErrOf result Put
 
 -- ---- calls that read
 

@@ -12,7 +12,7 @@ use Rattle.run_law.specs.Puts.{outgoing}
 use Rattle.run_law.specs.Work.{DoesNotTell}
 use Rattle.engine_steps.specs.Errors.{IsReadBy}
 use Rattle.engine_steps.specs.declared.error.EngineError.{EngineError}
-use Rattle.engine_steps.specs.declared.error.EngineError.TheVariants.{Damaged, Disk, Inbox, Outbox, Limit, MustReopen}
+use Rattle.engine_steps.specs.declared.error.EngineError.TheVariants.{Damaged, Disk, Inbox, Outbox, Put, Limit, MustReopen}
 
 -- Contents were read by a store that works: nothing is written, and the store has failed only where the disk did.
 -- Damage is answered only on a disk that doesn't tell, and the disk's error only where it failed.
@@ -29,10 +29,11 @@ pub record AsksInbox {I A : Type 0} (result : Result A EngineError) (left_in : I
   pub left : left_in new ≡ left_in old
   pub cause : CountsFaults (faults old) (faults new) (IsErrOf result Inbox)
 
--- So has the outbox.
+-- So has the outbox, and nothing is put.
 pub record AsksOutbox {O A : Type 0} (result : Result A EngineError) (standing : O → List ℕ → Option (List ℕ))
     (puts : O → List NamedFile) (faults : O → ℕ) (old new : O) : Type 0 where
   pub stands : outgoing standing puts new ≡ outgoing standing puts old
+  pub unput : IsErrOf result Put → ⊥
   pub cause : CountsFaults (faults old) (faults new) (IsErrOf result Outbox)
 
 -- A job was handed out, or was to be: so of the store and of all devices. No limit is met by that, and it isn't refused

@@ -186,7 +186,6 @@ impl Engine<'_> {
             (outgoing O.standing O.puts outbox.new) }
         ensures leaves { LeavesEngine result D.tells D.held D.moment D.images I.tells (I.left inbox.new)
             self.old self.new disk.new }
-        ensures reopens { IsErrOf result EngineError.Outbox → self.new.failed ≡ true }
         ensures alone { CommitsAlone D.moment D.images self.old self.new disk.old disk.new }
         ensures undamaged { (damage : TheDamage) → IsErrOf result (EngineError.Damaged damage) → ⊥ }
         ensures cause { CountsEachFault result (D.faults disk.old) (D.faults disk.new)
@@ -232,7 +231,7 @@ impl Engine<'_> {
         ensures alone { WritesLog D.moment D.images self.old.store.log.number disk.old disk.new }
         ensures disk_cause { CountsFaults (D.faults disk.old) (D.faults disk.new) (IsErrOf result EngineError.Disk) }
         ensures outbox_cause { CountsFaults (O.faults outbox.old) (O.faults outbox.new)
-            (IsErrOf result EngineError.Outbox) }
+            (IsErrOf result EngineError.Put) }
     {
         self.journal.reserve(1)?;
         self.tended = None;
@@ -246,7 +245,7 @@ impl Engine<'_> {
             changed,
         );
         note(&mut self.journal, step, &written);
-        if let Err(EngineError::Outbox) = &written {
+        if let Err(EngineError::Put) = &written {
             self.has_failed = true;
         }
         written

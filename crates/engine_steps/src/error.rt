@@ -19,8 +19,12 @@ pub enum EngineError {
     Disk,
     #[error("the inbox failed")]
     Inbox,
+    /// A question of the outbox failed.
     #[error("the outbox failed")]
     Outbox,
+    /// A put into the outbox failed.
+    #[error("the put into the outbox failed")]
+    Put,
     /// A change would pass a limit, or one entry more that of the journal.
     #[error("{} are wanted, and the limit is {}", .0.wanted, .0.number)]
     Limit(Limit),
@@ -41,7 +45,7 @@ impl EngineError {
             EngineError::Damaged(damage) => Ended::Fault(Fault::Damaged(*damage)),
             EngineError::Disk => Ended::Fault(Fault::Disk),
             EngineError::Inbox => Ended::Fault(Fault::Inbox),
-            EngineError::Outbox => Ended::Fault(Fault::Outbox),
+            EngineError::Outbox | EngineError::Put => Ended::Fault(Fault::Outbox),
             EngineError::Limit(limit) => Ended::Limit(*limit),
             // Its first cause was told before, and ended the run then.
             EngineError::MustReopen => Ended::Fault(Fault::Disk),

@@ -42,8 +42,7 @@ pub(crate) fn commit<D: Disk, O: Outbox>(
         (outgoing O.standing O.puts outbox.new) disk.old disk.new }
     ensures alone { WritesLog D.moment D.images store.old.log.number disk.old disk.new }
     ensures disk_cause { CountsFaults (D.faults disk.old) (D.faults disk.new) (IsErrOf result EngineError.Disk) }
-    ensures outbox_cause { CountsFaults (O.faults outbox.old) (O.faults outbox.new)
-        (IsErrOf result EngineError.Outbox) }
+    ensures outbox_cause { CountsFaults (O.faults outbox.old) (O.faults outbox.new) (IsErrOf result EngineError.Put) }
 {
     holds_its_state(store, disk);
     let Changed {
@@ -63,16 +62,16 @@ pub(crate) fn commit<D: Disk, O: Outbox>(
 fn send<O: Outbox>(outbox: &mut O, sending: &Option<Sending>) -> Result<(), EngineError>
     ensures sent { OnOk result (IsTrue O.tells
         → outgoing O.standing O.puts outbox.new ≡ with_sending sending.now (outgoing O.standing O.puts outbox.old)) }
-    ensures failed { IfErr result (λ error. (error ≡ EngineError.Outbox)
+    ensures failed { IfErr result (λ error. (error ≡ EngineError.Put)
         × (IsTrue O.tells → IsLeftBySend sending.now (outgoing O.standing O.puts outbox.old)
         (outgoing O.standing O.puts outbox.new))) }
-    ensures cause { CountsFaults (O.faults outbox.old) (O.faults outbox.new) (IsErrOf result EngineError.Outbox) }
+    ensures cause { CountsFaults (O.faults outbox.old) (O.faults outbox.new) (IsErrOf result EngineError.Put) }
 {
     let Some(sending) = sending else {
         return Ok(());
     };
     let Ok(()) = outbox.put(&sending.name, sending.bytes.as_slice()) else {
-        return Err(EngineError::Outbox);
+        return Err(EngineError::Put);
     };
     Ok(())
 }

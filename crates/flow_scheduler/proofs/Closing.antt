@@ -38,7 +38,7 @@ use Rattle.flow_scheduler.specs.Driving.{IsEnded}
 use Rattle.engine_steps.specs.Running.{IsLimited, IsRunning, Stops}
 use Rattle.engine_steps.specs.declared.error.EngineError.{EngineError}
 use Rattle.run_law.specs.Puts.{Outgoing, Start}
-use Rattle.engine_steps.specs.declared.error.EngineError.TheVariants.{Damaged, Disk, Inbox, Outbox, Limit, MustReopen, Memory}
+use Rattle.engine_steps.specs.declared.error.EngineError.TheVariants.{Damaged, Disk, Inbox, Outbox, Put, Limit, MustReopen, Memory}
 
 -- ---- the store is closed
 
@@ -73,12 +73,12 @@ still_works : (failed : Bool) → (failed ≡ true → ⊥) → failed ≡ false
 still_works false none = refl
 still_works true none = absurd (none refl)
 
-pub works_at_limit : {A : Type 0} (result : Result A EngineError) (failed : Bool) (limit : TheLimit) → result ≡ Err (Limit limit) → (failed ≡ true → IsErrOf result Disk ⊎ IsErrOf result Outbox) → failed ≡ false
+pub works_at_limit : {A : Type 0} (result : Result A EngineError) (failed : Bool) (limit : TheLimit) → result ≡ Err (Limit limit) → (failed ≡ true → IsErrOf result Disk ⊎ IsErrOf result Put) → failed ≡ false
 works_at_limit {A = A} result failed limit is fails =
     still_works failed (λ so.
     ⊎_elim
     (λ (disk : result ≡ Err Disk). let both : ◌≡◌ {A = Result A EngineError} (Err (Limit limit)) (Err Disk) = sym is ∙ disk in cc)
-    (λ (outbox : result ≡ Err Outbox). let both : ◌≡◌ {A = Result A EngineError} (Err (Limit limit)) (Err Outbox) = sym is ∙ outbox in cc)
+    (λ (put : result ≡ Err Put). let both : ◌≡◌ {A = Result A EngineError} (Err (Limit limit)) (Err Put) = sym is ∙ put in cc)
     (fails so))
 
 -- ---- the ends of a run that goes on, with another state of its engine
@@ -163,6 +163,7 @@ has_ended tells held moment images e opened first now left out start time (Damag
 has_ended tells held moment images e opened first now left out start time Disk none stops = stops time (omega arith)
 has_ended tells held moment images e opened first now left out start time Inbox none stops = stops time (omega arith)
 has_ended tells held moment images e opened first now left out start time Outbox none stops = stops time (omega arith)
+has_ended tells held moment images e opened first now left out start time Put none stops = stops time (omega arith)
 has_ended tells held moment images e opened first now left out start time (Limit limit) none stops = absurd (none limit refl)
 has_ended tells held moment images e opened first now left out start time MustReopen none stops = stops time (omega arith)
 has_ended tells held moment images e opened first now left out start time Memory none stops = stops time (omega arith)
@@ -172,6 +173,7 @@ no_limit_faults (Damaged damage) none limit is = cc
 no_limit_faults Disk none limit is = cc
 no_limit_faults Inbox none limit is = cc
 no_limit_faults Outbox none limit is = cc
+no_limit_faults Put none limit is = cc
 no_limit_faults (Limit other) none limit is = none other refl
 no_limit_faults MustReopen none limit is = cc
 no_limit_faults Memory none limit is = cc
@@ -181,6 +183,7 @@ by_disk (Damaged damage) works is = absurd cc
 by_disk Disk works is = refl
 by_disk Inbox works is = absurd cc
 by_disk Outbox works is = absurd cc
+by_disk Put works is = absurd cc
 by_disk (Limit limit) works is = absurd cc
 by_disk MustReopen works is = absurd (works refl)
 by_disk Memory works is = absurd cc
@@ -190,15 +193,17 @@ by_inbox (Damaged damage) is = absurd cc
 by_inbox Disk is = absurd cc
 by_inbox Inbox is = refl
 by_inbox Outbox is = absurd cc
+by_inbox Put is = absurd cc
 by_inbox (Limit limit) is = absurd cc
 by_inbox MustReopen is = absurd cc
 by_inbox Memory is = absurd cc
 
-pub by_outbox : (error : EngineError) → ended_by error ≡ ended.Fault fault.Outbox → error ≡ Outbox
+pub by_outbox : (error : EngineError) → ended_by error ≡ ended.Fault fault.Outbox → (error ≡ Outbox) ⊎ (error ≡ Put)
 by_outbox (Damaged damage) is = absurd cc
 by_outbox Disk is = absurd cc
 by_outbox Inbox is = absurd cc
-by_outbox Outbox is = refl
+by_outbox Outbox is = inl refl
+by_outbox Put is = inr refl
 by_outbox (Limit limit) is = absurd cc
 by_outbox MustReopen is = absurd cc
 by_outbox Memory is = absurd cc
@@ -208,6 +213,7 @@ by_damage (Damaged other) damage is = let same : fault.Damaged other ≡ fault.D
 by_damage Disk damage is = absurd cc
 by_damage Inbox damage is = absurd cc
 by_damage Outbox damage is = absurd cc
+by_damage Put damage is = absurd cc
 by_damage (Limit limit) damage is = absurd cc
 by_damage MustReopen damage is = absurd cc
 by_damage Memory damage is = absurd cc
@@ -217,7 +223,12 @@ pub ends_on_faults : {A : Type 0} (result : Result A EngineError) (error : Engin
 ends_on_faults result error end disk_old disk_new inbox_old inbox_new outbox_old outbox_new was works is counts = record {
   disk = record { never_falls = counts.disk.never_falls; rose = λ so. counts.disk.rose (was ∙ ap Err (by_disk error works (sym is ∙ so))) };
   inbox = record { never_falls = counts.inbox.never_falls; rose = λ so. counts.inbox.rose (was ∙ ap Err (by_inbox error (sym is ∙ so))) };
-  outbox = record { never_falls = counts.outbox.never_falls; rose = λ so. counts.outbox.rose (was ∙ ap Err (by_outbox error (sym is ∙ so))) };
+  outbox = record {
+    never_falls = counts.outbox.never_falls;
+    rose = λ so. ⊎_elim
+        (λ (question : error ≡ Outbox). counts.outbox.rose (was ∙ ap Err question)) (λ (put : error ≡ Put). counts.put.rose (was ∙ ap Err put))
+        (by_outbox error (sym is ∙ so));
+  };
 }
 
 -- ---- a limit

@@ -13,7 +13,7 @@ use Rattle.engine_steps.specs.declared.commit.Committed.{Committed}
 use Rattle.engine_steps.specs.declared.commit.Committed.TheVariants.{Acked, Changed}
 use Rattle.engine_session.specs.declared.done.Done.{Done}
 use Rattle.engine_steps.specs.declared.error.EngineError.{EngineError}
-use Rattle.engine_steps.specs.declared.error.EngineError.TheVariants.{Damaged, Disk, Inbox, Outbox, Limit, MustReopen, Memory}
+use Rattle.engine_steps.specs.declared.error.EngineError.TheVariants.{Damaged, Disk, Inbox, Outbox, Put, Limit, MustReopen, Memory}
 use Rattle.engine_steps.specs.declared.tending.Tended.{Tended}
 use Rattle.engine_steps.specs.declared.tending.Tended.TheVariants.{Expired, Checkpointed, Reclaimed, Nothing}
 
@@ -36,6 +36,7 @@ tended_grows (Err Disk) moment now old new has = ⊎_elim (λ (same : new.journa
 tended_grows (Err (Damaged damage)) moment now old new has = inl has.0
 tended_grows (Err Inbox) moment now old new has = inl has.0
 tended_grows (Err Outbox) moment now old new has = inl has.0
+tended_grows (Err Put) moment now old new has = inl has.0
 tended_grows (Err (Limit limit)) moment now old new has = inl has.0
 tended_grows (Err MustReopen) moment now old new has = inl has.0
 tended_grows (Err Memory) moment now old new has = inl has.0
@@ -54,6 +55,7 @@ module _ (done : Done) (moment now : ℕ) (at : done.given.moment ≡ moment) (o
   committed_grows (Err Inbox) (inr acked) = with_entry (Some now) acked.journal
   committed_grows (Err (Damaged damage)) has = inl has.0
   committed_grows (Err Outbox) has = inl has.0
+  committed_grows (Err Put) has = inl has.0
   committed_grows (Err (Limit limit)) has = inl has.0
   committed_grows (Err MustReopen) has = inl has.0
   committed_grows (Err Memory) has = inl has.0

@@ -22,7 +22,7 @@ use Rattle.engine_steps.specs.Errors.{ended_by}
 use Rattle.engine_steps.specs.Running.{IsRunningTo}
 use Rattle.engine_steps.specs.declared.close.Closed.{Closed}
 use Rattle.engine_steps.specs.declared.error.EngineError.{EngineError}
-use Rattle.engine_steps.specs.declared.error.EngineError.TheVariants.{Damaged, Disk, Inbox, Outbox, Limit, MustReopen, Memory}
+use Rattle.engine_steps.specs.declared.error.EngineError.TheVariants.{Damaged, Disk, Inbox, Outbox, Put, Limit, MustReopen, Memory}
 use Rattle.flow_scheduler.proofs.Closing.{IsNoLimit}
 use Rattle.flow_scheduler.proofs.Counted.{all_counted}
 
@@ -45,6 +45,7 @@ no_limit_is_fault (Damaged damage) none = tt
 no_limit_is_fault Disk none = tt
 no_limit_is_fault Inbox none = tt
 no_limit_is_fault Outbox none = tt
+no_limit_is_fault Put none = tt
 no_limit_is_fault (Limit limit) none = absurd (none limit refl)
 no_limit_is_fault MustReopen none = tt
 no_limit_is_fault Memory none = tt

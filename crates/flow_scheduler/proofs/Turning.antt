@@ -21,7 +21,7 @@ use Rattle.engine_steps.specs.Errors.{CountsEachFault, OnlyReads, Reopens}
 use Rattle.engine_steps.specs.Handing.{JobIsHanded}
 use Rattle.engine_steps.specs.Running.{IsLimited, IsRunning}
 use Rattle.engine_steps.specs.declared.error.EngineError.{EngineError}
-use Rattle.engine_steps.specs.declared.error.EngineError.TheVariants.{Damaged, Disk, Inbox, Outbox, Limit, MustReopen, Memory}
+use Rattle.engine_steps.specs.declared.error.EngineError.TheVariants.{Damaged, Disk, Inbox, Outbox, Put, Limit, MustReopen, Memory}
 use Rattle.engine_session.specs.declared.job.Job.{Job}
 use Rattle.engine_steps.proofs.Choosing.{HasStep}
 use Rattle.engine_steps.proofs.Goes.{IsNoLimit}
@@ -50,10 +50,10 @@ not_so false works = refl
 pub still_works : {W A : Type 0} (answer : A) (e f : EngineState) (old new : W) → e.failed ≡ false → Reopens (Ok answer) e f old new → f.failed ≡ false
 still_works answer e f old new works reopen = not_so f.failed (λ fails. of (reopen.only fails))
   where
-    of : (e.failed ≡ true) ⊎ IsErrOf (Ok answer) Disk ⊎ IsErrOf (Ok answer) Outbox → ⊥
+    of : (e.failed ≡ true) ⊎ IsErrOf (Ok answer) Disk ⊎ IsErrOf (Ok answer) Put → ⊥
     of (inl before) = true≢false (sym before ∙ works)
     of (inr (inl disk)) = cc
-    of (inr (inr outbox)) = cc
+    of (inr (inr put)) = cc
 
 -- ---- faults are counted
 
@@ -71,6 +71,7 @@ each_counts_after result disk_old disk_mid disk_new inbox_old inbox_mid inbox_ne
   disk = counts_after (IsErrOf result Disk) disk_old disk_mid disk_new disk each.disk;
   inbox = counts_after (IsErrOf result Inbox) inbox_old inbox_mid inbox_new inbox each.inbox;
   outbox = counts_after (IsErrOf result Outbox) outbox_old outbox_mid outbox_new outbox each.outbox;
+  put = counts_after (IsErrOf result Put) outbox_old outbox_mid outbox_new outbox each.put;
 }
 
 -- a call that ended well tells no fault
@@ -80,6 +81,7 @@ no_fault answer disk_old disk_new inbox_old inbox_new outbox_old outbox_new disk
   disk = record { never_falls = disk; rose = λ is below. absurd cc };
   inbox = record { never_falls = inbox; rose = λ is below. absurd cc };
   outbox = record { never_falls = outbox; rose = λ is below. absurd cc };
+  put = record { never_falls = outbox; rose = λ is below. absurd cc };
 }
 
 -- ---- a run is stopped
@@ -145,6 +147,7 @@ read_same {A} result e f reads error is = of error is
     of (Damaged damage) is = parts (reads.unchanged (λ disk. cc))
     of Inbox is = parts (reads.unchanged (λ disk. cc))
     of Outbox is = parts (reads.unchanged (λ disk. cc))
+    of Put is = parts (reads.unchanged (λ disk. cc))
     of (Limit limit) is = parts (reads.unchanged (λ disk. cc))
     of MustReopen is = parts (reads.unchanged (λ disk. cc))
     of Memory is = parts (reads.unchanged (λ disk. cc))

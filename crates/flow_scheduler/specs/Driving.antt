@@ -15,18 +15,18 @@ use Rattle.engine_steps.specs.Errors.{HasCause}
 use Rattle.engine_steps.specs.Leaving.{MayGoOn}
 use Rattle.engine_steps.specs.Running.{IsRunning, IsRunningTo, Stops}
 use Rattle.engine_steps.specs.declared.error.EngineError.{EngineError}
-use Rattle.engine_steps.specs.declared.error.EngineError.TheVariants.{Disk, MustReopen, Outbox}
+use Rattle.engine_steps.specs.declared.error.EngineError.TheVariants.{Disk, MustReopen, Put}
 
 -- ---- whatever the devices tell
 
--- What a call leaves. Where it went well, another may follow. The engine has failed only where the disk or the outbox
--- did, as is answered. The run's constants stay, only what a run writes was written, and each limit and each damage has
+-- What a call leaves. Where it went well, another may follow. The engine has failed only where the disk or a put did, as
+-- is answered. The run's constants stay, only what a run writes was written, and each limit and each damage has
 -- its cause.
 pub record LeavesRun {D A : Type 0} (result : Result A EngineError) (tells : Bool) (held : D → Files) (moment : D → ℕ)
     (images : D → ℕ → Files → Type 0) (in_tells : Bool) (left : List NamedFile) (e_old e_new : EngineState)
     (old new : D) : Type 0 where
   pub may : OnOk result (MayGoOn tells held moment images in_tells left e_new new)
-  pub failed : e_new.failed ≡ true → IsErrOf result Disk ⊎ IsErrOf result Outbox
+  pub failed : e_new.failed ≡ true → IsErrOf result Disk ⊎ IsErrOf result Put
   pub works : IsErrOf result MustReopen → ⊥
   pub same : IsOfSameRun e_old e_new
   pub alone : WritesLog moment images e_old.store.log.number old new

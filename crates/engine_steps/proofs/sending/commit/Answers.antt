@@ -64,7 +64,7 @@ returns-in_err-send-clause-written g c =
     let out = outgoing g.O.Outbox.standing g.O.Outbox.puts c.args.outbox.now in
     let p = err_from_is_err_and c.from_residual-in_err-send.result c.from_residual-in_err-send.ensures.1 in
     let failed = c.in_err-send.ensures.failed in
-    let outbox : p.0 ≡ EngineError.Outbox = p.2 ∙ failed.0 in
+    let outbox : p.0 ≡ EngineError.Put = p.2 ∙ failed.0 in
     unwritten_by D.tells D.held D.moment D.images g.O.Outbox.tells c.args.store.now c.prepare.new.self c.args.queues.now c.reserve.new.self c.args.changed out (outgoing g.O.Outbox.standing g.O.Outbox.puts c.send.new.outbox) c.args.disk.now c.args.disk.now
     p.0 (inr (inl outbox)) refl c.prepare.ensures.same (λ flow. are_same_queues c.args.queues.now c.reserve.new.self c.reserve.ensures.same flow (kept_by c.args.store.now))
     (λ not. absurd (not outbox)) (λ is. failed.1) (λ limit limited. absurd (cc (outbox, limited)))

@@ -42,6 +42,7 @@ returns-in_err-stands-clause-leaves g c = record {
   left = search rules;
   works = search rules;
   failed = search rules;
+  from_put = search rules;
   why = search rules;
 }
 

@@ -185,7 +185,7 @@ returns-in_err-moment-clause-run g c telling in_telling out_telling =
           let p = err_from_is_err_and c.from_residual-in_err-moment.result c.from_residual-in_err-moment.ensures.1 in
           let was : c.write.result ≡ Err c.in_err-moment.field-0.0 = c.in_err-moment.was in
           let rest = c.write.ensures.noted.rest in
-          let no_put : c.in_err-moment.field-0.0 ≡ EngineError.Outbox → ⊥ = λ put. true≢false (sym (c.write.ensures.noted.failed.1 (inr (was ∙ ap Err put))) ∙ works) in
+          let no_put : c.in_err-moment.field-0.0 ≡ EngineError.Put → ⊥ = λ put. true≢false (sym (c.write.ensures.noted.failed.1 (inr (was ∙ ap Err put))) ∙ works) in
           goes_on_unwritten D.tells D.held D.moment D.images e opened first start time old c.write.new.disk left out (outgoing g.O.Outbox.standing g.O.Outbox.puts c.write.new.outbox) run
           job c.in_ok-changed.changed at.0 (step_done c.args.done) one le e.store c.write.new.self.store e.queues c.write.new.self.queues refl c.requires.may.ready.work
           (subst (λ (u : StoreState). IsStateOf run.reached (content_in (D.held old)) (kept_by u)) (ap (λ (x : EngineState). x.store) c.self.view_is) at.1) g.O.Outbox.tells out_telling c.write.result c.write.ensures.written
@@ -228,6 +228,7 @@ returns-in_err-moment-clause-leaves g c = record {
   left = search rules;
   works = search rules;
   failed = search rules;
+  from_put = search rules;
   why = search rules;
 }
 
@@ -367,6 +368,7 @@ returns-clause-leaves g c = record {
       (subst (λ (files : List NamedFile). AreTakeable files (names_without c.in_ok-received.received c.self-2.inside.listing.names)) (sym (c.in_ok-remove.ensures.removed telling)) before);
   works = search rules;
   failed = search rules;
+  from_put = search rules;
   why = search rules;
 }
 
@@ -415,5 +417,6 @@ returns-in_err-remove-clause-leaves g c = record {
       (c.in_err-remove.ensures.failed.2 telling));
   works = search rules;
   failed = search rules;
+  from_put = search rules;
   why = search rules;
 }
