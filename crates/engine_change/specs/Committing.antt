@@ -1,24 +1,28 @@
 -- What a session asks of a store that it becomes part of, and what it makes of the store's state.
-use Rattle.std.specs.Prelude.{◌≡◌, ◌≢◌, ℕ, ◌<◌, List, length, map, All, Contains, Some, slice_get}
+use Rattle.std.specs.Prelude.{◌≡◌, ◌≢◌, ℕ, ◌+◌, ◌<◌, ◌≤◌, List, length, map, All, Contains, Some, None, slice_get}
 use Rattle.std.specs.List.{AllPairs}
 use Rattle.std.specs.Str.{IsUtf8}
 use Rattle.flowfile_record.specs.Outcome.{IsOutcome}
 use Rattle.flowfile_record.specs.Ranges.{HaveRanges}
+use Rattle.flowfile_record.specs.Shared.{own_bytes}
 use Rattle.flowfile_record.specs.Stored.{Kept}
 use Rattle.flowfile_record.specs.declared.change.Settled.{Settled}
 use Rattle.flowfile_record.specs.declared.content.ContentRef.{ContentRef}
 use Rattle.flowfile_record.specs.declared.event.Event.{Event}
 use Rattle.flowfile_record.specs.declared.flow_file.FlowFile.{FlowFile}
 use Rattle.flowfile_record.specs.declared.limits.TheConstants.{NUMBER_LIMIT}
+use Rattle.flowfile_record.specs.declared.worked.Outcome.{Outcome}
 use Rattle.record_codec.specs.ActiveFile.{active}
 use Rattle.machine_model.specs.declared.flow.Flow.{Flow}
 use Rattle.machine_model.specs.declared.flow.Processor.{Processor}
 use Rattle.machine_model.specs.declared.given.Given.{Given}
 use Rattle.machine_model.specs.Changing.{HaveDigests, state_after}
+use Rattle.machine_model.specs.Placing.{count_made}
 use Rattle.machine_model.specs.Settling.{settle}
 use Rattle.prov_store.specs.State.{AreNumberedFrom}
 use Rattle.settlement.specs.Contents.{IsBodyWithin}
 use Rattle.settlement.specs.Handed.{AreReadSources, ended_session, content_sizes}
+use Rattle.settlement.specs.TellsOf.{BringsWhatWasWritten}
 use Rattle.settlement.specs.declared.handed.Ended.{Ended}
 use Rattle.store_core.specs.Flow as store
 use Rattle.store_core.specs.State.{state_with}
@@ -70,6 +74,13 @@ abbrev pub LeavesDigests : Ended → Settled → Type 0
 LeavesDigests ended settled =
     (contents : ContentRef → List ℕ) → HaveRanges contents → AreReadSources contents ended.taken ended.sources
     → HaveDigests contents settled.placed
+
+-- It brings anew only what its processor wrote: no content that was taken, nor a part of one. A clone, whose number stands
+-- behind those of the made files, shares what its original brings.
+pub record BringsWritten (next_number : ℕ) (outcome : Outcome) (settled : Settled) : Type 0 where
+  pub written : All (BringsWhatWasWritten outcome) settled.placed
+  pub clones : All (λ placed. (Contains settled.gone placed.file.number → ⊥)
+      → next_number + count_made outcome.files ≤ placed.file.number → own_bytes placed.fresh ≡ None) settled.placed
 
 -- ---- of each event that is settled
 

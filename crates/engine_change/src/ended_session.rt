@@ -5,7 +5,7 @@ ghost use Rattle.machine_model.specs.Sound.{IsSound};
 ghost use Rattle.store_core.specs.Change.{HasLiveContents, MayChange};
 ghost use Rattle.store_core.specs.Flow.{flow_in};
 ghost use Rattle.store_core.specs.Store.{kept_by};
-ghost use Rattle.engine_change.specs.Committing.{identity_of, HasTexts, LeavesDigests, LeavesState, MayCommit, TellsOfSession};
+ghost use Rattle.engine_change.specs.Committing.{identity_of, BringsWritten, HasTexts, LeavesDigests, LeavesState, MayCommit, TellsOfSession};
 
 use flowfile_record::{Event, Outcome, Settled};
 use machine_model::{Flow, Given};
@@ -28,6 +28,7 @@ pub fn settle_session(
     // The store may be changed so.
     ensures may { IfOk result (MayChange (kept_by store.now)) }
     ensures live { IfOk result (HasLiveContents store.now) }
+    ensures brings { IfOk result (BringsWritten (kept_by store.now).next_number ended.outcome) }
     ensures digests { IfOk result (LeavesDigests ended) }
     // It tells of this session.
     ensures tells { IfOk result (TellsOfSession ended.processor given.now.moment ended.taken) }

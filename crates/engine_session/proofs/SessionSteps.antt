@@ -1,6 +1,6 @@
 -- That a session whose change was made is a step of the machine.
 use Rattle.std.proofs.Common.{◌≡◌, ℕ, zero, suc, List, [], ◌∷◌, length, map, refl, sym, ◌∙◌, ap, subst}
-use Rattle.std.specs.Prelude.{All, Option, Some, option_and_then, option_map, slice_get}
+use Rattle.std.specs.Prelude.{All, MatchOption, Option, Some, option_and_then, option_map, slice_get}
 use Rattle.std.specs.Option.{option_map_or, option_to_list}
 use Rattle.std.proofs.lemmas.List.Elements.{All-head, All-tail}
 use Rattle.flowfile_record.specs.Ranges.{HaveRanges}
@@ -31,14 +31,14 @@ use Rattle.processor_api.specs.Acts.{KeepsGiven, MayBeHandedTo}
 use Rattle.settlement.specs.Handed.{AreReadSources, ended_session}
 use Rattle.settlement.specs.declared.handed.Ended.{Ended}
 use Rattle.store_core.specs.State.{state_with}
-use Rattle.engine_change.specs.Committing.{LeavesDigests, LeavesState, MayCommit}
+use Rattle.engine_change.specs.Committing.{BringsWritten, LeavesDigests, LeavesState, MayCommit}
 use Rattle.engine_session.specs.Handing.{MayEndSession, taken_with_contents}
 use Rattle.engine_session.specs.Laws.{TakenFilesAreTheMachines, TakenFilesAreThere, TakenFilesMayBeHanded}
 use Rattle.engine_session.specs.Steps.{IsMachineSession, SettledSessionsAreSteps, machine_in}
 use Rattle.engine_session.specs.Working.{IsWorkAt, MayWork}
 use Rattle.run_law.specs.Laws.{OtherSessionsLoseNone, OtherSessionsPutNone, PutsSendTheTakenBytes, ReceivingSessionsLoseAFile}
-use Rattle.run_law.specs.Puts.{IsPutBy, files_sent, puts_of_step, session_of_step, session_puts}
-use Rattle.run_law.specs.Run.{IsStateOf}
+use Rattle.run_law.specs.Puts.{IsPutBy, files_sent, outcome_of_step, puts_of_step, session_of_step, session_outcome, session_puts}
+use Rattle.run_law.specs.Run.{IsStateOf, StepBrings}
 use Rattle.engine_session.specs.Change.{IsSentBy, IsStepOf, MakesStep, TellsDigests, step_of, with_sending, without_bytes}
 use Rattle.engine_session.specs.Done.{IsWorkOn}
 use Rattle.engine_session.specs.Job.{MayHand, JobStandsIn}
@@ -142,6 +142,7 @@ pub record IsChange (flow : Flow) (k : Kept) (job : Job) (outcome : Outcome) (le
   pub work : IsWorkAt flow job.processor (taken_of k job) job.given (outcome, sources_of k job)
   pub keeps : KeepsGiven job.given left
   pub leaves : LeavesState flow left (left_of k job outcome) k settled
+  pub brings : BringsWritten k.next_number outcome settled
 
 module _ (laws : Laws) (flow : Flow) (k : Kept) (job : Job) (outcome : Outcome) (left : Given) (settled : Settled) (is : IsChange flow k job outcome left settled)
     (contents : ContentRef → List ℕ) (ranges : HaveRanges contents) (before : Machine) (tied : IsStateOf before contents k) (last : Option ℕ) (stands : JobStandsIn flow last k contents before job) where
@@ -223,6 +224,21 @@ module _ (laws : Laws) (flow : Flow) (k : Kept) (job : Job) (outcome : Outcome) 
       ∙ ap (λ (given : Option Given). option_map_or (session_puts before) (option_map (machine_session flow before job.processor stands.processor queued) given) []) stands.given
       ∙ ap (λ (made : Option Outcome). option_map_or (λ o. files_sent (session before.state) o o.sent) made []) (acts before.state tied.is)
 
+  -- and that outcome is what its processor makes by the step
+  outcome_is : outcome_of_step flow before (step_of job) ≡ Some outcome
+  outcome_is =
+      ap (λ (p : Option Processor). option_and_then (session_outcome before) (option_and_then (session_of_step flow before job.processor job.numbers job.given.moment (without_bytes job.given)) p)) stands.found
+      ∙ ap (λ (taken : Option (List QueuedFile)). option_and_then (session_outcome before) (option_and_then (λ files. option_map (machine_session flow before job.processor stands.processor files)
+      (option_and_then (given_in stands.processor.kind job.processor before.state before.world files) (given_at job.given.moment (without_bytes job.given)))) taken)) stands.taken
+      ∙ ap (λ (given : Option Given). option_and_then (session_outcome before) (option_map (machine_session flow before job.processor stands.processor queued) given)) stands.given
+      ∙ acts before.state tied.is
+
+  brings_so : (changed : Changed) → changed.settled ≡ settled → StepBrings flow before (step_of job) changed.settled
+  brings_so changed same =
+      subst (λ (o : Option Outcome). MatchOption o (changed.settled.placed ≡ []) (λ made. BringsWritten before.state.next_number made changed.settled)) (sym outcome_is)
+      (subst (λ (s : State). BringsWritten s.next_number outcome changed.settled) tied.is
+      (subst (λ (s : Settled). BringsWritten k.next_number outcome s) (sym same) is.brings))
+
   pub is_step : (changed : Changed) → changed.settled ≡ settled → changed.sending ≡ sending_of outcome.sent (sources_of k job) → IsStepOf flow last contents before job changed
   is_step changed same sends =
       let put = is_sent laws.unsent laws.put flow before (step_of job) (session before.state) outcome (sources_of k job) puts_sent (acts before.state tied.is) put_of in
@@ -231,6 +247,7 @@ module _ (laws : Laws) (flow : Flow) (k : Kept) (job : Job) (outcome : Outcome) 
         goes = goes;
         comes = stands.comes;
         state = ap (state_after contents before.state) same;
+        brings = brings_so changed same;
         inbox = inbox_behind laws.received laws.kept before (session before.state) outcome receives;
         coming = coming_behind stands.processor.kind before.world (session before.state) outcome receives;
         outbox = λ out same.
@@ -282,8 +299,8 @@ module _ (flow : Flow) (k : Kept) (job : Job) (taken : List Taken) (done : Outco
       (may_commit_left machine flow k job left done.0 is.hand worked
       (subst (λ (e : Ended). MayCommit flow left k e) (is.whole_is ∙ ap (λ (s : List Source). ended_of job s done.0) sources_are) commits))
 
-  pub settled_makes_step : Laws → (changed : Changed) → LeavesState flow left ended k changed.settled → changed.sending ≡ sending_of whole.outcome.sent whole.sources → MakesStep flow k job changed
-  settled_makes_step laws changed leaves sends =
+  pub settled_makes_step : Laws → (changed : Changed) → LeavesState flow left ended k changed.settled → BringsWritten k.next_number ended.outcome changed.settled → changed.sending ≡ sending_of whole.outcome.sent whole.sources → MakesStep flow k job changed
+  settled_makes_step laws changed leaves brings sends =
       makes_step laws flow k job done.0 left changed (record {
         sound = is.sound;
         consistent = is.consistent;
@@ -291,6 +308,7 @@ module _ (flow : Flow) (k : Kept) (job : Job) (taken : List Taken) (done : Outco
         work = worked;
         keeps = is.keeps;
         leaves = subst (λ (e : Ended). LeavesState flow left e k changed.settled) left_is leaves;
+        brings = subst (λ (e : Ended). BringsWritten k.next_number e.outcome changed.settled) left_is brings;
       })
       (sends ∙ ap (λ (e : Ended). sending_of e.outcome.sent e.sources) is.whole_is ∙ ap (sending_of done.0.sent) sources_are)
 
@@ -328,9 +346,9 @@ module _ (flow : Flow) (k : Kept) (job : Job) (done : Done) (whole ended : Ended
       (subst (λ (place : ℕ). MayEndSession fl kept given job.processor place done.files (done.outcome, done.sources)) (sym work.connection)
       (subst (λ (files : List FlowFile). MayEndSession fl kept given job.processor job.connection files (done.outcome, done.sources)) (sym work.files) ends))))
 
-  pub makes_step_on : Laws → (changed : Changed) → LeavesState flow done.given ended k changed.settled → changed.sending ≡ sending_of whole.outcome.sent whole.sources → MakesStep flow k job changed
-  makes_step_on laws changed leaves sends =
-      settled_makes_step flow k job (taken_of k job) (done.outcome, done.sources) done.given whole ended worked_on laws changed leaves sends
+  pub makes_step_on : Laws → (changed : Changed) → LeavesState flow done.given ended k changed.settled → BringsWritten k.next_number ended.outcome changed.settled → changed.sending ≡ sending_of whole.outcome.sent whole.sources → MakesStep flow k job changed
+  makes_step_on laws changed leaves brings sends =
+      settled_makes_step flow k job (taken_of k job) (done.outcome, done.sources) done.given whole ended worked_on laws changed leaves brings sends
 
   pub tells_digests_on : TakenFilesAreThere → (changed : Changed) → LeavesDigests ended changed.settled → TellsDigests k job changed
   tells_digests_on there changed leaves =

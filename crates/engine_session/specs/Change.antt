@@ -17,7 +17,7 @@ use Rattle.engine_choice.specs.Choice.{coming_of}
 use Rattle.engine_session.specs.Handing.{AreTaken}
 use Rattle.run_law.specs.Journal.{inbox_left}
 use Rattle.run_law.specs.Puts.{IsPutBy, Outgoing}
-use Rattle.run_law.specs.Run.{IsPutStep, IsStateOf}
+use Rattle.run_law.specs.Run.{IsPutStep, IsStateOf, StepBrings}
 use Rattle.run_law.specs.Turns.{ComesNext}
 use Rattle.engine_session.specs.Job.{JobStandsIn}
 use Rattle.engine_session.specs.Sending.{sending_of}
@@ -62,14 +62,15 @@ pub record TellsOfWork (done : Done) (changed : Changed) : Type 0 where
   pub session : TellsOfSession done.processor done.given.moment done.files changed.settled
   pub sending : changed.sending ≡ sending_of done.outcome.sent done.sources
 
--- It is the step that comes next. Behind it the state is that behind the change; the inbox has lost the file that the
--- session was given, if one, and the outbox has what it sends.
+-- It is the step that comes next. Behind it the state is that behind the change, which brings anew what the step wrote;
+-- the inbox has lost the file that the session was given, if one, and the outbox has what it sends.
 pub record IsStepOf (flow : Flow) (last : Option ℕ) (contents : ContentRef → List ℕ) (before : Machine) (job : Job)
     (changed : Changed) : Type 0 where
   pub after : Machine
   pub goes : step flow before (step_of job) ≡ Some after
   pub comes : ComesNext flow last before (step_of job)
   pub state : state_after contents before.state changed.settled ≡ after.state
+  pub brings : StepBrings flow before (step_of job) changed.settled
   pub inbox : inbox_left after.world ≡ without_received job.given.file (inbox_left before.world)
   pub coming : coming_of after.world ≡ names_without job.given.file (coming_of before.world)
   pub outbox : (out : Outgoing) → out.standing ≡ before.world.outbox

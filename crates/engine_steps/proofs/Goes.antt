@@ -24,12 +24,12 @@ use Rattle.flowfile_record.specs.declared.change.Settled.{Settled}
 use Rattle.machine_model.specs.State.{Machine}
 use Rattle.machine_model.specs.Stepping.{step}
 use Rattle.engine_queues.specs.Listing.{first_passed}
-use Rattle.store_core.specs.Change.{IsLimitOf}
+use Rattle.store_core.specs.Change.{IsLimitOf, MayChange}
 use Rattle.store_core.specs.Store.{StoreState, kept_by}
 use Rattle.run_law.specs.Going.{IsBetween, IsRunningAt, IsSpared, IsStepped}
 use Rattle.run_law.specs.Journal.{TakesFromInbox}
 use Rattle.run_law.specs.Laws.{DiskFaultsEnd, FaultsEnd, InboxFaultsEnd, NextStepsAreInTurn, OutboxFaultsEnd, SparedRunsGoOn, SteppedRunsGoOn}
-use Rattle.run_law.specs.Run.{HasRun, IsAtJournalLimit, IsAtLimit, IsAtStoreLimit, IsPutStep, IsStateOf, StandsFor}
+use Rattle.run_law.specs.Run.{HasRun, IsAtJournalLimit, IsAtLimit, IsAtStoreLimit, IsPutStep, IsStateOf, StandsFor, StepBrings}
 use Rattle.run_law.specs.Turns.{ComesNext, last_worker, step_moment, worker_behind}
 use Rattle.run_law.specs.Work.{IsAtWork}
 use Rattle.run_law.specs.declared.ended.Ended.{Ended}
@@ -196,7 +196,7 @@ module _ (tells : Bool) {D : Type 0} (held : D → Files) (moment : D → ℕ) (
       pub stops_at_limit : SparedRunsGoOn moment images → NextStepsAreInTurn moment images → (limit : Limit)
           → IsSpared e.flow moment images e.store.lot run.reached old new → f.journal ≡ e.journal → f.listing.names ≡ e.listing.names → f.last ≡ e.last
           → images new (moment new) (held new)
-          → IsAtStoreLimit tells held moment images limit run.reached s.after new ⊎ IsAtJournalLimit limit e.journal
+          → IsAtStoreLimit e.flow tells held moment images limit run.reached one s.after new ⊎ IsAtJournalLimit limit e.journal
           → Stops (EngineError.Limit limit) tells held moment images f opened first start (step_moment one) new left out
       stops_at_limit law turns limit spared journal_is names last image met =
           let on = law e.flow start time (step_moment one) e.store.lot opened run.reached first old new e.journal left out run.to.run le spared in
@@ -240,10 +240,10 @@ module _ (tells : Bool) {D : Type 0} (held : D → Files) (moment : D → ℕ) (
           }
 
   -- the limit that a change would pass, by a store with other room
-  pub store_limit : (flow : Flow) (before after : Machine) (settled : Settled) (limit : Limit) (room : ℕ) (was t : StoreState) (disk : D) → t ≡ with_room room was → IsAtWork flow tells held moment images was disk
-      → IsStateOf before (content_in (held disk)) (kept_by was) → state_after (content_in (held disk)) before.state settled ≡ after.state → IsLimitOf was settled limit
-      → IsAtStoreLimit tells held moment images limit before after disk
-  store_limit flow before after settled limit room was t disk is work tied makes passes =
+  pub store_limit : (flow : Flow) (before after : Machine) (one : Step) (settled : Settled) (limit : Limit) (room : ℕ) (was t : StoreState) (disk : D) → t ≡ with_room room was → IsAtWork flow tells held moment images was disk
+      → IsStateOf before (content_in (held disk)) (kept_by was) → MayChange (kept_by was) settled → StepBrings flow before one settled → state_after (content_in (held disk)) before.state settled ≡ after.state
+      → IsLimitOf was settled limit → IsAtStoreLimit flow tells held moment images limit before one after disk
+  store_limit flow before after one settled limit room was t disk is work tied may brings makes passes =
       let works = work_roomy flow tells held moment images was t room disk is work in
       record {
         store = t;
@@ -251,6 +251,8 @@ module _ (tells : Bool) {D : Type 0} (held : D → Files) (moment : D → ℕ) (
         kept = works.kept;
         tied = subst (λ (u : StoreState). IsStateOf before (content_in (held disk)) (kept_by u)) (sym is) tied;
         settled = settled;
+        may = subst (λ (u : StoreState). MayChange (kept_by u) settled) (sym is) may;
+        brings = brings;
         makes = makes;
         passes = subst (λ (u : StoreState). IsLimitOf u settled limit) (sym is) passes;
       }
@@ -359,7 +361,7 @@ module _ (tells : Bool) {D : Type 0} (held : D → Files) (moment : D → ℕ) (
         (stops_at_put e f opened first start time mid mid left out run flow_is (ap (λ (u : StoreState). u.lot) store_is ∙ lot_now) (content_in (held mid)) job changed s one one_is le between law
         (unjournaled EngineError.Put is f flow_is store_is journal_is other) still now_out (written.put is out_telling))
 
-    module _ (turns : NextStepsAreInTurn moment images) (spared : SparedRunsGoOn moment images) (image : images mid (moment mid) (held mid)) (limit : Limit) (f : EngineState)
+    module _ (turns : NextStepsAreInTurn moment images) (spared : SparedRunsGoOn moment images) (image : images mid (moment mid) (held mid)) (may : MayChange (kept_by was) changed.settled) (limit : Limit) (f : EngineState)
         (flow_is : f.flow ≡ e.flow) (store_is : f.store ≡ t) (names : f.listing.names ≡ e.listing.names) (last : f.last ≡ e.last) where
       stops_past : (is : result ≡ Err (EngineError.Limit limit)) → f.journal ≡ journaled result one e.journal
           → Stops (EngineError.Limit limit) tells held moment images f opened first start (step_moment one) new left now_out
@@ -371,21 +373,22 @@ module _ (tells : Bool) {D : Type 0} (held : D → Files) (moment : D → ℕ) (
           (subst (λ (o : Outgoing). Stops (EngineError.Limit limit) tells held moment images f opened first start (step_moment one) mid left o) (sym (written.unsent (EngineError.Limit limit) is other another))
           (stops_at_limit e f opened first start time mid mid left out run flow_is (ap (λ (u : StoreState). u.lot) store_is ∙ lot_now) (content_in (held mid)) job changed s one one_is le spared turns limit still
           (unjournaled (EngineError.Limit limit) is f flow_is store_is journal_is other) names last image
-          (inl (store_limit e.flow run.reached s.after changed.settled limit t.memory.room was t mid same.1 work tied s.state (written.passes limit is)))))
+          (inl (store_limit e.flow run.reached s.after one changed.settled limit t.memory.room was t mid same.1 work tied may
+          (subst (λ (x : Step). StepBrings e.flow run.reached x changed.settled) one_is s.brings) s.state (written.passes limit is)))))
 
     -- whichever error it is
     pub stops_written : FaultsEnd tells held moment images → DiskFaultsEnd tells held moment images → OutboxFaultsEnd tells held moment images → NextStepsAreInTurn moment images → SparedRunsGoOn moment images → images mid (moment mid) (held mid)
-        → (error : EngineError) → result ≡ Err error → (f : EngineState) → f.flow ≡ e.flow → f.store ≡ t → f.journal ≡ journaled result one e.journal → f.listing.names ≡ e.listing.names → f.last ≡ e.last
+        → MayChange (kept_by was) changed.settled → (error : EngineError) → result ≡ Err error → (f : EngineState) → f.flow ≡ e.flow → f.store ≡ t → f.journal ≡ journaled result one e.journal → f.listing.names ≡ e.listing.names → f.last ≡ e.last
         → Stops error tells held moment images f opened first start (step_moment one) new left now_out
-    stops_written between disk outbox turns spared image (EngineError.Damaged damage) is f flow_is store_is journal_is names last =
+    stops_written between disk outbox turns spared image may (EngineError.Damaged damage) is f flow_is store_is journal_is names last =
         stops_unwritten (EngineError.Damaged damage) is f flow_is store_is journal_is between (λ limit e. cc) (λ e. cc) (λ e. cc)
-    stops_written between disk outbox turns spared image EngineError.Inbox is f flow_is store_is journal_is names last = stops_unwritten EngineError.Inbox is f flow_is store_is journal_is between (λ limit e. cc) (λ e. cc) (λ e. cc)
-    stops_written between disk outbox turns spared image EngineError.Outbox is f flow_is store_is journal_is names last = stops_unwritten EngineError.Outbox is f flow_is store_is journal_is between (λ limit e. cc) (λ e. cc) (λ e. cc)
-    stops_written between disk outbox turns spared image EngineError.MustReopen is f flow_is store_is journal_is names last = stops_unwritten EngineError.MustReopen is f flow_is store_is journal_is between (λ limit e. cc) (λ e. cc) (λ e. cc)
-    stops_written between disk outbox turns spared image EngineError.Memory is f flow_is store_is journal_is names last = stops_unwritten EngineError.Memory is f flow_is store_is journal_is between (λ limit e. cc) (λ e. cc) (λ e. cc)
-    stops_written between disk outbox turns spared image EngineError.Disk is f flow_is store_is journal_is names last = stops_cut_off disk is f flow_is (ap (λ (u : StoreState). u.lot) store_is ∙ lot_now) journal_is
-    stops_written between disk outbox turns spared image EngineError.Put is f flow_is store_is journal_is names last = stops_put between outbox is f flow_is store_is journal_is
-    stops_written between disk outbox turns spared image (EngineError.Limit limit) is f flow_is store_is journal_is names last = stops_past turns spared image limit f flow_is store_is names last is journal_is
+    stops_written between disk outbox turns spared image may EngineError.Inbox is f flow_is store_is journal_is names last = stops_unwritten EngineError.Inbox is f flow_is store_is journal_is between (λ limit e. cc) (λ e. cc) (λ e. cc)
+    stops_written between disk outbox turns spared image may EngineError.Outbox is f flow_is store_is journal_is names last = stops_unwritten EngineError.Outbox is f flow_is store_is journal_is between (λ limit e. cc) (λ e. cc) (λ e. cc)
+    stops_written between disk outbox turns spared image may EngineError.MustReopen is f flow_is store_is journal_is names last = stops_unwritten EngineError.MustReopen is f flow_is store_is journal_is between (λ limit e. cc) (λ e. cc) (λ e. cc)
+    stops_written between disk outbox turns spared image may EngineError.Memory is f flow_is store_is journal_is names last = stops_unwritten EngineError.Memory is f flow_is store_is journal_is between (λ limit e. cc) (λ e. cc) (λ e. cc)
+    stops_written between disk outbox turns spared image may EngineError.Disk is f flow_is store_is journal_is names last = stops_cut_off disk is f flow_is (ap (λ (u : StoreState). u.lot) store_is ∙ lot_now) journal_is
+    stops_written between disk outbox turns spared image may EngineError.Put is f flow_is store_is journal_is names last = stops_put between outbox is f flow_is store_is journal_is
+    stops_written between disk outbox turns spared image may (EngineError.Limit limit) is f flow_is store_is journal_is names last = stops_past turns spared image may limit f flow_is store_is names last is journal_is
 
 pub named_so : (o : Option (List ℕ)) → IsSome o → (name : List ℕ) × (o ≡ Some name)
 named_so None some = absurd cc

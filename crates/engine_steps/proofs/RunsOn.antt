@@ -152,7 +152,7 @@ module _ {D : Type 0} (tells : Bool) (held : D → Files) (moment : D → ℕ) (
     -- a limit, of the store or of the journal, before anything was called for the step that comes next
     module _ (one : Step) (limit : Limit) (by : time ≤ step_moment one) (comes : (m : Machine) → StandsIn e old m → ComesNext e.flow (last_worker None (steps e.journal)) m one) where
       abbrev pub IsMet : Machine → Machine → Type 0
-      IsMet m after = StandsFor e.flow e.store.lot m (held old) × (IsAtStoreLimit tells held moment images limit m after old ⊎ IsAtJournalLimit limit e.journal)
+      IsMet m after = StandsFor e.flow e.store.lot m (held old) × (IsAtStoreLimit e.flow tells held moment images limit m one after old ⊎ IsAtJournalLimit limit e.journal)
 
       limit_at : (m : Machine) → new ≡ old → f.journal ≡ e.journal → IsAtLimit e.flow start (step_moment one) tells held moment images e.store.lot opened e.journal m limit old
           → IsAtLimit f.flow start (step_moment one) tells held moment images f.store.lot opened f.journal m limit new
@@ -186,7 +186,7 @@ module _ {D : Type 0} (tells : Bool) (held : D → Files) (moment : D → ℕ) (
         (names : f.listing ≡ e.listing) (last : f.last ≡ e.last) (open_journal : error ≡ EngineError.Disk → f.journal ≡ e.journal ++ record { step = one; acked = None } ∷ [])
         (cut : error ≡ EngineError.Disk → (m : Machine) → StandsIn e old m → IsCutOff e.flow moment images e.store.lot m one old new) (unwritten : (error ≡ EngineError.Disk → ⊥) → (new ≡ old) × (f.journal ≡ e.journal))
         (limited : (limit : Limit) → error ≡ EngineError.Limit limit → (m : Machine) → StandsIn e old m
-        → GoesTo e.flow m one (λ after. StandsFor e.flow e.store.lot m (held old) × IsAtStoreLimit tells held moment images limit m after old))
+        → GoesTo e.flow m one (λ after. StandsFor e.flow e.store.lot m (held old) × IsAtStoreLimit e.flow tells held moment images limit m one after old))
         (run : IsRunning moment images e opened first start time old left out) where
       by_memory : error ≡ EngineError.Memory → Stops error tells held moment images f opened first start (step_moment one) new left out
       by_memory is =

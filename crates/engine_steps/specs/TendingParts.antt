@@ -106,7 +106,7 @@ pub record StepIsTaken {D A : Type 0} (result : Result A EngineError) (flow : Fl
   pub done : OnOk result (StepIsDone flow moment images lot before one old new)
   pub cut_off : IsErrOf result Disk → IsCutOff flow moment images lot before one old new
   pub limited : (limit : TheLimit) → IsErrOf result (Limit limit) → GoesTo flow before one (λ after.
-      StandsFor flow lot before (held old) × IsAtStoreLimit tells held moment images limit before after old)
+      StandsFor flow lot before (held old) × IsAtStoreLimit flow tells held moment images limit before one after old)
 
 -- What a store's commit leaves by which files expire: its lot and its log's number stay, and only claims, files of
 -- events, the log and what may follow it are written. Any error but the disk's comes before it.

@@ -35,11 +35,22 @@ session_of_step flow machine place numbers moment given processor =
     (option_and_then (given_in processor.kind place machine.state machine.world taken) (given_at moment given)))
     (taken_files flow machine.state place (take_rule_of processor.kind) numbers moment)
 
+-- what the processor of a session makes of what it is handed
+abbrev pub session_outcome : Machine → EndedSession → Option Outcome
+session_outcome machine session =
+    act session.processor.kind (map (as_taken machine.state) session.taken) session.given
+
+-- what it makes by a step; no other step than a session has a processor
+abbrev pub outcome_of_step : Flow → Machine → Step → Option Outcome
+outcome_of_step flow machine (Session place numbers moment given) =
+    option_and_then (session_outcome machine)
+    (option_and_then (session_of_step flow machine place numbers moment given) (slice_get flow.processors place))
+outcome_of_step flow machine _ = None
+
 -- a session puts what its processor's outcome sends
 abbrev pub session_puts : Machine → EndedSession → List NamedFile
 session_puts machine session =
-    option_map_or (λ outcome. files_sent session outcome outcome.sent)
-    (act session.processor.kind (map (as_taken machine.state) session.taken) session.given) []
+    option_map_or (λ outcome. files_sent session outcome outcome.sent) (session_outcome machine session) []
 
 -- what a step puts: no other step than a session puts anything
 abbrev pub puts_of_step : Flow → Machine → Step → List NamedFile

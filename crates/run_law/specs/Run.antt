@@ -1,6 +1,6 @@
 -- What a run of a flow promises.
 use Rattle.std.specs.Prelude.{◌≡◌, ◌≢◌, ◌⊎◌, ⊤, ℕ, ◌+◌, ◌≤◌, Bool, true, false, List, [], ◌∷◌, ◌++◌, length, map, slice_get}
-use Rattle.std.specs.Prelude.{Option, Some, None, Ok, IsSome, IsNone}
+use Rattle.std.specs.Prelude.{Option, Some, None, Ok, IsSome, IsNone, MatchOption}
 use Rattle.disk_trait.specs.Files.{Files}
 use Rattle.disk_trait.specs.Images.{SinceMoment, Since}
 use Rattle.flowfile_record.specs.NamedFile.{NamedFile, bytes_of, with_file}
@@ -25,13 +25,13 @@ use Rattle.machine_model.specs.Kinds.{take_rule_of}
 use Rattle.machine_model.specs.Quiet.{quiet_but_for_swaps, blocked_but_for_swaps}
 use Rattle.machine_model.specs.State.{Machine, QueuedFile, State}
 use Rattle.machine_model.specs.Stepping.{step, replay, taken_files}
-use Rattle.store_core.specs.Change.{IsLimitOf}
+use Rattle.store_core.specs.Change.{IsLimitOf, MayChange}
 use Rattle.store_core.specs.Kept.{kept_in}
 use Rattle.store_core.specs.State.{stands_for, state_with}
 use Rattle.store_core.specs.Store.{StoreState, kept_by, IsKeptOn, IsTidy}
-use Rattle.engine_change.specs.Committing.{AreEventsUpTo, identity_of}
+use Rattle.engine_change.specs.Committing.{AreEventsUpTo, BringsWritten, identity_of}
 use Rattle.run_law.specs.Journal.{inbox_left, TakesFromInbox, WasGot}
-use Rattle.run_law.specs.Puts.{Outgoing, Start, puts_of, puts_of_step}
+use Rattle.run_law.specs.Puts.{Outgoing, Start, outcome_of_step, puts_of, puts_of_step}
 use Rattle.run_law.specs.Turns.{ComeInTurn}
 use Rattle.run_law.specs.declared.ended.Ended.{Ended}
 use Rattle.run_law.specs.declared.ended.Ended.TheVariants as ending
@@ -142,15 +142,24 @@ pub record IsStateOf (m : Machine) (contents : ContentRef → List ℕ) (k : Kep
   pub is : state_with contents m.state.events k ≡ m.state
   pub events : AreEventsUpTo k.last_event m.state.events
 
+-- A settled session brings anew what the step's processor wrote, and files that expire bring nothing.
+abbrev pub StepBrings : Flow → Machine → Step → Settled → Type 0
+StepBrings flow before one settled =
+    MatchOption (outcome_of_step flow before one) (settled.placed ≡ [])
+    (λ outcome. BringsWritten before.state.next_number outcome settled)
+
 -- A store that works, on this disk, has the machine's state in memory. What the step changes would pass this limit, the
--- first of them.
-pub record IsAtStoreLimit {D : Type 0} (tells : Bool) (held : D → Files) (moment : D → ℕ)
-    (images : D → ℕ → Files → Type 0) (limit : Limit) (before after : Machine) (at : D) : Type 0 where
+-- first of them: it is a change that may be asked for, and what it wants room for is what the step wrote.
+pub record IsAtStoreLimit {D : Type 0} (flow : Flow) (tells : Bool) (held : D → Files) (moment : D → ℕ)
+    (images : D → ℕ → Files → Type 0) (limit : Limit) (before : Machine) (one : Step) (after : Machine) (at : D)
+    : Type 0 where
   pub store : StoreState
   pub works : store.failed ≡ false
   pub kept : IsKeptOn tells held moment images store at
   pub tied : IsStateOf before (content_in (held at)) (kept_by store)
   pub settled : Settled
+  pub may : MayChange (kept_by store) settled
+  pub brings : StepBrings flow before one settled
   pub makes : state_after (content_in (held at)) before.state settled ≡ after.state
   pub passes : IsLimitOf store settled limit
 
@@ -170,7 +179,8 @@ pub record IsAtLimit {D : Type 0} (flow : Flow) (start : Start) (time : ℕ) (te
   pub after : Machine
   pub goes : step flow reached next ≡ Some after
   pub stands : StandsFor flow lot reached (held at)
-  pub met : IsAtStoreLimit tells held moment images limit reached after at ⊎ IsAtJournalLimit limit journal
+  pub met : IsAtStoreLimit flow tells held moment images limit reached next after at
+      ⊎ IsAtJournalLimit limit journal
 
 -- ---- how a run ends
 

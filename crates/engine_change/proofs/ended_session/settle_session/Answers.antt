@@ -1,7 +1,8 @@
-use Rattle.std.proofs.Common.{List, length, refl, sym, subst, ap, arith}
-use Rattle.std.specs.Prelude.{All}
+use Rattle.std.proofs.Common.{ℕ, ◌+◌, ◌≤◌, List, get_or, length, refl, sym, subst, ap, arith}
+use Rattle.std.specs.Prelude.{All, Contains}
 use Rattle.flowfile_record.specs.Stored.{Kept, kept_of}
 use Rattle.flowfile_record.specs.declared.event.Event.{Event}
+use Rattle.machine_model.specs.Placing.{count_made}
 use Rattle.settlement.specs.Handed.{MaySettle}
 use Rattle.store_core.specs.Store.{kept_by}
 use Rattle.engine_change.specs.Committing.{HasTexts}
@@ -48,6 +49,20 @@ returns-clause-live c =
     let is = settled_over case (kept_of c.state-state.result.now) state.kept c.requires.sound c.requires.flow c.requires.may state.consistent state.no_batches
     settled.settles settled.tells settled.records typed laws.valid laws.queued in
     live_contents case is c.args.store.now refl
+
+pub returns-clause-brings : goal.returns-clause-brings
+returns-clause-brings c =
+    let settled = c.in_ok-settled.settled in
+    let tells = c.in_ok-settled.ensures.tells in
+    record {
+      written = tells.written;
+      clones = λ i d lt untaken behind.
+          let number = (get_or settled.placed i d).file.number in
+          tells.clones i d lt (record {
+            untaken = λ has. untaken (subst (λ (gone : List ℕ). Contains gone number) (sym tells.gone) has);
+            behind = subst (λ (k : Kept). k.next_number + count_made c.args.ended.outcome.files ≤ number) (sym c.state-state.ensures.kept) behind;
+          });
+    }
 
 pub returns-clause-digests : goal.returns-clause-digests
 returns-clause-digests c = c.in_ok-settled.ensures.tells.digests

@@ -39,7 +39,7 @@ returns-clause-step c job hand work =
     } in
     makes_step_on c.args.flow.now (kept_by c.args.store.now) job c.args.done c.end_session-ended.result c.take_sending.new.ended c.requires.sound c.state-stored.ensures.consistent hand work
     c.end_session-ended.ensures.is c.in_ok-sending.ensures.left laws
-    (record { settled = c.in_ok-settled.settled; connection = c.connection_of-connection.result; sending = c.in_ok-sending.sending }) c.in_ok-settled.ensures.leaves c.in_ok-sending.ensures.is
+    (record { settled = c.in_ok-settled.settled; connection = c.connection_of-connection.result; sending = c.in_ok-sending.sending }) c.in_ok-settled.ensures.leaves c.in_ok-settled.ensures.brings c.in_ok-sending.ensures.is
 
 pub returns-clause-digests : goal.returns-clause-digests
 returns-clause-digests c job hand work =

@@ -10,6 +10,7 @@ use Rattle.flowfile_record.specs.declared.stored.Placed.{Placed}
 use Rattle.content_repo.specs.Claims.{content_in}
 use Rattle.kept_state.specs.Applied.{left_after}
 use Rattle.machine_model.specs.Changing.{HaveDigests, state_after}
+use Rattle.store_core.proofs.Expiring.{expiry_changes}
 use Rattle.store_core.specs.Flow as store
 use Rattle.store_core.specs.Store.{kept_by}
 use Rattle.store_core.specs.declared.error.StoreError.{StoreError}
@@ -44,6 +45,8 @@ returns-in_err-prepared-clause-step g c telling before stands = record {
             kept = c.requires.work.work.kept;
             tied = tied;
             settled = c.in_ok-expiry.expiry.settled;
+            may = expiry_changes (kept_by s) c.in_ok-expiry.expiry c.holds_its_state.ensures.kept.0 c.in_ok-expiry.ensures.may;
+            brings = ap (λ (t : Settled). t.placed) c.in_ok-expiry.ensures.may.expires.as_session;
             makes = goes.is_so;
             passes = passes s c.in_ok-expiry.expiry limit c.holds_its_state.ensures.kept.0 c.in_ok-expiry.ensures.may (c.prepare_expiry.ensures.limit limit (c.in_err-prepared.was ∙ ap Err was));
           },

@@ -8,6 +8,7 @@ use Rattle.machine_model.specs.declared.flow.Processor.{Processor}
 use Rattle.machine_model.specs.declared.journal.Entry.{Entry}
 use Rattle.machine_model.specs.declared.journal.Step.{Step}
 use Rattle.engine_queues.specs.Listing.{AreDistinct, Left, first_passed}
+use Rattle.store_core.specs.Change.{MayChange}
 use Rattle.store_core.specs.Store.{StoreState, kept_by}
 use Rattle.run_law.specs.Ending.{journal_full}
 use Rattle.run_law.specs.Run.{IsStateOf}
@@ -205,6 +206,7 @@ returns-in_err-moment-clause-run g c telling in_telling out_telling =
           job c.in_ok-changed.changed at.0 (step_done c.args.done) one le e.store c.write.new.self.store e.queues c.write.new.self.queues refl c.requires.may.ready.work
           (subst (λ (u : StoreState). IsStateOf run.reached (content_in (D.held old)) (kept_by u)) (ap (λ (x : EngineState). x.store) c.self.view_is) at.1) g.O.Outbox.tells out_telling c.write.result c.write.ensures.written
           c.faults_end_a_run.ensures.between c.faults_end_a_run.ensures.disk c.faults_end_a_run.ensures.outbox c.run_goes_on.ensures.turn c.run_goes_on.ensures.spared (laws.held_is_left old telling)
+          (subst (λ (u : StoreState). MayChange (kept_by u) c.in_ok-changed.changed.settled) (ap (λ (x : EngineState). x.store) c.self.view_is) c.in_ok-changed.ensures.may)
           error (c.in_err-moment.was ∙ ap Err same) c.write.new.self (ap (λ (x : EngineState). x.flow) rest) refl (c.write.ensures.noted.journal ∙ ap (λ (x : Step). journaled c.write.result x e.journal) c.in_ok-step.ensures)
           (ap (λ (x : EngineState). x.listing.names) rest) (ap (λ (x : EngineState). x.last) rest);
     }
