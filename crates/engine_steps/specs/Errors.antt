@@ -95,7 +95,8 @@ pub record HasCause {D A : Type 0} (result : Result A EngineError) (flow : Flow)
       ⊎ (IsJournalFull limit most journal × IsAtWork flow tells held moment images s new)
   pub damaged : (damage : Damage) → IsErrOf result (Damaged damage) → DoesNotTell tells
 
--- How `tend` refuses: so, and by the disk, for want of memory, or by a limit.
+-- How `tend` refuses: so, and by the disk, for want of memory, or by a limit, which only files that have expired meet
+-- (`wanted` of `TendsFirst`).
 pub record RefusesToTend {D A : Type 0} (result : Result A EngineError) (tells : Bool) (held : D → Files) (moment : D → ℕ)
     (images : D → ℕ → Files → Type 0) (faults : D → ℕ) (e_old e_new : EngineState) (old new : D) : Type 0 where
   pub reopen : Reopens result e_old e_new old new

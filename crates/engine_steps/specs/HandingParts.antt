@@ -6,7 +6,6 @@ use Rattle.disk_trait.specs.Images.{Stays}
 use Rattle.disk_trait.specs.declared.damage.Damage.{Damage}
 use Rattle.flowfile_record.specs.NamedFile.{NamedFile}
 use Rattle.kept_state.specs.declared.limit.Limit.{Limit as TheLimit}
-use Rattle.machine_model.specs.declared.flow.Flow.{Flow}
 use Rattle.store_core.specs.Store.{StoreState}
 use Rattle.run_law.specs.Puts.{outgoing}
 use Rattle.run_law.specs.Work.{DoesNotTell}

@@ -23,5 +23,6 @@ pub returns-in_err-job-clause-refusal : goal.returns-in_err-job-clause-refusal
 returns-in_err-job-clause-refusal g c = record {
   unlimited = search rules;
   works = search rules;
+  unput = search rules;
   damaged = λ damage is. c.in_err-job.ensures.leaves.contents.damaged damage (search rules);
 }
