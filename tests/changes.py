@@ -2,8 +2,9 @@
 """Changes the folders of a run while it stands still between two of its calls.
 
 strace stops the program behind a call on one path; then a change is made there, as by another program, and it goes on.
-A file of the inbox is opened once and read twice before its session is committed. Whatever becomes of it between, what is
-delivered is what stood under the name at the second reading, and only that is removed. A put is durable in the folder
+A file of the inbox is opened and read once, and looked at before its session is committed. Where another file stands
+under the name by then, or somebody wrote to it, nothing of it is taken and the file stays: the next run takes it as it is
+then. A put is durable in the folder
 that the outbox's path leads to. The folder in which puts are written stays from one to the next; another one is made
 where it is gone, or something else stands in its place.
 """
@@ -33,51 +34,58 @@ class Cases:
         self.program = program
         self.parent = parent
 
-    def between_readings(self, change):
-        """Makes a change behind the first reading of `a`. Gives the status, how often `a` was opened, and the files of
-        `in` and of `out`."""
+    def behind_the_reading(self, change):
+        """Makes a change behind the reading of `a`. Gives the status, how often `a` was opened, and the files of `in` and
+        of `out`, and then the status of the next run and the files of `out` behind it."""
         with work_folder(self.parent) as folder:
             write_files(folder / "in", FILES)
             status, calls = stopped_in(self.program, folder, "in/a", "pread64", 1, change)
             state = store_format.state_of(store_format.files_in(folder / "store"))
             need(not isinstance(state, store_format.Damage), f"the store is damaged: {state}")
             need(state.queued() == [], f"{state.queued()} wait")
-            return status, calls.count("openat"), read_files(folder / "in"), read_files(folder / "out")
+            found = status, calls.count("openat"), read_files(folder / "in"), read_files(folder / "out")
+            return found, (run(self.program, folder).status, read_files(folder / "out"))
 
-    def delivers(self, change, bytes_, opened):
-        """Where the file is another one at the second reading, or has other bytes, these are delivered."""
-        found = self.between_readings(change)
-        need(found == (DONE, opened, {}, FILES | {"a": bytes_}), f"status, opened, in and out: {found}")
+    def is_taken(self, change):
+        """The file is the one that was read, and is delivered."""
+        found, _ = self.behind_the_reading(change)
+        need(found == (DONE, 1, {}, FILES), f"status, opened, in and out: {found}")
+
+    def is_left(self, change, bytes_):
+        """The file is another one, or was written to: the run ends with 6 and takes nothing, the next run takes it."""
+        found, behind = self.behind_the_reading(change)
+        need(found == (INBOX, 1, FILES | {"a": bytes_}, {}), f"status, opened, in and out: {found}")
+        need(behind == (DONE, FILES | {"a": bytes_}), f"status and out of the next run: {behind}")
 
     def stays_as_it_was(self):
-        self.delivers(lambda folder: None, FILES["a"], 1)
+        self.is_taken(lambda folder: None)
 
     def replaced(self):
-        self.delivers(lambda folder: replace(folder, b"of another file"), b"of another file", 2)
-        self.delivers(lambda folder: replace(folder, b"longer than that before"), b"longer than that before", 2)
+        self.is_left(lambda folder: replace(folder, b"of another file"), b"of another file")
+        self.is_left(lambda folder: replace(folder, b"longer than that before"), b"longer than that before")
 
     def replaced_by_the_same_bytes(self):
-        self.delivers(lambda folder: replace(folder, FILES["a"]), FILES["a"], 2)
+        self.is_left(lambda folder: replace(folder, FILES["a"]), FILES["a"])
 
     def written_over(self):
-        self.delivers(lambda folder: write(folder, "r+b", b"THE"), b"THE first bytes", 1)
+        self.is_left(lambda folder: write(folder, "r+b", b"THE"), b"THE first bytes")
 
     def grows(self):
-        self.delivers(lambda folder: write(folder, "ab", b" and more"), FILES["a"] + b" and more", 1)
+        self.is_left(lambda folder: write(folder, "ab", b" and more"), FILES["a"] + b" and more")
 
     def shrinks(self):
-        self.delivers(lambda folder: os.truncate(folder / "in" / "a", 3), FILES["a"][:3], 1)
-        self.delivers(lambda folder: os.truncate(folder / "in" / "a", 0), b"", 1)
+        self.is_left(lambda folder: os.truncate(folder / "in" / "a", 3), FILES["a"][:3])
+        self.is_left(lambda folder: os.truncate(folder / "in" / "a", 0), b"")
 
     def moved_and_back(self):
         def change(folder):
             os.rename(folder / "in" / "a", folder / "aside")
             os.rename(folder / "aside", folder / "in" / "a")
-        self.delivers(change, FILES["a"], 1)
+        self.is_taken(change)
 
     def refuses(self, change, left):
         """Where no regular file stands under the name, the run ends with 6 and nothing is taken."""
-        found = self.between_readings(change)
+        found, _ = self.behind_the_reading(change)
         need(found == (INBOX, 1, left, {}), f"status, opened, in and out: {found}")
 
     def removed(self):
@@ -363,13 +371,13 @@ def main():
     report = Report()
     for text, body in (
             ("a file that stays as it was is opened once", cases.stays_as_it_was),
-            ("another file takes its place between the readings: that one is delivered", cases.replaced),
-            ("another file of the same bytes takes its place: it is opened too", cases.replaced_by_the_same_bytes),
-            ("it is written over between the readings: all of its new bytes are delivered", cases.written_over),
-            ("it grows between the readings: all of it is delivered", cases.grows),
-            ("it shrinks between the readings", cases.shrinks),
+            ("another file takes its place behind the reading: 6, and the next run delivers that one", cases.replaced),
+            ("another file of the same bytes takes its place: the same", cases.replaced_by_the_same_bytes),
+            ("it is written over behind the reading: 6, and the next run delivers all of its new bytes", cases.written_over),
+            ("it grows behind the reading: 6, and the next run delivers all of it", cases.grows),
+            ("it shrinks behind the reading: 6, and the next run delivers it", cases.shrinks),
             ("it is moved away and back", cases.moved_and_back),
-            ("it is removed between the readings: 6, nothing taken", cases.removed),
+            ("it is removed behind the reading: 6, nothing taken", cases.removed),
             ("a link, a pipe or a folder takes its place: 6, nothing taken", cases.replaced_by_another_kind),
             ("it goes, becomes a pipe or too large behind the listing: 6, nothing taken", cases.behind_the_listing),
             ("a content has other bytes than were written: 4, nothing put", cases.other_content),

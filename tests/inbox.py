@@ -93,13 +93,15 @@ class Cases:
             need(ended.returncode == DONE, f"status {ended.returncode} under strace")
             lines = [line.split(None, 1)[1] for line in (aside / "trace").read_text().splitlines()]
         stops = [Stop(line, lines[:number]) for number, line in enumerate(lines)]
-        # Where the second reading looked at the name, where it was set aside, and where it was looked at there.
-        self.seen = max(number for number, line in enumerate(lines) if re.match(r'statx\(AT_FDCWD, "in/a"', line))
+        # Where it was read, where it was set aside, and where it was looked at there.
+        self.seen = max(number for number, line in enumerate(lines) if line.startswith("pread64("))
+        looked = max(number for number, line in enumerate(lines) if line.startswith('statx(AT_FDCWD, "in/a"'))
+        self.looks = sum(line.startswith("statx(") for line in lines[:looked + 1])
         self.probed = next(number for number, line in enumerate(lines) if line.startswith("rmdir("))
         self.aside = next(number for number, line in enumerate(lines) if re.match(rf'rename\w*\(.*"in/{ASIDE}"', line))
         self.judged = next(number for number, line in enumerate(lines)
                            if re.match(rf'statx\(AT_FDCWD, "in/{ASIDE}"', line))
-        need(self.probed < self.seen < self.aside < self.judged, f"the calls are {lines}")
+        need(self.probed < self.seen < looked < self.aside < self.judged, f"the calls are {lines}")
         return stops
 
     def at_each_stop(self, change, judge):
@@ -128,7 +130,7 @@ class Cases:
         need(not left, f"in keeps {left}")
 
     def told(self, number, status, until, place):
-        # Behind the second reading's look and before its read the engine still sees the change.
+        # Before the reading the run may see the file as it is then.
         if self.seen < number < until:
             need(status == INBOX, f"{place}: the change isn't told, status {status}")
 
@@ -266,7 +268,7 @@ class Cases:
     # A file that changed, and gets its name back.
 
     def put_back(self, more=(), change=lambda folder: None):
-        """A file is appended to behind its second reading, and a rule of strace's meets the calls that give it its name
+        """A file is appended to behind its last look, and a rule of strace's meets the calls that give it its name
         back. The status, and the folder behind three more runs."""
         def append(folder):
             with open(folder / "in" / "a", "ab") as file:
@@ -274,8 +276,8 @@ class Cases:
             change(folder)
 
         with self.folder() as folder:
-            status, _ = stopped_in(self.program, folder, PATHS, "pread64", 2, append,
-                                   more=["-e", "trace=link,linkat,rename,renameat,renameat2,unlink,unlinkat,pread64,fsync",
+            status, _ = stopped_in(self.program, folder, PATHS, "statx", self.looks, append,
+                                   more=["-e", "trace=link,linkat,rename,renameat,renameat2,unlink,unlinkat,statx,fsync",
                                          *more])
             left = read_files(folder / "in")
             self.to_the_end(folder)
@@ -334,17 +336,16 @@ class Cases:
                 need(delivered(folder) == [FIRST, FIRST], f"{call}: {delivered(folder)} were delivered")
 
     def refused_reading(self):
-        """A reading that is refused once isn't tried again."""
-        for number in (1, 2):
-            with self.folder({"a": FIRST}) as folder, new_folder() as aside:
-                ended = subprocess.run(["strace", "-f", "-qq", "-P", "in/a", "-e", "trace=pread64", "-e",
-                                        f"inject=pread64:error=EIO:when={number}", "-o", aside / "trace", self.program,
-                                        "run"], cwd=folder, check=False, stdin=subprocess.DEVNULL,
-                                       stdout=subprocess.DEVNULL, stderr=subprocess.DEVNULL)
-                need(ended.returncode == INBOX, f"reading {number}: status {ended.returncode}")
-                count = (aside / "trace").read_text().count("pread64(")
-                need(count == number, f"reading {number}: {count} reads")
-                need(delivered(folder) == [] and names(folder / "in") == ["a"], f"reading {number}: something was done")
+        """A reading that is refused isn't tried again."""
+        with self.folder({"a": FIRST}) as folder, new_folder() as aside:
+            ended = subprocess.run(["strace", "-f", "-qq", "-P", "in/a", "-e", "trace=pread64", "-e",
+                                    "inject=pread64:error=EIO:when=1", "-o", aside / "trace", self.program,
+                                    "run"], cwd=folder, check=False, stdin=subprocess.DEVNULL,
+                                   stdout=subprocess.DEVNULL, stderr=subprocess.DEVNULL)
+            need(ended.returncode == INBOX, f"status {ended.returncode}")
+            count = (aside / "trace").read_text().count("pread64(")
+            need(count == 1, f"{count} reads")
+            need(delivered(folder) == [] and names(folder / "in") == ["a"], "something was done")
 
     def long_names(self):
         """A name that has no room for what is set before it is removed where it stands."""
@@ -357,7 +358,7 @@ class Cases:
                 def append(folder, name=name):
                     with open(folder / "in" / name, "ab") as file:
                         file.write(MORE)
-                status, _ = stopped_in(self.program, folder, f"in/{name}", "pread64", 2, append)
+                status, _ = stopped_in(self.program, folder, f"in/{name}", "statx", 3, append)
                 need(status == INBOX, f"{length} bytes: status {status}")
                 need(read_files(folder / "in") == {name: FIRST + MORE}, f"{length} bytes: in holds {names(folder / 'in')}")
                 self.to_the_end(folder)
@@ -430,8 +431,8 @@ class Cases:
             need(sorted(delivered(folder)) == sorted([OTHER, whole]), "the next run doesn't deliver it whole")
 
     def written_behind_the_listing(self):
-        """Who begins to write to a file behind the look of a run's listing, or between its readings, is found by the next
-        reading: 6, nothing taken of it."""
+        """Who begins to write to a file behind the look of a run's listing, or behind its reading, is found by the next
+        look: 6, nothing taken of it."""
         for call in ("statx", "pread64"):
             with self.folder() as folder, contextlib.ExitStack() as writing:
                 status, _ = stopped_in(self.program, folder, "in/a", call, 1,
@@ -644,7 +645,7 @@ def main():
             ("names like those of files aside", cases.names_aside),
             ("just written: a run waits for all of them once, and for no other file", cases.lets_settle),
             ("being written: it stays, and the next run takes it whole", cases.stays_while_it_is_written),
-            ("written to from behind the listing, or between readings: 6, nothing taken", cases.written_behind_the_listing),
+            ("written to from behind the listing, or the reading: 6, nothing taken", cases.written_behind_the_listing),
             ("handed over by rename beside runs: each version is accounted for", cases.handed_over),
             ("written to beside runs", cases.written_beside)):
         if given.only in text:

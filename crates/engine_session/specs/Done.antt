@@ -1,14 +1,16 @@
 -- The work on a job.
-use Rattle.std.specs.Prelude.{◌≡◌, ⊤, ℕ, List, Option, None, Some, map, slice_get}
-use Rattle.std.specs.Option.{option_and_then}
+use Rattle.std.specs.Prelude.{◌≡◌, ⊤, ℕ, ◌≤◌, Bool, IsTrue, List, Option, None, Some, length, map, slice_get}
+use Rattle.std.specs.Option.{IsSomeAnd, option_and_then}
+use Rattle.flowfile_record.specs.NamedFile.{NamedFile, bytes_of}
 use Rattle.flowfile_record.specs.Outcome.{written_in}
+use Rattle.flowfile_record.specs.declared.TheConstants.{CONTENT_MAX}
 use Rattle.flowfile_record.specs.declared.worked.Outcome.{Outcome}
 use Rattle.machine_model.specs.declared.flow.Flow.{Flow}
 use Rattle.machine_model.specs.declared.given.Given.{Given}
 use Rattle.machine_model.specs.declared.journal.Step.{Step}
 use Rattle.machine_model.specs.declared.journal.Step.TheVariants.{Session}
 use Rattle.processor_api.specs.Acts.{KeepsGiven}
-use Rattle.engine_session.specs.Handing.{taken_with_contents}
+use Rattle.engine_session.specs.Handing.{HaveRead, files_fit_a_content, taken_with_contents}
 use Rattle.engine_session.specs.Working.{IsWorkAt, MayWork}
 use Rattle.engine_session.specs.declared.done.Done.{Done}
 use Rattle.engine_session.specs.declared.job.Job.{Job}
@@ -27,10 +29,18 @@ pub record IsWorkOn (flow : Flow) (store : ℕ) (job : Job) (done : Done) : Type
   pub work : IsWorkAt flow job.processor (taken_with_contents store job.files job.contents) job.given
       (done.outcome, done.sources)
 
--- It is the work on some job, which was given bytes for a file that it received alone.
-pub record WorkIsDone (flow : Flow) (store : ℕ) (done : Done) : Type 0 where
+-- A file that was received has bytes, no more than a content may have, and those of the inbox's file where the inbox
+-- tells. Without such a file there are none.
+abbrev pub HasBytesFrom : (in_tells : Bool) → List NamedFile → (file bytes : Option (List ℕ)) → Type 0
+HasBytesFrom in_tells left None bytes = bytes ≡ None
+HasBytesFrom in_tells left (Some name) bytes =
+    IsSomeAnd bytes (λ bytes. length bytes ≤ CONTENT_MAX) × (IsTrue in_tells → bytes_of left name ≡ bytes)
+
+-- It is the work on some job, as that was read: of its files, and of the file that it received, which is left.
+pub record WorkIsDone (flow : Flow) (store : ℕ) (in_tells : Bool) (left : List NamedFile) (done : Done) : Type 0 where
   pub job : Job
-  pub none : job.given.file ≡ None → job.given.bytes ≡ None
+  pub read : HaveRead (files_fit_a_content job.files) job.files job.contents
+  pub received : HasBytesFrom in_tells left job.given.file job.given.bytes
   pub work : IsWorkOn flow store job done
 
 -- ---- what shows of it

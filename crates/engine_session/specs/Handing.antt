@@ -46,6 +46,10 @@ AreReadOf bytes fits (file ∷ files) (read ∷ contents) =
     IsReadContent bytes fits file read × AreReadOf bytes fits files contents
 AreReadOf bytes fits _ _ = ⊥
 
+-- there are bytes that the references of these files stand for, and what was read are these
+abbrev pub HaveRead : (fits : Bool) → List FlowFile → List (Option (List ℕ)) → Type 0
+HaveRead fits files contents = (bytes : ContentRef → List ℕ) × AreReadOf bytes fits files contents
+
 -- A session takes these files: the live ones of these numbers, each once, all of one connection. Their contents were
 -- read, unless together they are too large.
 pub record AreTaken (k : Kept) (connection : ℕ) (numbers : List ℕ) (bytes : ContentRef → List ℕ)

@@ -24,6 +24,36 @@ pub struct Done {
     pub(crate) sources: SourceList,
 }
 
+impl Done {
+    /// The place of the connection that its files were taken from.
+    pub fn connection(&self) -> u16
+        ensures { result ≡ self.now.connection }
+    {
+        self.connection
+    }
+
+    /// The numbers of its files.
+    pub fn numbers(&self) -> &[u64]
+        ensures { result.now ≡ self.now.numbers }
+    {
+        self.numbers.as_slice()
+    }
+
+    /// Its files, as they stood in their queue.
+    pub fn files(&self) -> &[FlowFile]
+        ensures { result.now ≡ self.now.files }
+    {
+        self.files.as_slice()
+    }
+
+    /// What stays of its files, with the contents that it had.
+    pub fn sources(&self) -> &[Source]
+        ensures { result.now ≡ self.now.sources }
+    {
+        self.sources.as_slice()
+    }
+}
+
 /// Has the processor of a job work on it, between one `enter` and one `leave` of the gate with the session's number,
 /// also where memory is wanting. The uuids of its files are those of the store of this id.
 pub fn work<G: Gate>(
@@ -105,7 +135,8 @@ pub fn is_work_on(done: &Done, job: &Job) -> bool
         && is_received_as(&done.outcome, &job.given)
 }
 
-fn are_same_files(files: &[FlowFile], others: &[FlowFile]) -> bool
+/// Whether the files are these, as they stand in a queue.
+pub fn are_same_files(files: &[FlowFile], others: &[FlowFile]) -> bool
     ensures { IsTrue result ↔ (files.now ≡ others.now) }
 {
     if files.len() != others.len() {

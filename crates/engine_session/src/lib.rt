@@ -11,7 +11,7 @@ mod laws;
 mod working;
 
 pub use change::{Changed, Sending, session_change};
-pub use done::{Done, is_work_on, step_done, work};
+pub use done::{Done, are_same_files, is_work_on, step_done, work};
 pub use handing::{ReadList, fit_a_content, live_files};
 pub use job::Job;
 pub use laws::{sessions_are_steps, taken_files_are_handed, taken_files_are_live};

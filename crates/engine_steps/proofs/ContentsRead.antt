@@ -9,8 +9,7 @@ use Rattle.disk_trait.specs.Files.{Files}
 use Rattle.content_repo.specs.Claims.{IsRead, content_in}
 use Rattle.flowfile_record.specs.declared.content.ContentRef.{ContentRef}
 use Rattle.flowfile_record.specs.declared.flow_file.FlowFile.{FlowFile}
-use Rattle.engine_session.specs.Handing.{AreReadOf, IsReadContent}
-use Rattle.engine_steps.specs.Handing.{HaveRead}
+use Rattle.engine_session.specs.Handing.{AreReadOf, HaveRead, IsReadContent}
 
 -- ---- behind what was read
 

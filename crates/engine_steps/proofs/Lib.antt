@@ -20,6 +20,7 @@ pub mod RunsBehind
 pub mod RunsOn
 pub mod Short
 pub mod Stands
+pub mod StandsStill
 pub mod Steps
 pub mod Tends
 pub mod Tidied

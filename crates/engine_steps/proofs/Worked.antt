@@ -1,7 +1,8 @@
 -- That what shows of the work on a job tells whose work it is.
-use Rattle.std.proofs.Common.{◌≡◌, ℕ, List, [], ◌∷◌, length, map, refl, sym, ap, subst, ◌∙◌}
+use Rattle.std.proofs.Common.{◌≡◌, ℕ, Bool, List, [], ◌∷◌, length, map, refl, sym, ap, subst, ◌∙◌}
 use Rattle.std.specs.Prelude.{Option, None, Some, slice_get}
 use Rattle.std.specs.Option.{option_to_list}
+use Rattle.flowfile_record.specs.NamedFile.{NamedFile}
 use Rattle.flowfile_record.specs.Stored.{Kept}
 use Rattle.flowfile_record.specs.declared.flow_file.FlowFile.{FlowFile}
 use Rattle.flowfile_record.specs.declared.worked.Outcome.{Outcome}
@@ -21,7 +22,7 @@ use Rattle.engine_session.specs.Working.{IsWorkOf}
 use Rattle.engine_choice.specs.Laws.{given_for}
 use Rattle.engine_choice.specs.declared.choice.Taking.{Taking}
 use Rattle.engine_choice.specs.declared.choice.Taking.TheVariants.{Files, Generate, Receive}
-use Rattle.engine_session.specs.Done.{WorkIsDone, IsSame, IsWorkOn, ReceivesAs, first_made}
+use Rattle.engine_session.specs.Done.{HasBytesFrom, WorkIsDone, IsSame, IsWorkOn, ReceivesAs, first_made}
 use Rattle.engine_steps.specs.Handing.{HasBytes, JobIsHanded}
 use Rattle.engine_session.specs.Job.{MayHand}
 use Rattle.engine_session.specs.declared.done.Done.{Done}
@@ -77,7 +78,7 @@ by_kind : (kind : Kind) (name : List ℕ) (count : ℕ) (given : Given) (outcome
 by_kind (GetFile filter) name count given outcome is rule file acts = made_so given.file given.bytes name outcome file (acts rule [] tt)
 by_kind kind name count given outcome is rule file acts = absurd cc
 
-module _ (flow : Flow) (store : ℕ) (k : Kept) (done : Done) (again : Job) (of : WorkIsDone flow store done) (same : IsSame done again) (hand : MayHand flow k again)
+module _ (flow : Flow) (store : ℕ) (k : Kept) (in_tells : Bool) (left : List NamedFile) (done : Done) (again : Job) (of : WorkIsDone flow store in_tells left done) (same : IsSame done again) (hand : MayHand flow k again)
     (none : again.given.file ≡ None → again.given.bytes ≡ None) where
   abbrev first : Job
   first = of.job
@@ -113,7 +114,7 @@ module _ (flow : Flow) (store : ℕ) (k : Kept) (done : Done) (again : Job) (of 
   bytes_are = by again.given.file refl
     where
       by : (o : Option (List ℕ)) → again.given.file ≡ o → first.given.bytes ≡ again.given.bytes
-      by None is = of.none (file_is ∙ is) ∙ sym (none is)
+      by None is = subst (λ (file : Option (List ℕ)). HasBytesFrom in_tells left file first.given.bytes) (file_is ∙ is) of.received ∙ sym (none is)
       by (Some name) is =
           let receives : received_name hand.processor.kind (Some name) ≡ name ∷ [] =
           ap (received_name hand.processor.kind) (sym is) ∙ hand.file ∙ ap option_to_list is in

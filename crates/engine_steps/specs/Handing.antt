@@ -14,7 +14,7 @@ use Rattle.engine_choice.specs.Laws.{given_for, numbers_in}
 use Rattle.engine_choice.specs.declared.choice.Choice.{Choice}
 use Rattle.engine_choice.specs.declared.choice.Taking.{Taking}
 use Rattle.engine_choice.specs.declared.choice.Taking.TheVariants.{Files, Receive}
-use Rattle.engine_session.specs.Handing.{AreReadOf, AreTaken}
+use Rattle.engine_session.specs.Handing.{AreTaken}
 use Rattle.engine_session.specs.declared.job.Job.{Job}
 
 -- ---- what is taken
@@ -34,12 +34,6 @@ MayBeTaken k _ = ⊤
 abbrev pub MayBeReceived : List NamedFile → Taking → Type 0
 MayBeReceived left (Receive name) = IsSomeAnd (bytes_of left name) (λ bytes. length bytes ≤ CONTENT_MAX)
 MayBeReceived left _ = ⊤
-
--- ---- what is read
-
--- there are bytes that the references of these files stand for, and what was read are these
-abbrev pub HaveRead : (fits : Bool) → List FlowFile → List (Option (List ℕ)) → Type 0
-HaveRead fits files contents = (bytes : ContentRef → List ℕ) × AreReadOf bytes fits files contents
 
 -- ---- what is handed
 

@@ -14,5 +14,6 @@ pub mod Opening
 pub mod Ready
 pub mod Running
 pub mod Showing
+pub mod Standing
 pub mod Tending
 pub mod TendingParts

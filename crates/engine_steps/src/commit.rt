@@ -1,5 +1,5 @@
 //! A session that was worked on becomes part of the run, if its job still stands.
-ghost use Rattle.std.specs.Prelude.{◌≡◌, ◌⊎◌, ◌↔◌, ℕ, ◌-◌, ◌^◌, ◌<◌, ◌≤◌, true, false, None, Ok, IfOk, OnOk, IsErrOf, IsTrue};
+ghost use Rattle.std.specs.Prelude.{◌≡◌, ◌⊎◌, ◌↔◌, ℕ, ◌-◌, ◌^◌, ◌<◌, ◌≤◌, true, false, None, Some, Ok, IfOk, OnOk, IsErrOf, IsTrue};
 ghost use Rattle.disk_trait.specs.Faults.{CountsFaults};
 ghost use Rattle.disk_trait.specs.Images.{Stays};
 ghost use Rattle.disk_trait.specs.declared.damage.Damage.{Damage as TheDamage};
@@ -11,6 +11,7 @@ ghost use Rattle.machine_model.specs.State.{Machine};
 ghost use Rattle.machine_model.specs.declared.flow.Flow.{Flow as TheFlow};
 ghost use Rattle.store_core.specs.Change.{HasLiveContents, MayChange};
 ghost use Rattle.store_core.specs.Store.{kept_by};
+ghost use Rattle.engine_steps.specs.Checkout.{session_in};
 ghost use Rattle.engine_steps.specs.Commit.{CommitsAlone, IsEntered, IsInboxBehind, IsInboxLeft, IsJournaled, IsLeftOut, IsOutboxBehind, MakesEntry, StandsOtherwise, StandsSo, TakesWhatStands};
 ghost use Rattle.engine_steps.specs.Committing.{HasWritten, IsAtWorkWithQueues, IsOutboxLeft};
 ghost use Rattle.engine_session.specs.Done.{WorkIsDone, step_done};
@@ -31,8 +32,9 @@ use crate::engine::Engine;
 use crate::journal::note;
 use crate::memory::holds_its_state;
 use crate::sending::{commit, remove};
+use crate::standing::handed_stands;
 use disk_trait::Disk;
-use engine_choice::{choices_are_seen, choices_are_sessions};
+use engine_choice::{Choice, choices_are_seen, choices_are_sessions};
 use engine_queues::what_is_kept_is_seen;
 use engine_session::{Changed, Done, is_work_on, session_change, step_done, taken_files_are_live};
 use machine_model::{Given, Step};
@@ -50,10 +52,11 @@ pub enum Committed {
 }
 
 impl Engine<'_> {
-    /// Makes a session part of the run. First its job is read again: where that is no longer what its processor worked
-    /// on, nothing is done. Else what it sends is put into the outbox, its change is committed, and then the file that
-    /// it received is removed from the inbox. Before the put all its memory is taken. It asks for the moment at which its
-    /// processor worked, no earlier than the journal's last.
+    /// Makes a session part of the run. First it looks whether its job still stands: where the queues, the contents or
+    /// the outbox are no longer what its processor worked on, nothing is done. The file that it received isn't read
+    /// again: the inbox is asked for it, and answers with a failure where it changed. Then what the session sends is put
+    /// into the outbox, its change is committed, and the file that it received is removed from the inbox. Before the put
+    /// all its memory is taken. It asks for the moment at which its processor worked, no earlier than the journal's last.
     pub fn commit<D: Disk, I: Inbox, O: Outbox>(
         &mut self,
         alloc: Global,
@@ -63,7 +66,7 @@ impl Engine<'_> {
         done: Done,
     ) -> Result<Committed, EngineError>
         requires usable { IsUsableWith D.tells D.held D.moment D.images I.tells (I.left inbox.old) self.old disk.old }
-        requires done { WorkIsDone self.old.flow (kept_by self.old.store).store done }
+        requires done { WorkIsDone self.old.flow (kept_by self.old.store).store I.tells (I.left inbox.old) done }
         // Acknowledged, the journal has one entry more, this session, and what it sends was put. Else all is as it was, but
         // at a failure of a device.
         ensures entered { MakesEntry result done (D.moment disk.new) I.tells O.tells self.old self.new
@@ -104,7 +107,7 @@ impl Engine<'_> {
         done: Done,
     ) -> Result<Committed, EngineError>
         requires may { MayGoOn D.tells D.held D.moment D.images I.tells (I.left inbox.old) self.old disk.old }
-        requires done { WorkIsDone self.old.flow (kept_by self.old.store).store done }
+        requires done { WorkIsDone self.old.flow (kept_by self.old.store).store I.tells (I.left inbox.old) done }
         ensures entered { MakesEntry result done (D.moment disk.new) I.tells O.tells self.old self.new
             (I.left inbox.old) (I.left inbox.new) (outgoing O.standing O.puts outbox.old)
             (outgoing O.standing O.puts outbox.new) }
@@ -132,7 +135,8 @@ impl Engine<'_> {
         Ok(Committed::Acked { entry, moment })
     }
 
-    // Whether the job of this work still stands: whether the session that comes next at its moment is handed the same.
+    // Whether the job of this work still stands: whether the session that comes next at its moment is handed the same. It
+    // is read again only where that doesn't show without.
     fn stands<D: Disk, I: Inbox, O: Outbox>(
         &mut self,
         alloc: Global,
@@ -143,7 +147,7 @@ impl Engine<'_> {
     ) -> Result<bool, EngineError>
         requires ready { EngineIsReady D.tells D.held D.moment D.images self.old disk.old }
         requires left { IsTrue I.tells → AreTakeable (I.left inbox.old) self.old.listing.names }
-        requires done { WorkIsDone self.old.flow (kept_by self.old.store).store done.now }
+        requires done { WorkIsDone self.old.flow (kept_by self.old.store).store I.tells (I.left inbox.old) done.now }
         ensures so { result ≡ Ok true
             → StandsSo D.tells I.tells O.tells self.old (content_in (D.held disk.old))
             (I.left inbox.old) (O.standing outbox.old) done.now }
@@ -161,6 +165,69 @@ impl Engine<'_> {
         let Some(choice) = self.next_session(alloc, moment)? else {
             return Ok(false);
         };
+        if self.shows_to_stand(alloc, disk, inbox, outbox, &choice, done)? {
+            return Ok(true);
+        }
+        self.stands_read_again(alloc, disk, inbox, outbox, choice, done)
+    }
+
+    // Whether the job of this work shows to stand, without being read again.
+    fn shows_to_stand<D: Disk, I: Inbox, O: Outbox>(
+        &mut self,
+        alloc: Global,
+        disk: &mut D,
+        inbox: &mut I,
+        outbox: &mut O,
+        choice: &Choice,
+        done: &Done,
+    ) -> Result<bool, EngineError>
+        requires ready { EngineIsReady D.tells D.held D.moment D.images self.old disk.old }
+        requires chosen { session_in self.old done.now.given.moment ≡ Some choice.now }
+        requires left { IsTrue I.tells → AreTakeable (I.left inbox.old) self.old.listing.names }
+        requires done { WorkIsDone self.old.flow (kept_by self.old.store).store I.tells (I.left inbox.old) done.now }
+        ensures so { result ≡ Ok true
+            → StandsSo D.tells I.tells O.tells self.old (content_in (D.held disk.old))
+            (I.left inbox.old) (O.standing outbox.old) done.now }
+        ensures reread { IsReread result D.held D.moment D.images self.old self.new disk.old disk.new
+            (I.left inbox.old) (I.left inbox.new) (outgoing O.standing O.puts outbox.old)
+            (outgoing O.standing O.puts outbox.new) }
+        ensures refusal { FailsToReread result D.tells }
+        ensures cause { CountsEachFault result (D.faults disk.old) (D.faults disk.new)
+            (I.faults inbox.old) (I.faults inbox.new) (O.faults outbox.old) (O.faults outbox.new) }
+    {
+        holds_its_state(&self.store, disk);
+        what_is_kept_is_seen();
+        handed_stands(alloc, &mut self.store, disk, inbox, outbox, choice, done)
+    }
+
+    // Whether the job of this work still stands, by a job that is read again.
+    fn stands_read_again<D: Disk, I: Inbox, O: Outbox>(
+        &mut self,
+        alloc: Global,
+        disk: &mut D,
+        inbox: &mut I,
+        outbox: &mut O,
+        choice: Choice,
+        done: &Done,
+    ) -> Result<bool, EngineError>
+        requires ready { EngineIsReady D.tells D.held D.moment D.images self.old disk.old }
+        requires chosen { session_in self.old done.now.given.moment ≡ Some choice }
+        requires left { IsTrue I.tells → AreTakeable (I.left inbox.old) self.old.listing.names }
+        requires done { WorkIsDone self.old.flow (kept_by self.old.store).store I.tells (I.left inbox.old) done.now }
+        ensures so { result ≡ Ok true
+            → StandsSo D.tells I.tells O.tells self.old (content_in (D.held disk.old))
+            (I.left inbox.old) (O.standing outbox.old) done.now }
+        ensures otherwise { result ≡ Ok false
+            → StandsOtherwise D.tells I.tells O.tells self.old (content_in (D.held disk.old))
+            (I.left inbox.old) (O.standing outbox.old) done.now }
+        ensures reread { IsReread result D.held D.moment D.images self.old self.new disk.old disk.new
+            (I.left inbox.old) (I.left inbox.new) (outgoing O.standing O.puts outbox.old)
+            (outgoing O.standing O.puts outbox.new) }
+        ensures refusal { FailsToReread result D.tells }
+        ensures cause { CountsEachFault result (D.faults disk.old) (D.faults disk.new)
+            (I.faults inbox.old) (I.faults inbox.new) (O.faults outbox.old) (O.faults outbox.new) }
+    {
+        let moment = done.given.moment;
         let job = self.read_job(alloc, disk, inbox, outbox, moment, choice)?;
         Ok(is_work_on(done, &job))
     }

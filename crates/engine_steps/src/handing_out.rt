@@ -232,8 +232,8 @@ fn hand_files<D: Disk, O: Outbox>(
     })
 }
 
-// Whether the outbox has what the first file is named.
-fn is_there<O: Outbox>(
+/// Whether the outbox has what the first file is named.
+pub(crate) fn is_there<O: Outbox>(
     alloc: Global,
     outbox: &mut O,
     files: &[FlowFile],

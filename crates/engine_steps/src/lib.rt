@@ -13,6 +13,7 @@ mod journal;
 mod memory;
 mod reading;
 mod sending;
+mod standing;
 mod tending;
 
 pub use checkout::Checkout;

@@ -5,11 +5,10 @@ ghost use Rattle.disk_trait.specs.Images.{Stays};
 ghost use Rattle.disk_trait.specs.declared.damage.Damage.{Damage as TheDamage};
 ghost use Rattle.flowfile_record.specs.declared.flow_file.FlowFile.{FlowFile as TheFile};
 ghost use Rattle.content_repo.specs.Claims.{IsRead, content_in};
-ghost use Rattle.engine_session.specs.Handing.{AreReadOf, files_fit_a_content};
+ghost use Rattle.engine_session.specs.Handing.{AreReadOf, HaveRead, files_fit_a_content};
 ghost use Rattle.machine_model.specs.declared.flow.Flow.{Flow as TheFlow};
 ghost use Rattle.store_core.specs.Store.{live_in};
 ghost use Rattle.engine_steps.specs.Errors.{IsReadBy};
-ghost use Rattle.engine_steps.specs.Handing.{HaveRead};
 ghost use Rattle.run_law.specs.Work.{DoesNotTell, IsAtWork};
 ghost use Rattle.engine_steps.specs.HandingParts.{ReadsContents};
 

@@ -27,7 +27,7 @@ use world_io::{Inbox, WorldError};
 /// what goes on being written meanwhile is left out of the listing, and makes the reading fail.
 ///
 /// A file that the system wouldn't let go isn't read. Only the file that was read last is removed, and only where it
-/// didn't change since. For that it is set aside for a moment, as `.flow-taken-0-` and its name: what a stop leaves so
+/// didn't change since. Where it changed, its size isn't told either. For that it is set aside for a moment, as `.flow-taken-0-` and its name: what a stop leaves so
 /// gets its name back at the next listing, or at a later one where another file has that name.
 #[derive(Drop)]
 pub struct InboxFolder<'r, R> {
@@ -115,7 +115,7 @@ impl<'r, R: Files<File = File> + Alloc + Clock + Sync> Inbox for InboxFolder<'r,
     fn size(&mut self, name: &Name) -> Result<u64, Failed> {
         let answer = match take_listed(&mut self.listed, name) {
             Some(size) => Ok(size),
-            None => size_at(&self.place, name),
+            None => size_at(&self.place, &self.seen, name),
         };
         counted(&mut self.faults, answer)
     }
@@ -282,10 +282,20 @@ fn take_listed(listed: &mut Vec<ListedFile>, name: &Name) -> Option<u64> {
     }
 }
 
-/// The size of a file, which isn't opened for that.
-fn size_at<R: Files>(place: &Place<'_, R>, name: &Name) -> io::Result<u64> {
+/// The size of a file, which isn't opened for that. The file that was read last has to be as it was then.
+fn size_at<R: Files>(
+    place: &Place<'_, R>,
+    seen: &Option<SeenFile>,
+    name: &Name,
+) -> io::Result<u64> {
     let path = place.entry(name.text())?;
-    Ok(found_at(place.rt, path.as_str())?.len())
+    let found = found_at(place.rt, path.as_str())?;
+    match seen {
+        Some(last) if last.name == *name && last.look != Look::at(&found) => {
+            Err(ErrorKind::ResourceBusy.into())
+        }
+        _ => Ok(found.len()),
+    }
 }
 
 /// What the system tells of the regular file at a path.

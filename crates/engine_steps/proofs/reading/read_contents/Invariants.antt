@@ -2,8 +2,7 @@ use Rattle.std.proofs.Common.{◌≡◌, ◌≤◌, length, take}
 use Rattle.std.specs.Prelude.{IsTrue}
 use Rattle.disk_trait.specs.Images.{Stays}
 use Rattle.content_repo.specs.Claims.{content_in}
-use Rattle.engine_session.specs.Handing.{AreReadOf}
-use Rattle.engine_steps.specs.Handing.{HaveRead}
+use Rattle.engine_session.specs.Handing.{AreReadOf, HaveRead}
 use Rattle.engine_steps.proofs.reading.read_contents.Given as goal
 
 abbrev pub invariant-loop-place : goal.invariant-loop-place

@@ -2,8 +2,7 @@ use Rattle.std.proofs.Common.{ap, refl, rules, ◌∙◌, ◌≡◌, ◌∷◌, 
 use Rattle.std.specs.Prelude.{Err, Option}
 use Rattle.std.proofs.lemmas.Result.{err_from_is_err_and}
 use Rattle.content_repo.specs.Claims.{content_in}
-use Rattle.engine_session.specs.Handing.{AreReadOf}
-use Rattle.engine_steps.specs.Handing.{HaveRead}
+use Rattle.engine_session.specs.Handing.{AreReadOf, HaveRead}
 use Rattle.engine_steps.specs.declared.error.EngineError.{EngineError}
 use Rattle.engine_steps.proofs.ContentsRead.{read_anew, read_held, shared_read}
 use Rattle.engine_steps.proofs.reading.read_next.Goals as goal

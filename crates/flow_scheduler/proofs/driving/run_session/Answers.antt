@@ -1,14 +1,18 @@
-use Rattle.std.proofs.Common.{◌≡◌, inl, ℕ, refl, ◌∙◌, ap, subst, arith, rules}
+use Rattle.std.proofs.Common.{◌≡◌, inl, ℕ, refl, ◌∙◌, ap, subst, arith, rules, sym, List}
 use Rattle.std.specs.Prelude.{false, Err}
 use Rattle.std.proofs.lemmas.Grind.{common_steps}
 use Rattle.std.proofs.lemmas.Result.{err_from_is_err_and}
+use Rattle.flowfile_record.specs.NamedFile.{NamedFile}
+use Rattle.content_repo.specs.Claims.{content_in}
 use Rattle.store_core.specs.Store.{kept_by}
+use Rattle.engine_session.specs.Done.{IsWorkOn, WorkIsDone}
 use Rattle.run_law.proofs.Writing.{reads_only}
 use Rattle.engine_steps.specs.Engine.{EngineState}
 use Rattle.engine_steps.specs.Running.{IsRunning, Stops}
 use Rattle.engine_steps.specs.declared.error.EngineError.{EngineError}
 use Rattle.engine_steps.proofs.Goes.{spared_by_read, stops_unmoved}
 use Rattle.engine_steps.proofs.Reread.{still_runs}
+use Rattle.engine_steps.proofs.StandsStill.{work_is_done}
 use Rattle.flow_scheduler.proofs.Turning.{moment_of_work, read_same, still_works, stopped_at}
 use Rattle.flow_scheduler.proofs.Growing.{committed_grows, grows_behind}
 use Rattle.run_law.specs.Puts.{outgoing}
@@ -125,3 +129,14 @@ returns-clause-grows g c =
     let at : c.in_ok-done.done.given.moment ≡ c.args.moment = moment_of_work (kept_by e.store) c.args.moment next.choice c.in_ok-job.job c.in_ok-done.done.given next.handed c.in_ok-done.ensures.given in
     grows_behind c.args.moment e.journal c.read.new.self.journal c.commit.new.self.journal (ap (λ (x : EngineState). x.journal) (c.in_ok-job.ensures.engine.unchanged (λ disk. cc)))
     (committed_grows c.in_ok-done.done c.args.moment (g.D.Disk.moment c.commit.new.disk) at c.read.new.self c.commit.new.self c.commit.result c.commit.ensures.entered.journal)
+
+pub commit-requires-clause-done : goal.commit-requires-clause-done
+commit-requires-clause-done g c κs within =
+    let e : EngineState = c.args.engine.now in
+    let same : c.read.new.self ≡ e = c.in_ok-job.ensures.engine.unchanged (λ disk. cc) in
+    let next = c.in_ok-job.ensures.job.0 in
+    let work = subst (λ (x : EngineState). IsWorkOn x.flow (kept_by x.store).store c.in_ok-job.job c.in_ok-done.done) same (search rules) in
+    subst (λ (x : EngineState). WorkIsDone x.flow (kept_by x.store).store g.I.Inbox.tells (g.I.Inbox.left c.read.new.inbox) c.in_ok-done.done) (sym same)
+    (subst (λ (left : List NamedFile). WorkIsDone e.flow (kept_by e.store).store g.I.Inbox.tells left c.in_ok-done.done) (sym c.read.ensures.world.1)
+    (work_is_done g.D.Disk.tells g.I.Inbox.tells g.O.Outbox.tells e (content_in (g.D.Disk.held c.args.disk.now)) (g.I.Inbox.left c.args.inbox.now) (g.O.Outbox.standing c.args.outbox.now) c.args.moment
+    c.in_ok-job.job c.in_ok-done.done next work))
