@@ -51,7 +51,7 @@ SYNCS_OF_CLONES = 4 + 5 * QUEUES
 FEW, MORE = 20, 120
 
 # Each further file may ask the system so many times at most, with its share of what comes once in many files.
-CALLS_OF_A_FILE = 37
+CALLS_OF_A_FILE = 36
 
 # Of these sizes all contents of a run go into one claim.
 SMALL = 64
