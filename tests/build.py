@@ -11,6 +11,11 @@ from support import ROOT, Report, need, new_folder, options
 # Notes its crate and words when it begins and when it ends, and fails in one crate.
 BUILDER = """#!/usr/bin/env bash
 crate=$(basename "$PWD")
+# As rt does, it keeps others out of the folder of a crate below.
+if [ -d ../flowfile_record ] && command -v flock >/dev/null; then
+    exec 9<../flowfile_record
+    flock 9
+fi
 printf 'begin %s %s\\n' "$crate" "$*" >> "$NOTES"
 sleep 0.05
 printf 'end %s\\n' "$crate" >> "$NOTES"
