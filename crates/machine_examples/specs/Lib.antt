@@ -1,6 +1,7 @@
 pub mod Acks
 pub mod Agings
 pub mod Batches
+pub mod Changes
 pub mod Clones
 pub mod Cuts
 pub mod Elsewhere
