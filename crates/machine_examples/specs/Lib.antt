@@ -3,6 +3,7 @@ pub mod Agings
 pub mod Batches
 pub mod Changes
 pub mod Clones
+pub mod Copies
 pub mod Cuts
 pub mod Elsewhere
 pub mod Ends

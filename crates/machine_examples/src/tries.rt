@@ -15,6 +15,7 @@ ghost use Rattle.machine_model.specs.Files.{view_of};
 ghost use Rattle.machine_model.specs.declared.journal.Step.TheVariants.{SwapOut, SwapIn};
 ghost use Rattle.machine_examples.specs.Changes.{ChangeGives};
 ghost use Rattle.machine_examples.specs.Clones.{EachGoesItsWay, ReceivedSays, GeneratedSays, TwoFanOut, CopiesGoByOriginals, BesideADrop, NoValueIsEmpty, FourClonesFollow, ClonesArePenalisedToo, duplicating, EachConnectionGetsOne, MadeIsNamed, NamedKeepsItsName, TakenStaysNameless};
+ghost use Rattle.machine_examples.specs.Copies.{TwoAreCopied, NoneIsCopied, FirstAndLastAreTrue, TwoAreRouted, OneIsRouted, NoneIsUnmatched};
 ghost use Rattle.machine_examples.specs.Ends.{NarrowIs, FilteredIsLeft, FoundIsWanted, SwappingIsQuiet, SwappingBlocks, ButForSwapsIsQuiet, ButForSwapsBlocks, QuietIs, left_a, taken_a, penalised, BlockedIs, RingIsQuiet, ringed};
 ghost use Rattle.machine_examples.specs.Expiries.{ExpiredIs, OneExpires, NoneExpiresAtOnce, TwoExpire, BatchGoes, BatchMustWait, BatchComesBack, GoesAndComesBack, SwapsDueAre, late, late_in_batch};
 ghost use Rattle.machine_examples.specs.Families.{Names, AnyNames, IsAncestorOf, IsNoAncestorOf, IsDescendantOf, IsNoDescendantOf, Tells, TellsNot, cloned, joined, stranger};
@@ -139,6 +140,17 @@ pub fn clones_are_told()
     ensures apart { EachGoesItsWay }
     ensures received { ReceivedSays }
     ensures generated { GeneratedSays }
+{}
+
+/// A DuplicateFlowFile copies a file as often as it says, or not at all where a copy would pass a limit. A file goes to
+/// the first of the relationships that are true of it, a clone to each other one, and to unmatched where none is.
+pub fn copies_are_told()
+    ensures copied { TwoAreCopied }
+    ensures not_copied { NoneIsCopied }
+    ensures true_places { FirstAndLastAreTrue }
+    ensures routed_two { TwoAreRouted }
+    ensures routed_one { OneIsRouted }
+    ensures routed_none { NoneIsUnmatched }
 {}
 
 /// What a PutFile makes of a file, by its strategy, by whether the outbox has the name, and by whether the name can
