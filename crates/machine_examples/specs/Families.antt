@@ -1,8 +1,8 @@
 -- Tried: ancestors and descendants over a clone and a join.
-use Rattle.std.specs.Prelude.{ℕ, List, [], ◌∷◌, codes}
+use Rattle.std.specs.Prelude.{◌≡◌, ℕ, Bool, List, [], ◌∷◌, codes}
 use Rattle.flowfile_record.specs.declared.event.Event.{Event}
 use Rattle.flowfile_record.specs.declared.event.EventKind.TheVariants as kind
-use Rattle.machine_model.specs.Lineage.{IsAncestor, IsDescendant, TellsOf}
+use Rattle.machine_model.specs.Lineage.{IsAncestor, IsDescendant, TellsOf, names, is_named}
 use Rattle.machine_examples.specs.Small.{hi, told}
 
 -- file 1 is received, 2 is a clone of it, 3 is received, 4 is joined of 2 and 3, 5 is received
@@ -38,3 +38,10 @@ Tells file event = TellsOf events file event
 
 abbrev pub TellsNot : (file : ℕ) → Event → Type 0
 TellsNot file event = TellsOf events file event → ⊥
+
+-- whether an event, and whether any, names a file
+abbrev pub Names : Event → (file : ℕ) → Bool → Type 0
+Names event file answer = names file event ≡ answer
+
+abbrev pub AnyNames : (file : ℕ) → Bool → Type 0
+AnyNames file answer = is_named events file ≡ answer

@@ -1,7 +1,9 @@
 pub mod Acks
 pub mod Agings
 pub mod Batches
+pub mod Changes
 pub mod Clones
+pub mod Copies
 pub mod Cuts
 pub mod Elsewhere
 pub mod Ends

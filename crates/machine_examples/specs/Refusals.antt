@@ -1,5 +1,5 @@
 -- Tried: steps that aren't defined.
-use Rattle.std.specs.Prelude.{◌≡◌, ℕ, Bool, false, List, [], ◌∷◌, length, Option, Some, None, codes}
+use Rattle.std.specs.Prelude.{◌≡◌, ℕ, Bool, false, List, [], ◌∷◌, length, map, Option, Some, None, codes}
 use Rattle.std.specs.FinMap.{empty}
 use Rattle.expr_lang.specs.declared.syntax.Expr.{Expr}
 use Rattle.machine_model.specs.declared.flow.Flow.{Flow}
@@ -11,6 +11,7 @@ use Rattle.machine_model.specs.declared.kind.Kind.TheVariants.{GenerateFlowFile}
 use Rattle.machine_model.specs.State.{QueuedFile, State, World}
 use Rattle.machine_model.specs.declared.kind.TakeRule.TheVariants.{One, Bin, Defragment}
 use Rattle.machine_model.specs.Stepping.{admits, given_at, is_there, step, taken_files}
+use Rattle.machine_model.specs.Files.{view_of}
 use Rattle.machine_model.specs.View.{FileView}
 use Rattle.machine_examples.specs.Told.{through, merge}
 use Rattle.machine_examples.specs.Small.{hi, success, processor, wide, get_to_put, a_txt, a_file, state_of, at_moment, session, machine, nothing, inbox_of, with_a}
@@ -173,6 +174,10 @@ TakesToMerge numbers taken =
     taken_files (through merge (codes "merged"))
     (state_of ((a_file 1 1 ∷ a_file 2 2 ∷ a_file 3 3 ∷ []) ∷ [] ∷ []) 4 4 (0 ∷ 0 ∷ 0 ∷ [])) 1 (Bin 1 2) numbers 1000
     ≡ taken
+
+-- a bin of one to three files
+abbrev pub BinAdmits : List QueuedFile → Bool → Type 0
+BinAdmits files answer = admits (Bin 1 3) [] (map view_of files) ≡ answer
 
 -- of fragments at least one is taken, and at most as many as any session takes
 abbrev pub NoFragmentsAreTaken : Type 0

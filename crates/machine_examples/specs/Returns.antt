@@ -1,5 +1,7 @@
 -- Tried: a file that goes back into its queue.
-use Rattle.std.specs.Prelude.{◌≡◌, ℕ, ◌-◌, ◌^◌, Bool, [], ◌∷◌, None, codes}
+use Rattle.std.specs.Prelude.{◌≡◌, ℕ, ◌-◌, ◌^◌, Bool, false, [], ◌∷◌, None, codes}
+use Rattle.flowfile_record.specs.Attributes.{AttributeMap}
+use Rattle.flowfile_record.specs.declared.worked.Body.TheVariants.{New}
 use Rattle.flowfile_record.specs.declared.worked.End.TheVariants.{Back}
 use Rattle.flowfile_record.specs.declared.worked.Outcome.{Outcome}
 use Rattle.machine_model.specs.declared.kind.Conflict.TheVariants.{Replace}
@@ -39,3 +41,13 @@ ReturnsUntil moment penalised end = settle (ending_at moment) (back penalised) �
 
 abbrev pub latest : ℕ
 latest = 2 ^ 64 - 1
+
+-- it is what the session has made of it
+abbrev pub renamed : AttributeMap
+renamed = received_attributes (codes "b")
+
+abbrev pub ReturnsAsMade : Type 0
+ReturnsAsMade =
+    (settle (ending_at 2000)
+    (record { files = record (passed_on 0 renamed false 0) { end = Back; body = New [] } ∷ []; sent = None })).queues
+    ≡ (three (record (until 0) { attributes = renamed; bytes = [] })).queues

@@ -1,11 +1,12 @@
 -- Tried: which events tell of a session, and what its children are.
-use Rattle.std.specs.Prelude.{◌≡◌, ℕ, Bool, true, false, List, [], ◌∷◌, ◌++◌, Some, None, codes}
+use Rattle.std.specs.Prelude.{◌≡◌, ℕ, Bool, true, false, List, [], ◌∷◌, ◌++◌, map, Some, None, codes}
 use Rattle.flowfile_record.specs.Attributes.{AttributeMap}
 use Rattle.flowfile_record.specs.declared.event.Event.{Event}
 use Rattle.flowfile_record.specs.declared.event.EventKind.TheVariants as kind
 use Rattle.flowfile_record.specs.declared.worked.Body.TheVariants as body
 use Rattle.flowfile_record.specs.declared.worked.End.{End}
 use Rattle.flowfile_record.specs.declared.worked.End.TheVariants.{To, Removed}
+use Rattle.flowfile_record.specs.declared.worked.Origin.{Origin}
 use Rattle.flowfile_record.specs.declared.worked.Origin.TheVariants as origin
 use Rattle.flowfile_record.specs.declared.worked.Outcome.{Outcome}
 use Rattle.flowfile_record.specs.declared.worked.Worked.{Worked}
@@ -19,6 +20,7 @@ use Rattle.machine_model.specs.Acting.{received_attributes}
 use Rattle.machine_model.specs.Making.{passed_on, made_file}
 use Rattle.machine_model.specs.Placing.{EndedSession, entered_by}
 use Rattle.machine_model.specs.Settling.{settle}
+use Rattle.machine_examples.specs.Clones.{upd, fanning, ending_two}
 use Rattle.machine_examples.specs.Small.{hi, both, processor, connection, wide, get_to_put, a_txt, a_file, waiting, state_of, kin_of, at_moment, told}
 
 abbrev pub attributes : AttributeMap
@@ -195,3 +197,28 @@ AllTellInTurn =
 -- the data of a child with a content of its own entered when its parent's did
 abbrev pub ForkedEnteredAsParent : Type 0
 ForkedEnteredAsParent = entered_by 2000 [] (900 ∷ []) (origin.Forked 0) ≡ 900
+
+-- that of a joined file when the earliest of its parents' did, wherever that one stands
+abbrev pub JoinedEnteredAsEarliest : Type 0
+JoinedEnteredAsEarliest = entered_by 2000 [] (1000 ∷ 950 ∷ 900 ∷ []) (origin.Joined (0 ∷ 1 ∷ 2 ∷ [])) ≡ 900
+
+-- ---- every kind of a session: of two files the first is set, routed, sent and goes to two connections, the second is
+-- written and dropped, and so are five that are made
+
+abbrev pub made_to_drop : Origin → Worked
+made_to_drop from = made_file from attributes hi false 1
+
+abbrev pub KindsInTurn : Type 0
+KindsInTurn =
+    map (λ event. event.kind)
+    (settle (record ending_two { flow = fanning; processor = upd })
+    (record {
+      files = record (passed_on 0 other false 0) { routed = Some 0 }
+          ∷ record (passed_on 1 attributes false 1) { written = true }
+          ∷ made_to_drop (origin.Joined (0 ∷ 1 ∷ [])) ∷ made_to_drop (origin.Cloned 1)
+          ∷ made_to_drop (origin.Forked 0) ∷ made_to_drop origin.Received ∷ made_to_drop origin.Created ∷ [];
+      sent = Some (record { place = 0; name = a_txt });
+    })).events
+    ≡ kind.Create ∷ kind.Receive ∷ kind.Fork ∷ kind.Join ∷ kind.Clone ∷ kind.ContentModified
+    ∷ kind.AttributesModified ∷ kind.Route ∷ kind.Send ∷ kind.Clone ∷ kind.Drop ∷ kind.Drop ∷ kind.Drop ∷ kind.Drop
+    ∷ kind.Drop ∷ kind.Drop ∷ []

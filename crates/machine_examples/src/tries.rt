@@ -6,28 +6,30 @@ ghost use Rattle.machine_model.specs.declared.kind.Kind.TheVariants.{PutFile};
 ghost use Rattle.machine_model.specs.declared.kind.TakeRule.TheVariants.{Source, One, Bin};
 ghost use Rattle.machine_model.specs.Sound.{IsSound};
 ghost use Rattle.machine_examples.specs.Small.{hi, nothing, with_a, a_file, get_to_put, wide};
-ghost use Rattle.machine_examples.specs.Acks.{AcknowledgedIs};
+ghost use Rattle.machine_examples.specs.Acks.{AcknowledgedIs, AreInOrder, AreNotInOrder, falling, gapped, three as acked};
 ghost use Rattle.machine_examples.specs.Agings.{AgeGives, AgingIs, IsChildBy, NumbersGoOn, around, behind};
 ghost use Rattle.machine_examples.specs.Batches.{LastOf, OddGoes, six, nth, StepGives, queued, two_gone, two_batches, lower_back, BatchesAre, batch, FullWith, EligibleOf, ExpiredOf, GoesOf, ComesOf, FullOf, flying, still, waiting_penalised};
 ghost use Rattle.machine_examples.specs.Cuts.{SegmentsAre, OneSegmentIsAClone, LinesAre, NothingHasNoLine, NothingHasNoSegment, TooManyAreGivenUp, Leaves, TwoAreJoined, NoFragmentIsGivenUp, WholeIsJoined, TurnedIsGivenUp, MissingIsGivenUp, DoubledIsGivenUp};
 ghost use Rattle.machine_examples.specs.Elsewhere.{WantsIs, HeldBackIs, SecondExpires, NotOfTheFirst, SecondSwapsOut, SecondSwapsIn, FirstsBatchIsNotSeconds, TakesOf, ExpiryIs, SwapOutIs, SwapInIs, CheckpointIs, ReclaimIs, chained, fresh, both_wait, both_swapped, three as first_three, three_more, in_batch, last_log};
 ghost use Rattle.machine_model.specs.Files.{view_of};
 ghost use Rattle.machine_model.specs.declared.journal.Step.TheVariants.{SwapOut, SwapIn};
+ghost use Rattle.machine_examples.specs.Changes.{ChangeGives};
 ghost use Rattle.machine_examples.specs.Clones.{EachGoesItsWay, ReceivedSays, GeneratedSays, TwoFanOut, CopiesGoByOriginals, BesideADrop, NoValueIsEmpty, FourClonesFollow, ClonesArePenalisedToo, duplicating, EachConnectionGetsOne, MadeIsNamed, NamedKeepsItsName, TakenStaysNameless};
+ghost use Rattle.machine_examples.specs.Copies.{TwoAreCopied, NoneIsCopied, FirstAndLastAreTrue, TwoAreRouted, OneIsRouted, NoneIsUnmatched};
 ghost use Rattle.machine_examples.specs.Ends.{NarrowIs, FilteredIsLeft, FoundIsWanted, SwappingIsQuiet, SwappingBlocks, ButForSwapsIsQuiet, ButForSwapsBlocks, QuietIs, left_a, taken_a, penalised, BlockedIs, RingIsQuiet, ringed};
 ghost use Rattle.machine_examples.specs.Expiries.{ExpiredIs, OneExpires, NoneExpiresAtOnce, TwoExpire, BatchGoes, BatchMustWait, BatchComesBack, GoesAndComesBack, SwapsDueAre, late, late_in_batch};
-ghost use Rattle.machine_examples.specs.Families.{IsAncestorOf, IsNoAncestorOf, IsDescendantOf, IsNoDescendantOf, Tells, TellsNot, cloned, joined, stranger};
+ghost use Rattle.machine_examples.specs.Families.{Names, AnyNames, IsAncestorOf, IsNoAncestorOf, IsDescendantOf, IsNoDescendantOf, Tells, TellsNot, cloned, joined, stranger};
 ghost use Rattle.machine_examples.specs.Flows.{GeneratingIsSound, RingIsSound, IsUnsound, MarkedIsSound, ContainedIsNot, ListIs, AloneIsNotJoined, UnmarkedIsUnsound, ExactIsMarked, unconnected, terminated, into_source, doubled, tight, turned, blank, nowhere, crowded, strange, fanned};
 ghost use Rattle.machine_examples.specs.Orders.{PrioritiesTell, EligibleAre, FullIs, first, second, third, penalised as under_penalty, swapped, since};
 ghost use Rattle.machine_examples.specs.Sizes.{FullIsReceived, TooLongIsNotReceived, TooLongIsLeft};
 ghost use Rattle.machine_examples.specs.Texts.{DigitIsExtracted, XIsSecond, NoDigitIsUnmatched, LongNameIsUnmatched, NoTextIsUnmatched, ValueIs, NoTextIsRoutedToUnmatched, SecondFinds, LiteralReplaces, NoTextFails, TemplateReplaces};
-ghost use Rattle.machine_examples.specs.Told.{SplitTells, JoinTells, WritingTells, SettingTells, BothTellOne, RemovedTellsNone, UnchangedTellsNone, RoutedTells, AllTellInTurn, ForkedEnteredAsParent, through, split, merge};
+ghost use Rattle.machine_examples.specs.Told.{SplitTells, JoinTells, WritingTells, SettingTells, BothTellOne, RemovedTellsNone, UnchangedTellsNone, RoutedTells, AllTellInTurn, KindsInTurn, ForkedEnteredAsParent, JoinedEnteredAsEarliest, through, split, merge};
 ghost use Rattle.prioritizer.specs.declared.prioritizer.Prioritizer.TheVariants.{FirstInFirstOut, NewestFlowFileFirst, OldestFlowFileFirst};
 ghost use Rattle.machine_examples.specs.Picks.{WholeGoesBesideAPart, EarlierOfTwoWholes, FirstOfDoubled, TwiceIsNoWhole, CountsTellWholes, NoCountIsNone, NoIdentifierIsNone, PicksOf, FullPicks, no_bytes, part, FragmentIs, TwoAreNoWhole, ThreeAreAWhole, LoneGoesBesideTwo, EarlierWholeGoes, EarlierLoneGoes, one, two, three};
 ghost use Rattle.machine_examples.specs.Outboxes.{PutReads};
 ghost use Rattle.machine_examples.specs.Puts.{PutsNamed, NamelessFails, BadNameFails, ReplacePutsOver, IgnoreLeaves, FailLeaves, sent, passed, failed};
-ghost use Rattle.machine_examples.specs.Returns.{ReturnsUntil, latest};
-ghost use Rattle.machine_examples.specs.Refusals.{SwappedDoesNotExpire, SwappedDoesNotGo, ExpiredIsNotTaken, NoneIsTakenTwice, PenalisedIsNotTaken, SwappedIsNotTaken, StrangeIsNotTaken, TwoAreNotPut, NoneIsNotPut, NoSuchProcessor, NoSuchConnection, FreshDoesNotExpire, OneOfTwoIsFresh, NothingDoesNotExpire, NoneExpiresTwice, OtherBatchDoesNotGo, TwoDoNotGo, FewDoNotGo, HigherBatchDoesNotCome, StrangeBatchDoesNotCome, BatchWaitsWhileTwoAreActive, GoneIsNotReceived, MissingIsNotReceived, NamelessIsNotReceived, SourceTakesNone, RefusesAnswer, RefusesIndex, BytesAreNotGiven, MomentIsOfTheStep, NamelessIsNotThere, NoFragmentsAreTaken, FragmentsAreTaken, TakesToPut, TakesToMerge, penalised as penalty};
+ghost use Rattle.machine_examples.specs.Returns.{ReturnsUntil, ReturnsAsMade, latest};
+ghost use Rattle.machine_examples.specs.Refusals.{SwappedDoesNotExpire, SwappedDoesNotGo, ExpiredIsNotTaken, NoneIsTakenTwice, PenalisedIsNotTaken, SwappedIsNotTaken, StrangeIsNotTaken, TwoAreNotPut, NoneIsNotPut, NoSuchProcessor, NoSuchConnection, FreshDoesNotExpire, OneOfTwoIsFresh, NothingDoesNotExpire, NoneExpiresTwice, OtherBatchDoesNotGo, TwoDoNotGo, FewDoNotGo, HigherBatchDoesNotCome, StrangeBatchDoesNotCome, BatchWaitsWhileTwoAreActive, GoneIsNotReceived, MissingIsNotReceived, NamelessIsNotReceived, SourceTakesNone, RefusesAnswer, RefusesIndex, BytesAreNotGiven, MomentIsOfTheStep, NamelessIsNotThere, NoFragmentsAreTaken, FragmentsAreTaken, BinAdmits, TakesToPut, TakesToMerge, penalised as penalty};
 ghost use Rattle.machine_examples.specs.Run.{IsReceived, IsSent, IsDelivered};
 
 /// What is received and sent, from the inbox to the outbox.
@@ -76,6 +78,8 @@ pub fn takes_are_allowed()
     ensures bin_twice { TakesToMerge (1 ∷ 1 ∷ []) None }
     ensures bin_none { TakesToMerge [] None }
     ensures bin_first { TakesToMerge (1 ∷ 2 ∷ []) (Some (a_file 1 1 ∷ a_file 2 2 ∷ [])) }
+    ensures bin_in_turn { BinAdmits (a_file 1 1 ∷ a_file 2 2 ∷ a_file 3 3 ∷ []) true }
+    ensures bin_last_turned { BinAdmits (a_file 1 1 ∷ a_file 3 3 ∷ a_file 2 2 ∷ []) false }
     ensures bin_skipping { TakesToMerge (1 ∷ 3 ∷ []) (Some (a_file 1 1 ∷ a_file 3 3 ∷ [])) }
     ensures fragments_none { NoFragmentsAreTaken }
     ensures fragments_most { FragmentsAreTaken 1000 true }
@@ -138,6 +142,17 @@ pub fn clones_are_told()
     ensures generated { GeneratedSays }
 {}
 
+/// A DuplicateFlowFile copies a file as often as it says, or not at all where a copy would pass a limit. A file goes to
+/// the first of the relationships that are true of it, a clone to each other one, and to unmatched where none is.
+pub fn copies_are_told()
+    ensures copied { TwoAreCopied }
+    ensures not_copied { NoneIsCopied }
+    ensures true_places { FirstAndLastAreTrue }
+    ensures routed_two { TwoAreRouted }
+    ensures routed_one { OneIsRouted }
+    ensures routed_none { NoneIsUnmatched }
+{}
+
 /// What a PutFile makes of a file, by its strategy, by whether the outbox has the name, and by whether the name can
 /// name a file; and what becomes of the outbox. A file that goes back stands where it stood.
 pub fn puts_are_told()
@@ -158,6 +173,7 @@ pub fn puts_are_told()
     ensures back_free { ReturnsUntil 2000 false 0 }
     ensures back_penalised { ReturnsUntil 2000 true 32000 }
     ensures back_saturated { ReturnsUntil latest true latest }
+    ensures back_as_made { ReturnsAsMade }
 {}
 
 /// A content in parts by bytes and by lines, of which one that is the whole is a clone, and of which nothing has any;
@@ -194,6 +210,7 @@ pub fn picks_are_told()
     ensures bin_none { PicksOf (Bin 1 2) [] None }
     ensures bin_full { FullPicks 3 (two ∷ []) (λ full. Some (full ∷ [])) }
     ensures bin_room_for_nothing { FullPicks 2 (no_bytes ∷ []) (λ full. Some (full ∷ no_bytes ∷ [])) }
+    ensures bin_gap { FullPicks 3 (two ∷ no_bytes ∷ []) (λ full. Some (full ∷ [])) }
     ensures bin_nothing_behind { FullPicks 2 [] (λ full. None) }
     ensures part_third { FragmentIs (codes "3") (codes "3") (part 3) }
     ensures part_zero { FragmentIs (codes "0") (codes "3") None }
@@ -224,6 +241,8 @@ pub fn ends_are_told()
     ensures expired { QuietIs (a_file 1 1 ∷ []) taken_a 1500 false }
     ensures ring_blocked { BlockedIs (ringed (a_file 3 1 ∷ []) (a_file 1 2 ∷ []) (a_file 2 3 ∷ []) 3) (Some 1) }
     ensures ring_loud { RingIsQuiet (ringed (a_file 3 1 ∷ []) (a_file 1 2 ∷ []) (a_file 2 3 ∷ []) 3) false }
+    ensures ring_penalised { BlockedIs
+        (ringed (penalised ∷ a_file 3 4 ∷ []) (a_file 4 2 ∷ []) (a_file 2 3 ∷ []) 3) None }
     ensures ring_room { BlockedIs (ringed (a_file 3 1 ∷ []) [] (a_file 2 3 ∷ []) 3) None }
     ensures ring_generating { BlockedIs (ringed (a_file 3 1 ∷ []) (a_file 1 2 ∷ []) (a_file 2 3 ∷ []) 2) None }
     ensures ring_nothing_wanted { BlockedIs (ringed [] [] [] 3) None }
@@ -298,7 +317,14 @@ pub fn events_are_told()
     ensures change_unchanged { UnchangedTellsNone }
     ensures change_routed { RoutedTells }
     ensures change_in_turn { AllTellInTurn }
+    ensures kinds_in_turn { KindsInTurn }
     ensures forked_entered { ForkedEnteredAsParent }
+    ensures joined_entered { JoinedEnteredAsEarliest }
+{}
+
+/// What a change makes of a state: who goes, who is placed and where, with which bytes, and what is told and counted.
+pub fn changes_are_told()
+    ensures { ChangeGives }
 {}
 
 /// What is made of a content that is read as text: `(\d)(x)?` finds in `a7` a digit and no x, and nothing in `ab`; of a
@@ -333,11 +359,22 @@ pub fn families_are_told()
     ensures tells_clone { Tells 4 cloned }
     ensures tells_join { Tells 1 joined }
     ensures tells_not { TellsNot 4 stranger }
+    ensures names_own { Names stranger 5 true }
+    ensures names_parent { Names joined 2 true }
+    ensures names_child { Names cloned 2 true }
+    ensures names_not { Names joined 1 false }
+    ensures named { AnyNames 1 true }
+    ensures not_named { AnyNames 6 false }
     ensures acked_before { AcknowledgedIs 2 0 }
     ensures acked_first { AcknowledgedIs 3 1 }
     ensures acked_between { AcknowledgedIs 4 1 }
     ensures acked_second { AcknowledgedIs 5 2 }
     ensures acked_never { AcknowledgedIs 1000 2 }
+    ensures acked_in_order { AreInOrder 3 5 acked }
+    ensures acked_too_early { AreNotInOrder 4 5 acked }
+    ensures acked_too_late { AreNotInOrder 3 4 acked }
+    ensures acked_falling { AreNotInOrder 0 9 falling }
+    ensures acked_gapped { AreNotInOrder 0 9 gapped }
 {}
 
 /// The flows of these tries are sound.

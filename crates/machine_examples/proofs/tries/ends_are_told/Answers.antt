@@ -12,6 +12,7 @@ returns c = record {
   expired = refl;
   ring_blocked = λ text. refl;
   ring_loud = λ text. refl;
+  ring_penalised = λ text. refl;
   ring_room = λ text. refl;
   ring_generating = λ text. refl;
   ring_nothing_wanted = λ text. refl;

@@ -17,5 +17,7 @@ returns c = record {
   change_unchanged = rw (same_attributes-self (received_attributes a_txt)) refl;
   change_routed = rw (same_attributes-self (received_attributes a_txt)) refl;
   change_in_turn = rw (same_attributes-received a_txt (codes "b")) refl;
+  kinds_in_turn = rw (same_attributes-received a_txt (codes "b")) refl;
   forked_entered = refl;
+  joined_entered = refl;
 }

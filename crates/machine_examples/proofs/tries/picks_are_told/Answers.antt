@@ -14,6 +14,7 @@ returns c = record {
   bin_none = refl;
   bin_full = λ full is. rw is refl;
   bin_room_for_nothing = λ full is. rw is refl;
+  bin_gap = λ full is. rw is refl;
   bin_nothing_behind = λ full is. rw is refl;
   part_third = third-part;
   part_zero = zero-part;

@@ -34,4 +34,5 @@ returns c = record {
   back_free = rw (same_attributes-self (received_attributes a_txt), no-kin-more no_kin) refl;
   back_penalised = rw (same_attributes-self (received_attributes a_txt), no-kin-more no_kin) refl;
   back_saturated = rw (same_attributes-self (received_attributes a_txt), no-kin-more no_kin) refl;
+  back_as_made = refl;
 }
