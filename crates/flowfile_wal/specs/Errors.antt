@@ -5,7 +5,7 @@ use Rattle.flowfile_wal.specs.declared.error.LogError.{LogError}
 
 abbrev pub disk_log_error : DiskError → LogError
 disk_log_error DiskError.Failed = LogError.Disk
-disk_log_error DiskError.Memory = LogError.Memory
+disk_log_error DiskError.Memory = LogError.NoList
 
 abbrev pub block_log_error : BlockError → LogError
 block_log_error BlockError.Disk = LogError.Disk

@@ -74,3 +74,9 @@ pub record HasFirstBlock (bytes : List ℕ) : Type 0 where
   pub kind : ℕ
   pub payload : List ℕ
   pub whole : reading_of (drop 1 bytes) ≡ Whole kind payload
+
+-- a log is current, and its first block stands there whole
+pub record IsBegunWhole (files : Files) : Type 0 where
+  pub number : ℕ
+  pub current : current_number files ≡ Some number
+  pub first : HasFirstBlock (log_bytes files number)

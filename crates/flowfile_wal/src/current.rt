@@ -48,6 +48,8 @@ fn is_counted<D: Disk>(disk: &mut D, file: FileName, size: u64) -> Result<bool, 
 pub fn find_current<D: Disk>(alloc: Global, disk: &mut D) -> Result<Option<Candidate>, LogError>
     ensures found { IfOk result (λ found. IsTrue D.tells → IsFoundIn (D.held disk.old) found) }
     ensures undamaged { (damage : TheDamage) → IsErrOf result (LogError.Damaged damage) → ⊥ }
+    // There is no memory but for the list.
+    ensures memory { IsErrOf result LogError.Memory → ⊥ }
     ensures stays { Stays D.held D.moment D.images disk.old disk.new }
     ensures cause { CountsFaults (D.faults disk.old) (D.faults disk.new) (IsErrOf result LogError.Disk) }
 {

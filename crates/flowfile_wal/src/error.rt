@@ -13,6 +13,10 @@ pub enum LogError {
     /// The disk failed. The log has to be loaded anew.
     #[error("the disk failed")]
     Disk,
+    /// There is no memory for the list of the logs, before any of them is looked at.
+    #[error("out of memory")]
+    NoList,
+    /// There is no memory for a block of the current log, which stands whole, or for its entry.
     #[error("out of memory")]
     Memory,
     /// The current log is damaged.
@@ -42,7 +46,7 @@ impl From<DiskError> for LogError {
     fn from(error: DiskError) -> LogError {
         match error {
             DiskError::Failed => LogError::Disk,
-            DiskError::Memory => LogError::Memory,
+            DiskError::Memory => LogError::NoList,
         }
     }
 }

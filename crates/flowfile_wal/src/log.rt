@@ -6,6 +6,7 @@ ghost use Rattle.disk_trait.specs.declared.damage.Damage.{Damage as TheDamage};
 ghost use Rattle.record_codec.specs.declared.entry.LogEntry.{LogEntry as Entry};
 ghost use Rattle.flowfile_wal.specs.Calls.{HaveEncodings, InEach, IsWorkingLog, LeavesReady, WithOrWithout, with_frame, LogRefusesOnFault};
 ghost use Rattle.flowfile_wal.specs.Current.{current_log};
+ghost use Rattle.flowfile_wal.specs.Reads.{IsBegunWhole};
 ghost use Rattle.flowfile_wal.specs.Steps.{IsFrame, KeepsLog, AddsEntry, IsCurrentIn, IsReadyIn, IsBegunIn, log_with};
 
 use crate::LogError;
@@ -57,7 +58,8 @@ impl Model for Log {
 }
 
 impl Log {
-    /// Finds the current log and reads its entries, with memory for them and for one block. It writes nothing.
+    /// Finds the current log and reads its entries, with memory for the list of the logs, for the entries and for one
+    /// block. It writes nothing.
     pub fn load<D: Disk>(alloc: Global, disk: &mut D) -> Result<(Log, LogEntries), LogError>
         ensures loaded { IfOk result (λ loaded. IsTrue D.tells
             → current_log (D.held disk.old) ≡ Ok (log_with loaded.0 loaded.1.items)) }
@@ -67,6 +69,8 @@ impl Log {
         ensures empty { IfOk result (λ loaded. loaded.0.number ≡ None → loaded.1.items ≡ []) }
         ensures damaged { (damage : TheDamage) → IsErrOf result (LogError.Damaged damage) → IsTrue D.tells
             → current_log (D.held disk.old) ≡ Err damage }
+        // Once the logs are listed, no memory is wanted where none is current, or the first block is damaged.
+        ensures memory { IsErrOf result LogError.Memory → IsTrue D.tells → IsBegunWhole (D.held disk.old) }
         ensures stays { Stays D.held D.moment D.images disk.old disk.new }
         ensures cause { CountsFaults (D.faults disk.old) (D.faults disk.new) (IsErrOf result LogError.Disk) }
     {

@@ -27,7 +27,7 @@ use Rattle.prov_store.specs.Events.{events_in}
 use Rattle.prov_store.specs.State.{EventsState, EventsAreAppended, files_for}
 use Rattle.store_core.specs.Change.{HasLiveContents}
 use Rattle.store_core.specs.Writing.{fresh_count}
-use Rattle.store_core.specs.Committed.{PreparedChange, IsPreparedChange, HasChange, HoldsEither, KeepsShared, calls_of_commit}
+use Rattle.store_core.specs.Committed.{PreparedChange, IsPreparedChange, HasChange, HoldsEither, KeepsShared, LogsEntry, calls_of_commit}
 use Rattle.store_core.specs.Touched.{ClaimsGrow, MayTouch, TouchesOnly}
 use Rattle.store_core.specs.Flow.{flow_in}
 use Rattle.store_core.specs.Placing.{contents_of, GrowsAhead, GrowsByFresh, AppendsEvents, ArePlaced, HoldsMore, IsPlacedAs, PlacesAll, ReferAlike, StaysStored}
@@ -37,12 +37,12 @@ use Rattle.store_core.proofs.Agreeing.{of_state}
 use Rattle.store_core.proofs.Appending.{GrowingClaims, claims_ahead, claims_logged, claims_acknowledged}
 use Rattle.store_core.proofs.Commits.{entry_acts, referred_gone, events_beside_log, working_after}
 use Rattle.store_core.proofs.EventsStay.{same_events}
-use Rattle.store_core.proofs.Following.{Follows, follows_ahead, state_following}
+use Rattle.store_core.proofs.Following.{Follows, follows_ahead, logs_ahead, state_following}
 use Rattle.store_core.proofs.Parts.{digests_stay}
 use Rattle.store_core.proofs.Referring.{bytes_same}
 use Rattle.store_core.proofs.Sharing.{zip_wider}
 use Rattle.store_core.proofs.States.{IsSame, state_added}
-use Rattle.store_core.proofs.Whole.{IsAdded, is_added, since_ahead_holds, since_ahead_touches, since_either, since_holds, since_touches, holds_new, kept_added}
+use Rattle.store_core.proofs.Whole.{IsAdded, is_added, since_ahead_holds, since_ahead_touches, since_either, since_holds, since_touches, holds_new, kept_added, logs_entry}
 
 -- ---- the contents
 
@@ -273,6 +273,13 @@ module _ {D : Type 0} (tells : Bool) (held : D → Files) (moment : D → ℕ) (
   pub acknowledged_state : (state : State) → EachStandsFor (flow_in (kept_by s)) s.lot state (images old (moment old)) → InEach (images end (moment end)) (AddsEntry number e (held mid))
       → EachStandsFor (flow_in (kept_by s)) s.lot (behind state) (images end (moment end))
   acknowledged_state state stands added c image = state_logged state c stands (logged.told end (moment end) c image) (added c image)
+
+  -- what is held ahead of the log has the log of before
+  pub acknowledged_entry : InEach (images end (moment end)) (AddsEntry number e (held mid)) → InEach (images end (moment end)) (LogsEntry p.entry (held old))
+  acknowledged_entry added c image =
+      let told = logged.told end (moment end) c image in
+      logs_entry s p.entry e (held old) (held mid) c number (has.kept.log has.unfailed (held old) (logged.left old told)) logged.numbered
+      (logs_ahead s (held old) (held mid) (has.held_grows told)) (added c image) has.same
 
   pub acknowledged_kept : InEach (images end (moment end)) (AddsEntry number e (held mid)) → InEach (images end (moment end)) (IsReadyIn new.log)
       → new.entries ≡ min (s.entries + 1) (2 ^ 64 - 1) → ((k : ℕ) → size_of new.slots k ≡ size_of slots k) → IsKeptOn tells held moment images new end

@@ -11,6 +11,7 @@ use Rattle.store_core.specs.declared.error.StoreError.{StoreError}
 
 pub log_damaged : (e : LogError) (damage : Damage) → of_log e ≡ StoreError.Damaged damage → e ≡ LogError.Damaged damage
 log_damaged LogError.Disk damage is = absurd cc
+log_damaged LogError.NoList damage is = absurd cc
 log_damaged LogError.Memory damage is = absurd cc
 log_damaged (LogError.Damaged other) damage is = cc
 
@@ -37,6 +38,7 @@ disk_refuses DiskError.Memory = inr refl
 
 pub log_refuses : (e : LogError) → IsDiskMemoryOrDamage (of_log e)
 log_refuses LogError.Disk = inl refl
+log_refuses LogError.NoList = inr (inl refl)
 log_refuses LogError.Memory = inr (inl refl)
 log_refuses (LogError.Damaged damage) = inr (inr (damage, refl))
 

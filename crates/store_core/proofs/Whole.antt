@@ -13,7 +13,7 @@ use Rattle.content_repo.specs.Claims.{claim, content_in}
 use Rattle.content_repo.specs.declared.slot.Slot.{Slot}
 use Rattle.flowfile_wal.specs.Calls.{InEach, WithOrWithout}
 use Rattle.flowfile_wal.specs.Current.{CurrentLog, current_log}
-use Rattle.flowfile_wal.specs.Steps.{AddsEntry, IsReadyIn, with_entry}
+use Rattle.flowfile_wal.specs.Steps.{AddsEntry, EndsClosed, IsClosedIn, IsReadyIn, with_entry}
 use Rattle.flowfile_wal.proofs.Files.{with_one_more}
 use Rattle.checkpoint_store.specs.Consistent.{IsConsistent}
 use Rattle.kept_state.specs.Applied.{applied, session_applied, batch_swapped_out}
@@ -21,13 +21,13 @@ use Rattle.kept_state.specs.Changes.{no_files}
 use Rattle.kept_state.specs.Fits.{entry_suits}
 use Rattle.machine_model.specs.Changing.{HaveDigests}
 use Rattle.prov_store.specs.State.{EventsState, HasEvents, IsTrimmed}
-use Rattle.store_core.specs.Committed.{HoldsEither}
+use Rattle.store_core.specs.Committed.{HoldsEither, LogsEntry}
 use Rattle.store_core.specs.Touched.{MayTouch, TouchesOnly}
 use Rattle.store_core.specs.Placing.{GrowsAhead}
 use Rattle.store_core.specs.Store.{StoreState, IsWorking, IsKeptOn, kept_by, FilesHold, HasLog}
 use Rattle.disk_trait.specs.declared.damage.Damage.{Damage}
 use Rattle.content_repo.specs.Slots.{size_of}
-use Rattle.store_core.proofs.ClaimsAlone.{has_log_same}
+use Rattle.store_core.proofs.ClaimsAlone.{SameLogs, current_same, has_log_same}
 use Rattle.store_core.proofs.EventsStay.{trimmed_same}
 use Rattle.store_core.proofs.Commits.{holds_added, events_beside_log, placed_sound, entry_acts}
 use Rattle.record_codec.specs.Placeless.{placeless_entry}
@@ -197,6 +197,24 @@ entries_more s new e old files number has numbered added more l is =
     let long : length l.entries ≡ length log.entries + 1 = ap (λ (m : CurrentLog). length m.entries) last ∙ length-append log.entries ((log.end, e) ∷ []) in
     let before : s.entries ≡ min (length log.entries) (2 ^ 64 - 1) = has.entries log has.ready.ready.current in
     omega (arith, more, long, before)
+
+pub logs_entry : (s : StoreState) (prepared e : LogEntry) (old mid new : Files) (number : ℕ) → HasLog s old → s.log.number ≡ Some number → SameLogs old mid → AddsEntry number e mid new
+    → placeless_entry e ≡ placeless_entry prepared → LogsEntry prepared old new
+logs_entry s prepared e old mid new number has numbered still added same =
+    let log = has.ready.log in
+    let both : Some number ≡ Some log.number = sym numbered ∙ has.ready.number in
+    let numbers : number ≡ log.number = cc in
+    let closed : IsClosedIn log mid = record {
+      current = current_same old mid still ∙ has.ready.ready.current;
+      closed = subst (λ (bytes : List ℕ). EndsClosed log.end bytes) (sym (still log.number)) has.ready.ready.closed;
+    } in
+    record {
+      before = log;
+      entry = e;
+      same = same;
+      was = has.ready.ready.current;
+      now = (with_one_more log e mid new closed (subst (λ (n : ℕ). AddsEntry n e mid new) numbers added)).current;
+    }
 
 claims_added : (number : ℕ) (e : LogEntry) (slots more : List Slot) (old new : Files) → AddsEntry number e old new → HasSizes slots old → ((k : ℕ) → size_of more k ≡ size_of slots k) → HasSizes more new
 claims_added number e slots more old new added sizes same k =

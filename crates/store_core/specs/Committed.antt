@@ -1,5 +1,5 @@
 -- A change that is on its way into the store, and what its commit leaves.
-use Rattle.std.specs.Prelude.{◌≡◌, ◌⊎◌, ℕ, ◌+◌, ◌-◌, ◌^◌, ◌≤◌, length, map, min, All, Ok}
+use Rattle.std.specs.Prelude.{◌≡◌, ◌⊎◌, ℕ, ◌+◌, ◌-◌, ◌^◌, ◌≤◌, length, map, min, All, Ok, Some}
 use Rattle.std.specs.List.{AllZip}
 use Rattle.disk_trait.specs.Files.{Files}
 use Rattle.disk_trait.specs.Images.{Since, calls_later}
@@ -9,6 +9,9 @@ use Rattle.flowfile_record.specs.declared.change.Settled.{Settled}
 use Rattle.record_codec.specs.Placeless.{placeless_active, placeless_entry}
 use Rattle.record_codec.specs.declared.entry.LogEntry.{LogEntry}
 use Rattle.content_repo.specs.Claims.{content_in}
+use Rattle.flowfile_wal.specs.Calls.{InEach}
+use Rattle.flowfile_wal.specs.Current.{CurrentLog, current_log}
+use Rattle.flowfile_wal.specs.Steps.{with_entry}
 use Rattle.kept_state.specs.Applied.{applied}
 use Rattle.kept_state.specs.Changes.{entry_of_change, expiry_entry, no_files, placed_in, record_of, MayExpireAs}
 use Rattle.machine_model.specs.Changing.{state_after}
@@ -81,22 +84,33 @@ pub record KeepsShared (settled : Settled) (old new : StoreState) : Type 0 where
   pub alike : ReferAlike settled.placed (placed_in entry)
   pub stays : AllZip StaysStored settled.placed (placed_in entry)
 
+-- The current log has the prepared entry behind the entries of before, and nothing else is new in it. The entry is the
+-- prepared one, but that its new contents stand somewhere.
+pub record LogsEntry (prepared : LogEntry) (old new : Files) : Type 0 where
+  pub before : CurrentLog
+  pub entry : LogEntry
+  pub same : placeless_entry entry ≡ placeless_entry prepared
+  pub was : current_log old ≡ Ok (Some before)
+  pub now : current_log new ≡ Ok (Some (with_entry before entry))
+
 -- how many calls of the disk a commit makes: a write for each new content and for each file that gets events, and the
 -- log's two writes and two syncs
 abbrev pub calls_of_commit : Settled → (last_event : ℕ) → ℕ
 calls_of_commit s last_event = fresh_count s.placed + files_for last_event (length s.events) + 4
 
--- A commit is acknowledged: the disk's present moment is told, it took no call too many, the events are the store's, the log has one entry more, the
--- claims have as many bytes more as the new contents, files share their contents, and whatever a stop may leave stands for
--- the state with the change.
+-- A commit is acknowledged: the disk's present moment is told, it took no call too many, the events are the store's, the
+-- log has one entry more, the claims have as many bytes more as the new contents, files share their contents, and
+-- whatever a stop may leave has the prepared entry behind the log that was held before, and stands for the state with
+-- the change.
 pub record IsAcknowledged {D : Type 0} (held : D → Files) (moment_of : D → ℕ) (images : D → ℕ → Files → Type 0)
-    (s_old s_new : StoreState) (settled : Settled) (old new : D) (told : ℕ) : Type 0 where
+    (p : PreparedChange) (s_old s_new : StoreState) (old new : D) (told : ℕ) : Type 0 where
   pub moment : told ≡ moment_of new
-  pub calls : moment_of new ≡ calls_later (calls_of_commit settled s_old.events.end) (moment_of old)
-  pub events : EventsAreAppended settled.events s_old.events s_new.events
+  pub calls : moment_of new ≡ calls_later (calls_of_commit p.settled s_old.events.end) (moment_of old)
+  pub events : EventsAreAppended p.settled.events s_old.events s_new.events
   pub entries : s_new.entries ≡ min (s_old.entries + 1) (2 ^ 64 - 1)
-  pub grown : GrowsByFresh settled.placed s_old.slots s_new.slots
-  pub shared : KeepsShared settled s_old s_new
+  pub logged : InEach (images new (moment_of new)) (LogsEntry p.entry (held old))
+  pub grown : GrowsByFresh p.settled.placed s_old.slots s_new.slots
+  pub shared : KeepsShared p.settled s_old s_new
   pub states : (state : State) → EachStandsFor (flow_in (kept_by s_old)) s_old.lot state (images old (moment_of old))
-      → EachStandsFor (flow_in (kept_by s_old)) s_old.lot (state_after (content_in (held old)) state settled)
+      → EachStandsFor (flow_in (kept_by s_old)) s_old.lot (state_after (content_in (held old)) state p.settled)
       (images new (moment_of new))

@@ -13,6 +13,7 @@ disk_store_error DiskError.Memory = StoreError.Memory
 
 abbrev pub of_log : LogError → StoreError
 of_log LogError.Disk = StoreError.Disk
+of_log LogError.NoList = StoreError.Memory
 of_log LogError.Memory = StoreError.Memory
 of_log (LogError.Damaged damage) = StoreError.Damaged damage
 

@@ -38,8 +38,8 @@ impl Store {
         // The change is made in memory, and once it is acknowledged whatever a stop leaves has it: see `kept`.
         ensures changed { self.old.failed ≡ false → IsAllOrNothing D.held D.moment D.images prepared.entry
             self.old self.new disk.old disk.new }
-        ensures acknowledged { IfOk result (IsAcknowledged D.held D.moment D.images self.old self.new
-            prepared.entry.settled disk.old disk.new) }
+        ensures acknowledged { IfOk result (IsAcknowledged D.held D.moment D.images prepared.entry
+            self.old self.new disk.old disk.new) }
         ensures kept { IsKeptOn D.tells D.held D.moment D.images self.new disk.new }
         // What stood in a claim stands there.
         ensures touched { CommitsTo D.tells D.held D.moment D.images self.old.log.number self.old.slots

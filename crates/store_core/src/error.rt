@@ -70,7 +70,7 @@ impl From<LogError> for StoreError {
     fn from(error: LogError) -> StoreError {
         match error {
             LogError::Disk => StoreError::Disk,
-            LogError::Memory => StoreError::Memory,
+            LogError::NoList | LogError::Memory => StoreError::Memory,
             LogError::Damaged(damage) => StoreError::Damaged(damage),
         }
     }

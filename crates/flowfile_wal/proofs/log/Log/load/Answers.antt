@@ -4,10 +4,10 @@ use Rattle.std.specs.Prelude.{Err, Ok, Option}
 use Rattle.disk_trait.specs.Files.{Files, named}
 use Rattle.disk_trait.specs.declared.file_name.FileKind.TheVariants.{Log}
 use Rattle.flowfile_wal.specs.Current.{CurrentLog, log_in}
-use Rattle.flowfile_wal.specs.Reads.{IsFoundIn, IsCandidate}
+use Rattle.flowfile_wal.specs.Reads.{HasFirstBlock, IsFoundIn, IsCandidate}
 use Rattle.flowfile_wal.specs.Steps.{LogState, log_with}
 use Rattle.flowfile_wal.specs.declared.current.Candidate.{Candidate}
-use Rattle.flowfile_wal.specs.declared.error.LogError.TheVariants.{Damaged}
+use Rattle.flowfile_wal.specs.declared.error.LogError.TheVariants.{Damaged, Memory}
 use Rattle.flowfile_wal.proofs.Files.{said, none_current, is_current, damaged_current}
 use Rattle.flowfile_wal.proofs.log.Log.load.Goals as goal
 
@@ -38,3 +38,17 @@ returns-clause-loaded g c told =
     let held = c.find_current.ensures.stays.files in
     is_current files log number found.number (subst (λ (f : Files). log_in number (f (named Log number)) ≡ Ok log) held (c.in_ok-entries.ensures.read told))
     ∙ ap (λ (s : LogState). said (log_with s items)) (sym c.unmended-2.ensures)
+
+pub returns-in_err-entries-clause-memory : goal.returns-in_err-entries-clause-memory
+returns-in_err-entries-clause-memory g c is told =
+    let files : Files = g.D.Disk.held c.args.disk.now in
+    let number = c.in-Some.found.number in
+    let found : IsCandidate c.in-Some.found files = subst (λ (o : Option Candidate). IsFoundIn files o) c.in-Some.is (c.in_ok-found.ensures.found told) in
+    let p = err_from_is_err_and c.from_residual-in_err-entries.result c.from_residual-in_err-entries.ensures.1 in
+    let same : c.in_err-entries.field-0.0 ≡ Memory = cc (p.1, p.2, is) in
+    let held = c.find_current.ensures.stays.files in
+    record {
+      number = number;
+      current = found.number;
+      first = subst (λ (f : Files). HasFirstBlock (f (named Log number))) held (c.in_err-entries.ensures.memory (ap Err same) told);
+    }

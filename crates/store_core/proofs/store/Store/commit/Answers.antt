@@ -21,7 +21,7 @@ use Rattle.store_core.specs.State.{stands_for}
 use Rattle.store_core.specs.Store.{StoreState, store_in, kept_by, IsWorking}
 use Rattle.store_core.proofs.Agreeing.{of_state}
 use Rattle.store_core.proofs.Commits.{may_place, recorded_first, entry_acts, entry_room, entry_frame}
-use Rattle.store_core.proofs.Outcomes.{has_placed, has_change, placed_images, placed_states, placed_alone, placed_claims, numbered_of, has_logged, may_give_up, logged_images, logged_alone, logged_claims, logged_states, acknowledged_state as state_of_acknowledged, acknowledged_kept, acknowledged_claims, acknowledged_works, claims_grown, events_counted, kept_shared, called}
+use Rattle.store_core.proofs.Outcomes.{has_placed, has_change, placed_images, placed_states, placed_alone, placed_claims, numbered_of, has_logged, may_give_up, logged_images, logged_alone, logged_claims, logged_states, acknowledged_state as state_of_acknowledged, acknowledged_entry, acknowledged_kept, acknowledged_claims, acknowledged_works, claims_grown, events_counted, kept_shared, called}
 use Rattle.store_core.proofs.Whole.{ready_ahead}
 use Rattle.store_core.proofs.store.Store.commit.Goals as goal
 
@@ -456,6 +456,7 @@ returns-clause-acknowledged g c =
           c.in-Ok.ensures.written.calls c.in-Ok-append.ensures.calls;
       events = events_counted s c.args.self.now change c.args.prepared c.write_ahead.new.events c.self.view_is c.prepared.view_is c.requires.prepared c.in-Ok.ensures.events.appended;
       entries = (let more : new.entries ≡ min (i.entries + 1) (2 ^ 64 - 1) = omega (arith, c.saturating_add-self-inside.ensures) in more ∙ ap (λ (t : StoreState). min (t.entries + 1) (2 ^ 64 - 1)) view);
+      logged = acknowledged_entry tells held moment images now new p e old mid end number.0 slots has logged (c.in-Ok-append.ensures.added number.0 e number.1 framed);
       grown = claims_grown tells held moment images now new p e old mid end number.0 slots has logged c.give_up.new.contents c.give_up.ensures.sizes;
       shared = kept_shared tells held moment images now new p e old mid end number.0 slots has logged;
       states = λ state stands. state_of_acknowledged tells held moment images now new p e old mid end number.0 slots has logged state stands (c.in-Ok-append.ensures.added number.0 e number.1 framed);
