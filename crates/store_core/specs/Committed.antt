@@ -50,8 +50,8 @@ pub record IsPreparedChange (store : StoreState) (p : PreparedChange) : Type 0 w
   pub events : p.events.events ≡ p.settled.events
   pub blocks : All HasBlock p.settled.events
 
--- What is kept has the change, its new contents standing somewhere, and those that are in the store where they stood. The
--- number of the store's log, its lot and the contents of its opening stay.
+-- What is kept has the change, its new contents standing somewhere, and those that are in the store where they stood.
+-- The number of the store's log, its lot and the contents of its opening stay.
 pub record HasChange (p : PreparedChange) (old new : StoreState) : Type 0 where
   pub entry : LogEntry
   pub same : placeless_entry entry ≡ placeless_entry p.entry
@@ -98,8 +98,8 @@ pub record LogsEntry (prepared : LogEntry) (old new : Files) : Type 0 where
 abbrev pub calls_of_commit : Settled → (last_event : ℕ) → ℕ
 calls_of_commit s last_event = fresh_count s.placed + files_for last_event (length s.events) + 4
 
--- A commit is acknowledged: the disk's present moment is told, it took no call too many, the events are the store's, the
--- log has one entry more, the claims have as many bytes more as the new contents, files share their contents, and
+-- A commit is acknowledged: the disk's present moment is told, it took no call too many, the events are the store's,
+-- the log has one entry more, the claims have as many bytes more as the new contents, files share their contents, and
 -- whatever a stop may leave has the prepared entry behind the log that was held before, and stands for the state with
 -- the change.
 pub record IsAcknowledged {D : Type 0} (held : D → Files) (moment_of : D → ℕ) (images : D → ℕ → Files → Type 0)
