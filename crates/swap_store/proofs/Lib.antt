@@ -1,0 +1,4 @@
+pub mod Joining
+pub mod ReadBack
+pub mod Refused
+pub mod Steps

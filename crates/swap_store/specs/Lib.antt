@@ -1,0 +1,3 @@
+pub mod Batch
+pub mod Reading
+pub mod Taken
