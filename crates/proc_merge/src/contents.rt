@@ -15,7 +15,7 @@ pub(crate) fn joined_content(
     ensures { IfOk result (λ content. option_map (λ content. content.items) content
         ≡ bytes_read session.now.sources) }
 {
-    let mut joined = Vec::new(alloc);
+    let mut joined = Vec::with_capacity(alloc, joined_size(session))?;
     for place in 0..session.taken() {
         let Ok(content) = session.content(place) else {
             return Ok(None);
@@ -23,4 +23,15 @@ pub(crate) fn joined_content(
         joined.extend_from_slice(content)?;
     }
     Ok(Some(joined))
+}
+
+/// How many bytes they have together, so that room is made once. A wrong number would only take more memory or time.
+fn joined_size(session: &Session) -> usize {
+    let mut size = 0usize;
+    for place in 0..session.taken() {
+        if let Ok(content) = session.content(place) {
+            size = size.saturating_add(content.len());
+        }
+    }
+    size
 }

@@ -17,8 +17,8 @@ use machine_model::{EXTRACTED_MAX, Kind, OwnPattern, OwnPatternList};
 use process_session::Session;
 use processor_api::{Acts, FILE, Given, TakeRule, or_no_memory, pass};
 use regex::{Captures, Match};
+use simdutf8::basic::from_utf8;
 use std::alloc::{AllocError, Global};
-use std::str;
 
 const MATCHED: u16 = 0;
 
@@ -89,7 +89,7 @@ fn extracts_in(
     ensures { IfOk result (λ extracts. map pair_of extracts.items
         ≡ (if is_utf8 content.now then found_pairs content.now own.now else [])) }
 {
-    match str::from_utf8(content) {
+    match from_utf8(content) {
         Ok(text) => found_in(alloc, text, own),
         Err(_) => Ok(Vec::new(alloc)),
     }

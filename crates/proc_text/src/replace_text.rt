@@ -17,8 +17,8 @@ use machine_model::{Kind, Pattern, Replacement};
 use process_session::Session;
 use processor_api::{Acts, FILE, Given, TakeRule, pass};
 use regex::Template;
+use simdutf8::basic::from_utf8;
 use std::alloc::{AllocError, Global};
-use std::str;
 
 /// Replaces parts of a content that is UTF-8: each match of a pattern by what a template stands for there, or each
 /// place of a text by a value.
@@ -81,7 +81,7 @@ fn replaced_content(
     ensures { IfOk result (λ replaced. option_map string_bytes replaced
         ≡ replaced_content replacement.now content.now) }
 {
-    match str::from_utf8(content) {
+    match from_utf8(content) {
         Ok(text) => text_replaced(alloc, replacement, text),
         Err(_) => Ok(None),
     }

@@ -9,8 +9,8 @@ ghost use Rattle.proc_text.specs.Kinds.{is_route_on_content};
 use machine_model::{Kind, MatchRequirement, OwnPattern, OwnPatternList};
 use process_session::Session;
 use processor_api::{Acts, FILE, Given, TakeRule, route};
+use simdutf8::basic::from_utf8;
 use std::alloc::{AllocError, Global};
-use std::str;
 
 /// Sends the file that it took to each of its own relationships whose pattern finds something in the content: the file
 /// itself to the first, and a clone to each other one. A file in which none finds anything goes to `unmatched`, and so
@@ -69,7 +69,7 @@ fn found_places(alloc: Global, content: &[u8], own: &[OwnPattern]) -> Result<Vec
     requires { length own.now ≤ OWN_PROPERTIES_MAX }
     ensures { IfOk result (λ places. places.items ≡ found_places content.now own.now) }
 {
-    match str::from_utf8(content) {
+    match from_utf8(content) {
         Ok(text) => places_in(alloc, text, own),
         Err(_) => Ok(Vec::new(alloc)),
     }
