@@ -1,5 +1,5 @@
-//! The files of a queue in the order of their priorities, and what rules pick.
-ghost use Rattle.std.specs.Prelude.{◌≡◌, IfOk};
+//! The files of a queue in the order of their priorities, what rules pick, and what goes out as a batch.
+ghost use Rattle.std.specs.Prelude.{◌≡◌, IfOk, []};
 
 use crate::{Queue, QueueLimits, TakeRule};
 use flowfile_record::{Attributes, CONTENT_MAX, ContentRef, FlowFile};
@@ -40,13 +40,30 @@ const LIMITS: QueueLimits = QueueLimits {
     expiration: 10,
     objects: 5,
     bytes: 0,
-    swap: 20_000,
+    swap: 4,
 };
 
-const CASES: [Case; 25] = [
+// The files of a queue, and the places of those that have to go out; no places where none have to.
+const BATCHES: [(&[Row], &[u64]); 2] = [
+    (&[PLAIN, PLAIN, PLAIN, PLAIN, PLAIN], &[]),
+    (
+        &[
+            PLAIN,
+            (["1", "", "", ""], 1),
+            PLAIN,
+            (["1", "", "", ""], 1),
+            (["1", "", "", ""], 1),
+            (["2", "", "", ""], 1),
+        ],
+        &[0, 2],
+    ),
+];
+
+const CASES: [Case; 26] = [
     (TakeRule::Source, &[PLAIN], &[]),
     (TakeRule::One, &[], &[]),
     (TakeRule::One, &[PLAIN, PLAIN], &[0]),
+    (TakeRule::One, &ROWS, &[4]),
     // Bins.
     (BIN, &[PLAIN, PLAIN, PLAIN, PLAIN, PLAIN], &[0, 1, 2]),
     (BIN, &[PLAIN, PLAIN], &[0, 1]),
@@ -189,15 +206,47 @@ fn rules_pick(rt: &impl Abort, alloc: Global) -> Result<(), Fail> {
     Ok(())
 }
 
-fn batches_count(rt: &impl Abort, alloc: Global) -> Result<(), Fail> {
+fn batches_go_out(rt: &impl Abort, alloc: Global) -> Result<(), Fail> {
+    for (rows, out) in &BATCHES {
+        let queue = filled(alloc, rows)?;
+        let mut list = Vec::new(alloc);
+        let goes = queue.out_batch(&mut list)?;
+        assert_eq!(rt; list.as_slice(), *out);
+        assert_eq!(rt; goes, !out.is_empty());
+    }
+    Ok(())
+}
+
+fn swapped(alloc: Global) -> Result<Queue, Fail> {
     let mut queue = Queue::new(alloc, Order::new(Vec::new(alloc)), LIMITS);
-    let mut list = Vec::new(alloc);
-    assert!(rt; !queue.out_batch(&mut list)?);
-    assert_eq!(rt; queue.in_due(), None);
     queue.reserve(0)?;
     queue.known_batch(7, 5, 9);
+    Ok(queue)
+}
+
+fn batches_count(rt: &impl Abort, queue: &Queue) {
     assert!(rt; queue.is_full());
     assert_eq!(rt; queue.in_due(), Some(7));
+    assert_eq!(rt; queue.len(), 0);
+}
+
+fn none_goes(rt: &impl Abort, queue: &Queue, list: &mut Vec<u64>) -> Result<(), Fail>
+    requires { list.old.items ≡ [] }
+{
+    queue.expired(10, list)?;
+    assert!(rt; list.is_empty());
+    assert!(rt; queue.is_full());
+    assert_eq!(rt; queue.best(4), None);
+    Ok(())
+}
+
+fn files_go(rt: &impl Abort, queue: &mut Queue) -> Result<(), Fail> {
+    for place in 0..5u64 {
+        let number = queue.best(10).ok_or("no file goes")?;
+        let file = queue.leave(number);
+        assert_eq!(rt; PLACES.get(number as usize).copied(), Some(place));
+        assert_eq!(rt; file.number, number);
+    }
     assert_eq!(rt; queue.len(), 0);
     Ok(())
 }
@@ -206,20 +255,10 @@ fn batches_count(rt: &impl Abort, alloc: Global) -> Result<(), Fail> {
 fn files_go_by_priority_and_rule(rt: HostRuntime) -> Result<(), Fail> {
     let alloc = rt.alloc();
     let mut queue = filled(alloc, &ROWS)?;
-    let mut list = Vec::new(alloc);
-    queue.expired(10, &mut list)?;
-    assert!(rt; list.is_empty());
-    assert!(rt; queue.is_full());
-    assert_eq!(rt; queue.best(4), None);
-    assert!(rt; queue.pick(TakeRule::One, 5, &mut list)?);
-    assert_eq!(rt; list.as_slice(), [4].as_slice());
-    for place in 0..5u64 {
-        let number = queue.best(10).ok_or("no file goes")?;
-        let file = queue.leave(number);
-        assert_eq!(rt; PLACES.get(number as usize).copied(), Some(place));
-        assert_eq!(rt; file.number, number);
-    }
-    assert_eq!(rt; queue.len(), 0);
+    none_goes(&rt, &queue, &mut Vec::new(alloc))?;
+    files_go(&rt, &mut queue)?;
     rules_pick(&rt, alloc)?;
-    batches_count(&rt, alloc)
+    batches_go_out(&rt, alloc)?;
+    batches_count(&rt, &swapped(alloc)?);
+    Ok(())
 }
