@@ -1,6 +1,9 @@
 //! Which session comes next, and how it ends where none does.
 ghost use Rattle.std.specs.Prelude.{◌≡◌, ◌+◌, ◌<◌, ◌≤◌, nat_lt, None, Some, length, map, IfOk, slice_get, option_map, if◌then◌else◌};
 ghost use Rattle.machine_model.specs.declared.flow.Processor.{Processor};
+ghost use Rattle.machine_model.specs.declared.limits.TheConstants.{CONNECTIONS_MAX};
+ghost use Rattle.machine_model.specs.Quiet.{is_held_back};
+ghost use Rattle.engine_queues.specs.Picking.{AreOf, first_pick};
 ghost use Rattle.engine_queues.specs.Queues.{queue_seen};
 ghost use Rattle.engine_choice.specs.declared.choice.Taking.TheVariants.{Files, Generate, Receive};
 ghost use Rattle.engine_choice.specs.Choice.{MayChoose, taking_of, place_within, choice_of, next_choice, takers, ending_of};
@@ -109,7 +112,7 @@ fn choice_for(
     ensures { IfOk result (λ choice. (p : Processor) → slice_get flow.now.processors processor ≡ Some p
         → choice ≡ choice_of flow.now (queue_seen queues.now) counts.now listing.now.names moment (processor, p)) }
 {
-    if queues.is_held_back(flow, processor) {
+    if is_held_back(flow, queues, listing, processor) {
         return Ok(None);
     }
     match taking_for(alloc, flow, queues, counts, listing, moment, processor)? {
@@ -159,8 +162,40 @@ fn taking_for(
     match &flow.processors.as_slice()[place].kind {
         Kind::GetFile { .. } => received(listing.first_for(processor)),
         Kind::GenerateFlowFile { count, .. } => Ok(generated(*count, counts[place])),
-        _ => Ok(picked(queues.pick(alloc, flow, processor, moment)?)),
+        _ => Ok(picked(pick(alloc, flow, queues, listing, processor, moment)?)),
     }
+}
+
+// Whether a full connection leaves a processor: of its own connections, which the listing has at hand.
+fn is_held_back(flow: &Flow, queues: &Queues, listing: &Listing, processor: u16) -> bool
+    requires queues { AreOf flow.now queues.now }
+    requires listing { listing.now.flow ≡ flow.now }
+    requires processor { processor < length flow.now.processors }
+    ensures { (p : Processor) → result ≡ is_held_back flow.now (queue_seen queues.now) (processor, p) }
+{
+    let linked = listing.flow();
+    queues.is_held_back(linked, processor)
+}
+
+// What is picked for a processor, from its own connections.
+fn pick(
+    alloc: Global,
+    flow: &Flow,
+    queues: &Queues,
+    listing: &Listing,
+    processor: u16,
+    moment: u64,
+) -> Result<Option<Picked>, AllocError>
+    requires queues { AreOf flow.now queues.now }
+    requires places { length flow.now.connections ≤ CONNECTIONS_MAX }
+    requires listing { listing.now.flow ≡ flow.now }
+    requires processor { processor < length flow.now.processors }
+    ensures { IfOk result (λ picked. (p : Processor) → slice_get flow.now.processors processor ≡ Some p
+        → option_map (λ files. (files.connection, files.numbers)) picked
+        ≡ first_pick flow.now (queue_seen queues.now) moment (processor, p)) }
+{
+    let linked = listing.flow();
+    queues.pick(alloc, linked, processor, moment)
 }
 
 fn received(name: Option<&Name>) -> Result<Option<Taking>, AllocError>

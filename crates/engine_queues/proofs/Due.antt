@@ -1,7 +1,7 @@
 -- What the queues of a flow owe, told by the queues themselves.
-use Rattle.std.proofs.Common.{◌≡◌, ◌≢◌, ℕ, ◌+◌, ◌<◌, ◌==◌, ◌&&◌, ◌||◌, not, Bool, true, false, cond, List, [], ◌∷◌, length, map, inl, inr, refl, sym, ap, ◌∙◌, zero-add, arith}
+use Rattle.std.proofs.Common.{◌≡◌, ◌≢◌, ℕ, ◌+◌, ◌<◌, ◌==◌, ◌&&◌, ◌||◌, Bool, true, false, cond, List, [], ◌∷◌, length, map, inl, inr, refl, sym, ap, ◌∙◌, zero-add, arith}
 use Rattle.std.specs.Prelude.{Option, Some, None, find, is_some, slice_get, option_map}
-use Rattle.std.specs.List.{list_all, list_any, enumerate_from}
+use Rattle.std.specs.List.{list_any, enumerate_from}
 use Rattle.std.specs.Option.{option_map_or}
 use Rattle.std.proofs.lemmas.Bool.{true≢false, cases_eq, eq-eqb, ne_eqb}
 use Rattle.std.proofs.lemmas.Option.{slice_get_cases, slice_get_within}
@@ -12,13 +12,13 @@ use Rattle.machine_model.specs.declared.kind.TakeRule.{TakeRule}
 use Rattle.machine_model.specs.Due.{numbers_of, expired_numbers, at_place, first_due, some_numbers, due_expiry}
 use Rattle.machine_model.specs.Kinds.{take_rule_of}
 use Rattle.machine_model.specs.Order.{eligible_files}
-use Rattle.machine_model.specs.Quiet.{gives_a_pick, holds_back, holds_back_any, is_held_back, is_full}
+use Rattle.machine_model.specs.Quiet.{gives_a_pick, holds_back_any, is_full}
 use Rattle.machine_model.specs.Taking.{picks}
 use Rattle.machine_model.specs.View.{QueueView, FileView}
 use Rattle.flow_queue.specs.Queue.{QueueState, queue_as_seen, picked, picked_numbers}
 use Rattle.engine_queues.specs.Queues.{queue_seen}
 use Rattle.engine_queues.specs.Picking.{IsOf, AreOf, picked_from, first_pick}
-use Rattle.engine_queues.proofs.First.{none-owes, first-owes, none-found, first-found, any-found, any-same, any-some}
+use Rattle.engine_queues.proofs.First.{none-owes, first-owes, none-found, first-found, any-some}
 
 pub seen-at : (queues : List QueueState) (place : ℕ) (queue : QueueState) → slice_get queues place ≡ Some queue → queue_seen queues place ≡ queue_as_seen queue
 seen-at queues place queue at = ap (λ q. option_map_or queue_as_seen q (record { active = []; batches = [] })) at
@@ -200,21 +200,3 @@ module _ (flow : Flow) (queues : List QueueState) (are : AreOf flow queues) (pro
       ap (option_map (λ c. c.0)) (first-found holds 0 place flow.connections connection at (here place connection queue at there ∙ is)
       (λ k other lt at_k. let of = queue-for flow queues are k other at_k in here k other of.0 at_k of.1 ∙ before k lt other of.0 at_k of.1))
       ∙ ap (λ n. Some n) (zero-add place)
-
--- ---- one processor
-
-or_false : (b : Bool) → (b || false) ≡ b
-or_false true = refl
-or_false false = refl
-
-first_is : {A B : Type 0} (f : A → B) (found : Option A) → is_some (option_map f found) ≡ is_some found
-first_is f None = refl
-first_is f (Some a) = refl
-
-pub held-back : (flow : Flow) (queues : ℕ → QueueView) (place : ℕ) (processor : Processor)
-    → is_some (option_map (λ (c : ℕ × Connection). c.0) (find (holds_back_any queues ((place, processor) ∷ [])) (enumerate_from 0 flow.connections))) ≡ is_held_back flow queues (place, processor)
-held-back flow queues place processor =
-    let connections = enumerate_from 0 flow.connections in
-    first_is (λ (c : ℕ × Connection). c.0) (find (holds_back_any queues ((place, processor) ∷ [])) connections)
-    ∙ sym (any-found (holds_back_any queues ((place, processor) ∷ [])) connections)
-    ∙ any-same (holds_back_any queues ((place, processor) ∷ [])) (holds_back queues place) (λ c. or_false (holds_back queues place c)) connections

@@ -1,7 +1,7 @@
 -- The first connection of a flow for which something holds.
-use Rattle.std.proofs.Common.{◌≡◌, ℕ, zero, suc, ◌+◌, ◌<◌, ◌&&◌, ◌||◌, Bool, true, false, cond, List, [], ◌∷◌, length, refl, ap, ◌∙◌, arith}
+use Rattle.std.proofs.Common.{◌≡◌, ℕ, zero, suc, ◌+◌, ◌<◌, ◌||◌, Bool, true, false, cond, List, [], ◌∷◌, refl, ap, ◌∙◌, arith}
 use Rattle.std.specs.Prelude.{Option, Some, None, find, is_some, slice_get, option_map}
-use Rattle.std.specs.List.{cons_option, filter_map, enumerate_from, list_all, list_any}
+use Rattle.std.specs.List.{cons_option, filter_map, enumerate_from, list_any}
 
 module _ {X Y : Type 0} (owes : ℕ → X → Option Y) where
   abbrev here : ℕ × X → Option (ℕ × Y)
@@ -54,9 +54,23 @@ pub any-found : {X : Type 0} (test : X → Bool) (xs : List X) → list_any test
 any-found test [] = refl
 any-found test (x ∷ xs) = elim (test x) as (λ b. (b || list_any test xs) ≡ is_some (cond b (Some x) (find test xs))) [ true ↦ refl | false ↦ any-found test xs ]
 
-pub any-same : {X : Type 0} (test other : X → Bool) → ((x : X) → test x ≡ other x) → (xs : List X) → list_any test xs ≡ list_any other xs
-any-same test other same [] = refl
-any-same test other same (x ∷ xs) = ap (λ b. b || list_any test xs) (same x) ∙ ap (λ b. other x || b) (any-same test other same xs)
+or_true : (b : Bool) → (b || true) ≡ true
+or_true true = refl
+or_true false = refl
+
+-- one of those that are numbered passes, or none does
+module _ {X : Type 0} (test : ℕ × X → Bool) where
+  pub any-there : (from place : ℕ) (xs : List X) (x : X) → slice_get xs place ≡ Some x → test (from + place, x) ≡ true → list_any test (enumerate_from from xs) ≡ true
+  any-there from place [] x at is = cc
+  any-there from zero (w ∷ xs) x at is =
+      let same : w ≡ x = cc in
+      let yes : test (from, w) ≡ true = ap (λ n. test (n, w)) (omega arith) ∙ ap (λ z. test (from + zero, z)) same ∙ is in
+      ap (λ b. b || list_any test (enumerate_from (from + 1) xs)) yes
+  any-there from (suc place) (w ∷ xs) x at is =
+      ap (λ b. test (from, w) || b) (any-there (from + 1) place xs x at (ap (λ n. test (n, x)) (omega arith) ∙ is)) ∙ or_true (test (from, w))
+
+  pub any-none : (from : ℕ) (xs : List X) → ((k : ℕ) (x : X) → slice_get xs k ≡ Some x → test (from + k, x) ≡ false) → list_any test (enumerate_from from xs) ≡ false
+  any-none from xs each = any-found test (enumerate_from from xs) ∙ ap (λ (o : Option (ℕ × X)). is_some o) (none-found test from xs each)
 
 -- whether the first of those that owe something is there is whether any owes something
 pub any-some : {X Y : Type 0} (owes : X → Option Y) (test : X → Bool) → ((x : X) → is_some (owes x) ≡ test x) → (xs : List X) → is_some (slice_get (filter_map owes xs) 0) ≡ list_any test xs

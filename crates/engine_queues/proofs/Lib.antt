@@ -7,6 +7,7 @@ pub mod ForCallers
 pub mod Held
 pub mod KeptQueues
 pub mod Least
+pub mod Linking
 pub mod Opened
 pub mod Places
 pub mod QuietSeen
@@ -16,3 +17,4 @@ pub mod Shown
 pub mod Left
 pub mod Moved
 pub mod Sources
+pub mod Walked

@@ -44,10 +44,10 @@ first-some kind names taken source long suits = by_filter (filter_of kind) suits
 
 -- the source of a processor
 pub source-at : (listing : Inside) → IsSoundListing listing → (place : ℕ) (processor : Processor) (source d : Option Source)
-    → slice_get listing.flow.now.processors place ≡ Some processor → source ≡ slice_index_or listing.sources.items place d
+    → slice_get listing.flow.processors place ≡ Some processor → source ≡ slice_index_or listing.sources.items place d
     → Suits (filter_of processor.kind) listing.names.items listing.taken.items source
 source-at listing sound place processor source d there is =
-    let within = slice_get_within listing.flow.now.processors place processor there in
+    let within = slice_get_within listing.flow.processors place processor there in
     let at : slice_get listing.sources.items place ≡ Some (slice_index_or listing.sources.items place d) = slice_get-get_or listing.sources.items place d (omega (arith, within, sound.count)) in
     sound.each place processor source there (at ∙ ap (λ s. Some s) (sym is))
 
@@ -57,10 +57,10 @@ has-marks None names taken (Some source) long suits = absurd suits
 has-marks (Some filter) names taken (Some source) long suits = ap length suits.passing ∙ length-map names (passes filter) ∙ sym long
 
 pub all-marks : (listing : Inside) → IsSoundListing listing → All (HasMarks (length listing.taken.items)) listing.sources.items
-all-marks listing sound k d within = by_processor (slice_get_cases listing.flow.now.processors k).1
+all-marks listing sound k d within = by_processor (slice_get_cases listing.flow.processors k).1
   where
-    by_processor : ((x : Processor) × (k < length listing.flow.now.processors) × (slice_get listing.flow.now.processors k ≡ Some x) × (slice_index_or listing.flow.now.processors k x ≡ x))
-        ⊎ ((length listing.flow.now.processors ≤ k) × (slice_get listing.flow.now.processors k ≡ None)) → HasMarks (length listing.taken.items) (slice_index_or listing.sources.items k d)
+    by_processor : ((x : Processor) × (k < length listing.flow.processors) × (slice_get listing.flow.processors k ≡ Some x) × (slice_index_or listing.flow.processors k x ≡ x))
+        ⊎ ((length listing.flow.processors ≤ k) × (slice_get listing.flow.processors k ≡ None)) → HasMarks (length listing.taken.items) (slice_index_or listing.sources.items k d)
     by_processor (inl at) =
         has-marks (filter_of at.0.kind) listing.names.items listing.taken.items (slice_index_or listing.sources.items k d) sound.marks
         (source-at listing sound k at.0 (slice_index_or listing.sources.items k d) d at.2 refl)
@@ -69,7 +69,7 @@ all-marks listing sound k d within = by_processor (slice_get_cases listing.flow.
 -- ---- what is left after a first name is taken
 
 pub no-first : (listing : Inside) → IsSoundListing listing → (place : ℕ) (processor : Processor) (source : Option Source)
-    → slice_get listing.flow.now.processors place ≡ Some processor → source ≡ slice_index_or listing.sources.items place source → ((s : Source) → source ≡ Some s → ⊥)
+    → slice_get listing.flow.processors place ≡ Some processor → source ≡ slice_index_or listing.sources.items place source → ((s : Source) → source ≡ Some s → ⊥)
     → None ≡ first_passed processor.kind (left_of listing.names.items listing.taken.items)
 no-first listing sound place processor source there is none = by_source source refl
   where
@@ -80,7 +80,7 @@ no-first listing sound place processor source there is none = by_source source r
         first-none processor.kind listing.names.items listing.taken.items (subst P e (source-at listing sound place processor source source there is))
 
 pub a-first : (listing : Inside) → IsSoundListing listing → (place : ℕ) (processor : Processor) (source : Option Source) (s : Source)
-    → slice_get listing.flow.now.processors place ≡ Some processor → source ≡ slice_index_or listing.sources.items place source → source ≡ Some s
+    → slice_get listing.flow.processors place ≡ Some processor → source ≡ slice_index_or listing.sources.items place source → source ≡ Some s
     → slice_get listing.names.items s.first ≡ first_passed processor.kind (left_of listing.names.items listing.taken.items)
 a-first listing sound place processor source s there is e =
     let P : Option Source → Type 0 = Suits (filter_of processor.kind) listing.names.items listing.taken.items in
@@ -93,7 +93,7 @@ first-left None names taken s long suits within = absurd suits
 first-left (Some filter) names taken s long suits within = (suits.first.open_there (omega (arith, within, long))).left
 
 pub left-at : (listing : Inside) → IsSoundListing listing → (place : ℕ) (processor : Processor) (source : Option Source) (s : Source)
-    → slice_get listing.flow.now.processors place ≡ Some processor → source ≡ slice_index_or listing.sources.items place source → source ≡ Some s → s.first < length listing.names.items
+    → slice_get listing.flow.processors place ≡ Some processor → source ≡ slice_index_or listing.sources.items place source → source ≡ Some s → s.first < length listing.names.items
     → slice_get listing.taken.items s.first ≡ Some false
 left-at listing sound place processor source s there is e within =
     let P : Option Source → Type 0 = Suits (filter_of processor.kind) listing.names.items listing.taken.items in
@@ -108,16 +108,16 @@ still-sound listing after place sound flow names large taken count moved = recor
   few = let lengths : length after.names.items ≡ length listing.names.items = ap (λ v. length v.items) names in omega (arith, lengths, large, sound.few);
   marks = ap length taken ∙ length-set listing.taken.items place true ∙ sound.marks ∙ ap (λ v. length v.items) (sym names);
   distinct = let P : List (List ℕ) → Type 0 = AreDistinct in subst P (ap (λ v. v.items) (sym names)) sound.distinct;
-  count = count ∙ sound.count ∙ ap (λ f. length f.now.processors) (sym flow);
+  count = count ∙ sound.count ∙ ap (λ f. length f.processors) (sym flow);
   each = each;
 }
   where
-    each : (k : ℕ) (processor : Processor) (source : Option Source) → slice_get after.flow.now.processors k ≡ Some processor → slice_get after.sources.items k ≡ Some source
+    each : (k : ℕ) (processor : Processor) (source : Option Source) → slice_get after.flow.processors k ≡ Some processor → slice_get after.sources.items k ≡ Some source
         → Suits (filter_of processor.kind) after.names.items after.taken.items source
     each k processor source there now = by_was (slice_get_cases listing.sources.items k).1
       where
-        here : slice_get listing.flow.now.processors k ≡ Some processor
-        here = ap (λ f. slice_get f.now.processors k) (sym flow) ∙ there
+        here : slice_get listing.flow.processors k ≡ Some processor
+        here = ap (λ f. slice_get f.processors k) (sym flow) ∙ there
 
         by_was : ((was : Option Source) × (k < length listing.sources.items) × (slice_get listing.sources.items k ≡ Some was) × (slice_index_or listing.sources.items k was ≡ was))
             ⊎ ((length listing.sources.items ≤ k) × (slice_get listing.sources.items k ≡ None)) → Suits (filter_of processor.kind) after.names.items after.taken.items source
@@ -126,7 +126,7 @@ still-sound listing after place sound flow names large taken count moved = recor
             let suits : Suits (filter_of processor.kind) after.names.items listing.taken.items was.0 =
             let P : List (List ℕ) → Type 0 = λ ns. Suits (filter_of processor.kind) ns listing.taken.items was.0 in subst P (ap (λ v. v.items) (sym names)) (sound.each k processor was.0 here was.2) in
             moved k was.0 source was.2 now (filter_of processor.kind) after.names.items listing.taken.items long taken suits
-        by_was (inr past) = absurd (omega (arith, slice_get_within listing.flow.now.processors k processor here, sound.count, past.0))
+        by_was (inr past) = absurd (omega (arith, slice_get_within listing.flow.processors k processor here, sound.count, past.0))
 
 -- all names are left where none is taken
 pub all-left : (names : List (List ℕ)) → left_of names (replicate (length names) false) ≡ names

@@ -1,4 +1,5 @@
 pub mod Laws
+pub mod Linked
 pub mod Listing
 pub mod ListingInside
 pub mod Opening

@@ -50,7 +50,7 @@ HasMarks count source = IfSome source (λ source. length source.passing.items �
 
 abbrev pub listing_in : Inside → Left
 listing_in listing = record {
-  flow = listing.flow.now;
+  flow = listing.flow;
   names = left_of listing.names.items listing.taken.items;
   too_large = listing.too_large;
 }
@@ -61,8 +61,8 @@ pub record IsSoundListing (listing : Inside) : Type 0 where
   pub few : length listing.names.items + listing.too_large < 2 ^ 64
   pub marks : length listing.taken.items ≡ length listing.names.items
   pub distinct : AreDistinct listing.names.items
-  pub count : length listing.sources.items ≡ length listing.flow.now.processors
+  pub count : length listing.sources.items ≡ length listing.flow.processors
   pub each : (place : ℕ) (processor : Processor) (source : Option Source)
-      → slice_get listing.flow.now.processors place ≡ Some processor
+      → slice_get listing.flow.processors place ≡ Some processor
       → slice_get listing.sources.items place ≡ Some source
       → Suits (filter_of processor.kind) listing.names.items listing.taken.items source

@@ -2,6 +2,7 @@
 #![tactic(auto)]
 
 mod laws;
+mod linked;
 mod listing;
 mod opening;
 mod picking;
@@ -9,6 +10,7 @@ mod queues;
 mod settling;
 
 pub use laws::{quiet_and_blocked_are_seen, what_is_kept_is_seen};
+pub use linked::LinkedFlow;
 pub use listing::Listing;
 pub use picking::{Expiry, Picked, picks_are_given};
 pub use queues::Queues;

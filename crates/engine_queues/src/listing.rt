@@ -7,6 +7,7 @@ ghost use Rattle.engine_queues.specs.declared.listing.Source.{Source as TheSourc
 ghost use Rattle.engine_queues.specs.Listing.{AreDistinct, filter_of, first_passed};
 ghost use Rattle.engine_queues.specs.ListingInside.{IsFirstOpen, Suits, StillSuits, HasMarks};
 
+use crate::LinkedFlow;
 use flowfile_record::Name;
 use machine_model::{Filter, Flow, Kind, Pattern};
 use std::alloc::{AllocError, Global};
@@ -16,7 +17,7 @@ use std::marker::Model;
 /// files are too large for any. However many are taken one after another, each name is looked at once for each GetFile.
 #[derive(Drop)]
 pub struct Listing<'f> {
-    flow: &'f Flow,
+    flow: LinkedFlow<'f>,
     names: Vec<Name>,
     too_large: u64,
     // Which of the names are taken.
@@ -66,13 +67,21 @@ impl<'f> Listing<'f> {
         for processor in flow.processors.as_slice() {
             sources.push(source_of(alloc, &processor.kind, &names, &taken)?)?;
         }
+        let linked = LinkedFlow::new(alloc, flow)?;
         Ok(Listing {
-            flow,
+            flow: linked,
             names,
             too_large,
             taken,
             sources,
         })
+    }
+
+    /// The flow whose processors these are.
+    pub fn flow(&self) -> &LinkedFlow<'f>
+        ensures { result.now ≡ self.now.flow }
+    {
+        &self.flow
     }
 
     /// The name that a processor takes first of those that are left.

@@ -11,7 +11,7 @@ ghost use Rattle.flow_queue.specs.Queue.{queue_as_seen, next_penalty_end};
 ghost use Rattle.engine_queues.specs.Queues.{queue_seen};
 ghost use Rattle.engine_queues.specs.Picking.{AreOf, picked_from, first_pick};
 
-use crate::Queues;
+use crate::{LinkedFlow, Queues};
 use flow_queue::{Queue, TakeRule};
 use flowfile_record::Numbers;
 use machine_model::Flow;
@@ -56,7 +56,7 @@ impl Queues {
     pub fn pick(
         &self,
         alloc: Global,
-        flow: &Flow,
+        flow: &LinkedFlow,
         processor: u16,
         moment: u64,
     ) -> Result<Option<Picked>, AllocError>
@@ -67,46 +67,50 @@ impl Queues {
             → option_map (λ files. (files.connection, files.numbers)) picked
             ≡ first_pick flow.now (queue_seen self.now) moment (processor, p)) }
     {
-        let rule = flow.processors.as_slice()[usize::from(processor)]
-            .kind
-            .take_rule();
+        let rule = flow.take_rule(processor);
         self.pick_by(alloc, flow, rule, processor, moment)
     }
 
     fn pick_by(
         &self,
         alloc: Global,
-        flow: &Flow,
+        flow: &LinkedFlow,
         rule: TakeRule,
         processor: u16,
         moment: u64,
     ) -> Result<Option<Picked>, AllocError>
         requires queues { AreOf flow.now self.now }
         requires places { length flow.now.connections ≤ CONNECTIONS_MAX }
+        requires processor { processor < length flow.now.processors }
         ensures { IfOk result (λ picked. option_map (λ files. (files.connection, files.numbers)) picked
             ≡ first_due (picked_from rule processor moment) flow.now (queue_seen self.now)) }
     {
-        for (place, connection) in flow.connections.as_slice().iter().enumerate() {
-            if connection.target == processor {
-                let mut numbers = Vec::new(alloc);
-                if self.list[place].pick(rule, moment, &mut numbers)? {
-                    return Ok(Some(Picked {
-                        connection: place as u16,
-                        numbers: Numbers::from(numbers),
-                    }));
-                }
+        let places = flow.incoming(processor);
+        for place in places {
+            let mut numbers = Vec::new(alloc);
+            if self.list[*place].pick(rule, moment, &mut numbers)? {
+                return Ok(Some(Picked {
+                    connection: *place as u16,
+                    numbers: Numbers::from(numbers),
+                }));
             }
         }
         Ok(None)
     }
 
     /// Whether a full connection leaves a processor.
-    pub fn is_held_back(&self, flow: &Flow, processor: u16) -> bool
+    pub fn is_held_back(&self, flow: &LinkedFlow, processor: u16) -> bool
         requires queues { AreOf flow.now self.now }
-        requires places { length flow.now.connections ≤ CONNECTIONS_MAX }
+        requires processor { processor < length flow.now.processors }
         ensures { (p : Processor) → result ≡ is_held_back flow.now (queue_seen self.now) (processor, p) }
     {
-        self.first_holding_back(flow, &[processor]).is_some()
+        let places = flow.outgoing(processor);
+        for place in places {
+            if self.list[*place].is_full() {
+                return true;
+            }
+        }
+        false
     }
 
     /// The first full connection that leaves one of these processors.

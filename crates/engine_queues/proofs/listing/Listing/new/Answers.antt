@@ -9,5 +9,6 @@ returns c =
     let names = c.args.names.items in
     let none = c.in_ok-taken.ensures.items_if_clones_equal (λ y same. same) in
     let with_names : List (List ℕ) → Left = λ left. record { flow = c.args.flow.now; names = left; too_large = c.args.too_large } in
-    ap with_names
+    ap (λ fl. record { flow = fl; names = left_of names c.in_ok-taken.taken.items; too_large = c.args.too_large }) c.in_ok-linked.ensures
+    ∙ ap with_names
     (ap (left_of names) none ∙ ap (λ n. left_of names (replicate n false)) (c.len.ensures ∙ c.args.names.ok.0) ∙ all-left names)

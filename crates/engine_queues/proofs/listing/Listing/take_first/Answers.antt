@@ -56,4 +56,4 @@ returns c p there =
     let first = a-first c.self.inside c.self.invariant c.args.processor p c.index.result.now c.in-Some.source at is c.in-Some.is in
     let left = left-at c.self.inside c.self.invariant c.args.processor p c.index.result.now c.in-Some.source at is c.in-Some.is within in
     takes-first c.args.self.now _ p.kind name (sym named ∙ first ∙ ap (λ s. first_passed p.kind s.names) c.self.view_is)
-    (state-behind c.self.inside.flow.now c.self.inside.too_large c.self.inside.names.items c.self.inside.taken.items place c.args.self.now name c.self.view_is c.self.invariant.distinct named left)
+    (state-behind c.self.inside.flow c.self.inside.too_large c.self.inside.names.items c.self.inside.taken.items place c.args.self.now name c.self.view_is c.self.invariant.distinct named left)
