@@ -45,5 +45,11 @@ pub use snapshot::{
     write_snapshot_end, write_swap_batch,
 };
 
-/// The version of the format, which a log and a snapshot begin with.
-pub const FORMAT_VERSION: u8 = 1;
+/// The first version of the format. A head has no ids of processors and the line 0, and no events age out.
+pub const FIRST_VERSION: u8 = 1;
+
+/// The second version. A head has the ids of the processors and the line of the events, and a log may have agings.
+pub const SECOND_VERSION: u8 = 2;
+
+/// The version that counts: a log or a snapshot of another one is damage.
+pub const FORMAT_VERSION: u8 = FIRST_VERSION;
