@@ -18,17 +18,19 @@ use Rattle.flowfile_record.specs.declared.stored.SwapBatch.{SwapBatch}
 use Rattle.record_codec.specs.ActiveFile.{active_file, IsActiveFile}
 use Rattle.record_codec.specs.FileEncoding.{pair, attributes, content_ref, flow_file, IsFlowFile}
 use Rattle.record_codec.specs.EntryEncoding.{generator, counters, session, expire, swap_out, entry}
+use Rattle.record_codec.specs.Group.{item}
 use Rattle.record_codec.specs.Placeless.{placeless, placeless_active, placeless_entry}
 use Rattle.record_codec.specs.Snapshot.{swap_batch}
 use Rattle.record_codec.specs.StoreHead.{head}
 use Rattle.record_codec.specs.Texts.{texts}
 use Rattle.record_codec.specs.declared.TheConstants.{FORMAT_VERSION}
+use Rattle.record_codec.specs.declared.group.Item.{Item}
 use Rattle.record_codec.specs.declared.head.Head.{Head}
 use Rattle.record_codec.specs.declared.entry.SessionEntry.{SessionEntry}
 use Rattle.record_codec.specs.declared.entry.ExpireEntry.{ExpireEntry}
 use Rattle.record_codec.specs.declared.entry.SwapOutEntry.{SwapOutEntry}
 use Rattle.record_codec.specs.declared.entry.LogEntry.{LogEntry}
-use Rattle.record_codec.specs.declared.entry.LogEntry.TheVariants.{Begin, Session, Expire, SwapOut, SwapIn}
+use Rattle.record_codec.specs.declared.entry.LogEntry.TheVariants.{Begin, Session, Expire, SwapOut, SwapIn, Age}
 
 len3 : (a b c : List ℕ) → length (a ++ b ++ c) ≡ length a + length b + length c
 len3 a b c = length-append (a ++ b) c ∙ ap (λ n. n + length c) (length-append a b)
@@ -107,6 +109,12 @@ pub swap_out_size : (s : SwapOutEntry) → length (swap_out s) ≡ 10 + length (
 unfolding swap_out
 swap_out_size s = omega (arith, len3 (to_be_bytes w16 s.connection) (to_be_bytes w64 s.batch) (numbers s.numbers))
 
+-- ---- groups
+
+pub item_size : (i : Item) → length (item i) ≡ 5 + length i.payload
+unfolding item
+item_size i = omega (arith, len3 (byte i.kind) (to_be_bytes w32 (length i.payload)) i.payload)
+
 -- ---- snapshots
 
 pub swap_batch_size : (b : SwapBatch) → length (swap_batch b) ≡ 34
@@ -156,7 +164,7 @@ listed_size xs = length-append (to_be_bytes w32 (length xs)) (flat_map active_fi
 
 pub placeless_entry_size : (e : LogEntry) → length (entry (placeless_entry e)) ≡ length (entry e)
 unfolding entry
-placeless_entry_size (Begin log) = refl
+placeless_entry_size (Begin version log) = refl
 placeless_entry_size (Session s) =
     omega (
       arith,
@@ -178,3 +186,4 @@ placeless_entry_size (Session s) =
 placeless_entry_size (Expire e) = refl
 placeless_entry_size (SwapOut s) = refl
 placeless_entry_size (SwapIn connection batch) = refl
+placeless_entry_size (Age line) = refl
