@@ -1,5 +1,5 @@
 -- How many bytes encodings have.
-use Rattle.std.proofs.Common.{◌≡◌, ℕ, Bool, true, false, cond, eqb, ◌+◌, ◌*◌, ◌≤◌, ◌^◌, suc, List, [], ◌∷◌, ◌++◌, length, sum_by, length-append, Option, Some, None, refl, ap, ◌∙◌, arith}
+use Rattle.std.proofs.Common.{◌≡◌, ℕ, ◌+◌, ◌*◌, ◌≤◌, ◌^◌, suc, List, [], ◌∷◌, ◌++◌, length, sum_by, length-append, Option, Some, None, refl, ap, ◌∙◌, arith}
 use Rattle.std.specs.Prelude.{All, map}
 use Rattle.std.specs.List.{flat_map}
 use Rattle.std.specs.Int.{w16, w32, w64, to_be_bytes}
@@ -20,15 +20,11 @@ use Rattle.record_codec.specs.FileEncoding.{pair, attributes, content_ref, flow_
 use Rattle.record_codec.specs.EntryEncoding.{generator, counters, session, expire, swap_out, entry}
 use Rattle.record_codec.specs.Placeless.{placeless, placeless_active, placeless_entry}
 use Rattle.record_codec.specs.Snapshot.{swap_batch}
-use Rattle.record_codec.specs.StoreHead.{head, in_second}
-use Rattle.record_codec.specs.Texts.{texts}
-use Rattle.record_codec.specs.declared.TheConstants.{SECOND_VERSION}
-use Rattle.record_codec.specs.declared.head.Head.{Head}
 use Rattle.record_codec.specs.declared.entry.SessionEntry.{SessionEntry}
 use Rattle.record_codec.specs.declared.entry.ExpireEntry.{ExpireEntry}
 use Rattle.record_codec.specs.declared.entry.SwapOutEntry.{SwapOutEntry}
 use Rattle.record_codec.specs.declared.entry.LogEntry.{LogEntry}
-use Rattle.record_codec.specs.declared.entry.LogEntry.TheVariants.{Begin, Session, Expire, SwapOut, SwapIn}
+use Rattle.record_codec.specs.declared.entry.LogEntry.TheVariants.{Begin, Session, Expire, SwapOut, SwapIn, Age}
 
 len3 : (a b c : List ℕ) → length (a ++ b ++ c) ≡ length a + length b + length c
 len3 a b c = length-append (a ++ b) c ∙ ap (λ n. n + length c) (length-append a b)
@@ -113,23 +109,6 @@ pub swap_batch_size : (b : SwapBatch) → length (swap_batch b) ≡ 34
 unfolding swap_batch
 swap_batch_size b = omega (arith, len5 (to_be_bytes w16 b.connection) (to_be_bytes w64 b.batch) (to_be_bytes w64 b.files) (to_be_bytes w64 b.bytes) (to_be_bytes w64 b.encoded))
 
-second_size : (b : Bool) (field other : List ℕ) → length field ≡ length other → length (cond b field []) ≡ length (cond b other [])
-second_size true field other same = same
-second_size false field other same = refl
-
--- the lists, and the line's field, which has one size
-pub head_size : (h : Head) → IsDigest h.flow
-    → length (head h) ≡ 73 + length (texts h.connections) + length (in_second h.version (texts h.processors)) + length (numbers h.counts) + length (in_second h.version (to_be_bytes w64 0))
-unfolding head
-head_size h digest =
-    omega (
-      arith,
-      len6 (byte h.version ++ to_be_bytes w64 h.store ++ h.flow ++ texts h.connections ++ in_second h.version (texts h.processors) ++ numbers h.counts) (to_be_bytes w64 h.next_number) (to_be_bytes w64 h.next_arrival) (to_be_bytes w64 h.last_event) (in_second h.version (to_be_bytes w64 h.line)) (to_be_bytes w64 h.next_batch),
-      len6 (byte h.version) (to_be_bytes w64 h.store) h.flow (texts h.connections) (in_second h.version (texts h.processors)) (numbers h.counts),
-      second_size (eqb h.version SECOND_VERSION) (to_be_bytes w64 h.line) (to_be_bytes w64 0) refl,
-      digest,
-    )
-
 -- ---- sizes don't depend on where contents stand
 
 content_ref_parts : (c : ContentRef) → length (content_ref c) ≡ 20 + length c.digest
@@ -163,7 +142,7 @@ listed_size xs = length-append (to_be_bytes w32 (length xs)) (flat_map active_fi
 
 pub placeless_entry_size : (e : LogEntry) → length (entry (placeless_entry e)) ≡ length (entry e)
 unfolding entry
-placeless_entry_size (Begin log) = refl
+placeless_entry_size (Begin version log) = refl
 placeless_entry_size (Session s) =
     omega (
       arith,
@@ -185,3 +164,4 @@ placeless_entry_size (Session s) =
 placeless_entry_size (Expire e) = refl
 placeless_entry_size (SwapOut s) = refl
 placeless_entry_size (SwapIn connection batch) = refl
+placeless_entry_size (Age line) = refl

@@ -1,21 +1,22 @@
 -- What is read of a head is encoded so, and what is encoded so is read again.
-use Rattle.std.proofs.Common.{◌≡◌, ℕ, ◌+◌, ◌%◌, ◌^◌, ◌<◌, ◌≤◌, ◌&&◌, ◌||◌, eqb, nat_lt, nat_le, Bool, true, false, cond, List, [], ◌++◌, length, IsTrue, Result, Ok, refl, sym, ap, subst, ◌∙◌, append_assoc, arith}
-use Rattle.std.specs.Prelude.{All}
+use Rattle.std.proofs.Common.{◌≡◌, ◌≢◌, ℕ, ◌+◌, ◌%◌, ◌^◌, ◌<◌, ◌≤◌, ◌&&◌, ◌||◌, eqb, nat_lt, nat_le, Bool, true, false, cond, List, [], ◌++◌, length, IsTrue, Result, Ok, Err, refl, sym, ap, subst, ◌∙◌, append_assoc, length-append, arith}
+use Rattle.std.specs.Prelude.{is_ok}
 use Rattle.std.specs.Int.{w64, to_be_bytes}
-use Rattle.std.proofs.lemmas.Bool.{ltb-true, lt-ltb, leb-true, le-leb, eqb-true, and_parts}
+use Rattle.std.proofs.lemmas.Bool.{ltb-true, lt-ltb, leb-true, le-leb, eqb-true, ne_eqb, and_parts}
 use Rattle.std.proofs.lemmas.List.Elements.{All-nil}
 use Rattle.flowfile_record.specs.Field.{IsBytes, Takes, IsField}
-use Rattle.flowfile_record.specs.Reading.{Reading, ◌>>=◌, such, raw_at, uint_at, number_at, text_at, numbers_at}
+use Rattle.flowfile_record.specs.Reading.{Reading, ◌>>=◌, ◌then◌, such, raw_at, uint_at, number_at, text_at, numbers_at, first_at}
 use Rattle.flowfile_record.specs.Encoding.{byte, text, numbers, IsNumber, IsText, AreNumbers, IsDigest}
 use Rattle.flowfile_record.proofs.FieldLaws.{bind_ok, ok_is, Takes-then, such_is, said_is, digest_is, u64_is, number_is, text_is, listed_is, numbers_is}
 use Rattle.flowfile_record.specs.declared.limits.TheConstants.{DIGEST_SIZE, STORE_LIMIT, EVENTS_PER_FILE}
 use Rattle.record_codec.specs.declared.head.Head.{Head}
 use Rattle.record_codec.specs.StoreHead.{head, in_second, IsHead, IsLine}
-use Rattle.record_codec.specs.StoreHeadReading.{store_at, processors_at, line_at, head_at}
+use Rattle.record_codec.specs.StoreHeadReading.{store_at, processors_at, line_at, head_at, connected_at, first_processor_at, first_count_at}
 use Rattle.record_codec.specs.Version.{is_version, version_at}
 use Rattle.record_codec.specs.declared.TheConstants.{FIRST_VERSION, SECOND_VERSION}
 use Rattle.record_codec.proofs.Versions.{IsVersion, version_is}
 use Rattle.record_codec.specs.Texts.{texts, AreTexts, texts_at}
+use Rattle.record_codec.proofs.Fronts.{then_read}
 
 store_is : IsField store_at (to_be_bytes w64) (λ n. n < STORE_LIMIT)
 unfolding store_at
@@ -215,3 +216,61 @@ head_written h old now lists all connections processors counts same cs ps ns fir
     ∙ ap (λ (l : List ℕ). l ++ counters)
     (first ∙ ap (λ (o : List ℕ). o ++ front connections processors counts) same ∙ ap (λ (c : List (List ℕ)). old ++ front c processors counts) cs ∙ ap (λ (p : List (List ℕ)). old ++ front h.connections p counts) ps ∙ ap (λ (n : List ℕ). old ++ front h.connections h.processors n) ns)
     ∙ regroup_parts old (byte h.version) (to_be_bytes w64 h.store) h.flow (texts h.connections) (in_second h.version (texts h.processors)) (numbers h.counts) (to_be_bytes w64 h.next_number) (to_be_bytes w64 h.next_arrival) (to_be_bytes w64 h.last_event) (in_second h.version (to_be_bytes w64 h.line)) (to_be_bytes w64 h.next_batch)
+
+-- ---- how many bytes a head has
+
+lengths : (a b c d e f g h i j k : List ℕ) → length (a ++ b ++ c ++ d ++ e ++ f ++ g ++ h ++ i ++ j ++ k)
+    ≡ length a + length b + length c + length d + length e + length f + length g + length h + length i + length j + length k
+lengths a b c d e f g h i j k = simp length-append
+
+second_size : (b : Bool) (field other : List ℕ) → length field ≡ length other → length (cond b field []) ≡ length (cond b other [])
+second_size true field other same = same
+second_size false field other same = refl
+
+-- the line's field has one size
+pub head_size : (h : Head) → IsDigest h.flow
+    → length (head h) ≡ 73 + length (texts h.connections) + length (in_second h.version (texts h.processors)) + length (numbers h.counts) + length (in_second h.version (to_be_bytes w64 0))
+unfolding head
+head_size h digest =
+    omega (
+      arith,
+      lengths (byte h.version) (to_be_bytes w64 h.store) h.flow (texts h.connections) (in_second h.version (texts h.processors)) (numbers h.counts) (to_be_bytes w64 h.next_number) (to_be_bytes w64 h.next_arrival) (to_be_bytes w64 h.last_event) (in_second h.version (to_be_bytes w64 h.line)) (to_be_bytes w64 h.next_batch),
+      second_size (eqb h.version SECOND_VERSION) (to_be_bytes w64 h.line) (to_be_bytes w64 0) refl,
+      digest,
+    )
+
+pub in_the_second : (version : ℕ) (field : List ℕ) → version ≡ SECOND_VERSION → length (in_second version field) ≡ length field
+in_the_second version field second = ap (λ (v : ℕ). length (in_second v field)) second
+
+pub not_in_another : (version : ℕ) (field : List ℕ) → version ≢ SECOND_VERSION → length (in_second version field) ≡ 0
+not_in_another version field other = ap (λ (b : Bool). length (cond b field [])) (ne_eqb version SECOND_VERSION other)
+
+pub line_size : (version line : ℕ) → length (in_second version (to_be_bytes w64 line)) ≡ length (in_second version (to_be_bytes w64 0))
+line_size version line = second_size (eqb version SECOND_VERSION) (to_be_bytes w64 line) (to_be_bytes w64 0) refl
+
+-- ---- where memory is taken
+
+pub connected : (bytes r0 r1 r2 rest : List ℕ) (version store : ℕ) (flow : List ℕ) (connections : List (List ℕ)) → version_at bytes ≡ Ok (version, r0) → store_at r0 ≡ Ok (store, r1) → raw_at DIGEST_SIZE r1 ≡ Ok (flow, r2) → texts_at r2 ≡ Ok (connections, rest)
+    → connected_at bytes ≡ Ok ((version, (store, (flow, connections))), rest)
+connected bytes r0 r1 r2 rest version store flow connections v s f c =
+    then_read version_at (store_at then raw_at DIGEST_SIZE then texts_at) bytes r0 rest version (store, (flow, connections)) v
+    (then_read store_at (raw_at DIGEST_SIZE then texts_at) r0 r1 rest store (flow, connections) s (then_read (raw_at DIGEST_SIZE) texts_at r1 r2 rest flow connections f c))
+
+abbrev Connected : Type 0
+Connected = ℕ × (ℕ × (List ℕ × List (List ℕ)))
+
+pub at_processors : (bytes rest : List ℕ) (front : Connected) → connected_at bytes ≡ Ok (front, rest) → front.0 ≡ SECOND_VERSION → is_ok (first_at text_at rest) ≡ true → is_ok (first_processor_at bytes) ≡ true
+at_processors bytes rest front read second first =
+    let tested : eqb front.0 SECOND_VERSION ≡ true = ap (λ (v : ℕ). eqb v SECOND_VERSION) second in
+    ap (λ (r : Result (Connected × List ℕ) ℕ). is_ok (r >>= behind)) read ∙ ap (λ (b : Bool). is_ok (cond b (first_at text_at rest) (none rest))) tested ∙ first
+  where
+    none : List ℕ → Result (List ℕ × List ℕ) ℕ
+    none rest = Err (length rest)
+    behind : Connected × List ℕ → Result (List ℕ × List ℕ) ℕ
+    behind x = cond (eqb x.0.0 SECOND_VERSION) (first_at text_at x.1) (none x.1)
+
+pub at_counts : (bytes rest after : List ℕ) (front : Connected) (processors : List (List ℕ)) → connected_at bytes ≡ Ok (front, rest) → processors_at front.0 rest ≡ Ok (processors, after) → is_ok (first_at number_at after) ≡ true
+    → is_ok (first_count_at bytes) ≡ true
+at_counts bytes rest after front processors read ids first =
+    ap (λ (r : Result (Connected × List ℕ) ℕ). is_ok (r >>= λ x. processors_at x.0.0 x.1 >>= λ y. first_at number_at y.1)) read
+    ∙ ap (λ (r : Result (List (List ℕ) × List ℕ) ℕ). is_ok (r >>= λ y. first_at number_at y.1)) ids ∙ first

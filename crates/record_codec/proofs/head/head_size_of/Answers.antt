@@ -2,7 +2,7 @@ use Rattle.std.proofs.Common.{length, ap, arith}
 use Rattle.flowfile_record.specs.Encoding.{numbers}
 use Rattle.record_codec.specs.StoreHead.{head_of, in_second}
 use Rattle.record_codec.specs.Texts.{texts}
-use Rattle.record_codec.proofs.Sizes.{head_size}
+use Rattle.record_codec.proofs.StoreHeads.{head_size}
 use Rattle.record_codec.proofs.head.head_size_of.Goals as goal
 
 pub size_of-requires-clause-connections : goal.size_of-requires-clause-connections

@@ -2,8 +2,7 @@ use Rattle.std.proofs.Common.{length, ap, arith}
 use Rattle.flowfile_record.specs.Encoding.{numbers}
 use Rattle.record_codec.specs.StoreHead.{in_second}
 use Rattle.record_codec.specs.Texts.{texts}
-use Rattle.record_codec.proofs.Sizes.{head_size}
-use Rattle.record_codec.proofs.StoreHeads.{head_written}
+use Rattle.record_codec.proofs.StoreHeads.{head_size, head_written, line_size}
 use Rattle.record_codec.proofs.head.write_head.Goals as goal
 
 pub put_lists-requires-clause-connections : goal.put_lists-requires-clause-connections
@@ -38,6 +37,7 @@ put_counters-requires c =
       ap (λ ps. length (in_second c.args.head.now.version (texts ps))) c.as_slice-2.ensures,
       ap (λ ns. length (numbers ns)) c.as_slice-3.ensures,
       head_size c.args.head.now c.requires.flow,
+      line_size c.args.head.now.version c.args.head.now.line,
     )
 
 pub returns-clause-ok : goal.returns-clause-ok
