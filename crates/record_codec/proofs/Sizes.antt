@@ -121,16 +121,6 @@ pub swap_batch_size : (b : SwapBatch) → length (swap_batch b) ≡ 34
 unfolding swap_batch
 swap_batch_size b = omega (arith, len5 (to_be_bytes w16 b.connection) (to_be_bytes w64 b.batch) (to_be_bytes w64 b.files) (to_be_bytes w64 b.bytes) (to_be_bytes w64 b.encoded))
 
-pub head_size : (h : Head) → IsDigest h.flow → length (head h) ≡ 73 + length (texts h.connections) + length (numbers h.counts)
-unfolding head
-head_size h digest =
-    omega (
-      arith,
-      len6 (byte FORMAT_VERSION ++ to_be_bytes w64 h.store ++ h.flow ++ texts h.connections) (numbers h.counts) (to_be_bytes w64 h.next_number) (to_be_bytes w64 h.next_arrival) (to_be_bytes w64 h.last_event) (to_be_bytes w64 h.next_batch),
-      len4 (byte FORMAT_VERSION) (to_be_bytes w64 h.store) h.flow (texts h.connections),
-      digest,
-    )
-
 -- ---- sizes don't depend on where contents stand
 
 content_ref_parts : (c : ContentRef) → length (content_ref c) ≡ 20 + length c.digest
