@@ -1,5 +1,5 @@
 -- What a block holds: one entry, or those of a group.
-use Rattle.std.proofs.Common.{◌≡◌, ℕ, ◌+◌, ◌<◌, ◌≤◌, eqb, Bool, false, List, [], ◌∷◌, ◌++◌, length, drop, get_or, Option, Some, None, Result, refl, sym, ap, ◌∙◌, append_assoc, arith}
+use Rattle.std.proofs.Common.{◌≡◌, ℕ, ◌+◌, ◌<◌, ◌≤◌, eqb, false, List, [], ◌∷◌, ◌++◌, length, drop, get_or, Option, Some, None, Result, refl, sym, ap, ◌∙◌, append_assoc}
 use Rattle.std.specs.Prelude.{All, map}
 use Rattle.std.specs.Option.{option_map, option_and_then}
 use Rattle.std.specs.Result.{result_ok}
