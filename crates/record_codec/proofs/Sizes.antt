@@ -18,8 +18,10 @@ use Rattle.flowfile_record.specs.declared.stored.SwapBatch.{SwapBatch}
 use Rattle.record_codec.specs.ActiveFile.{active_file, IsActiveFile}
 use Rattle.record_codec.specs.FileEncoding.{pair, attributes, content_ref, flow_file, IsFlowFile}
 use Rattle.record_codec.specs.EntryEncoding.{generator, counters, session, expire, swap_out, entry}
+use Rattle.record_codec.specs.Group.{item}
 use Rattle.record_codec.specs.Placeless.{placeless, placeless_active, placeless_entry}
 use Rattle.record_codec.specs.Snapshot.{swap_batch}
+use Rattle.record_codec.specs.declared.group.Item.{Item}
 use Rattle.record_codec.specs.declared.entry.SessionEntry.{SessionEntry}
 use Rattle.record_codec.specs.declared.entry.ExpireEntry.{ExpireEntry}
 use Rattle.record_codec.specs.declared.entry.SwapOutEntry.{SwapOutEntry}
@@ -102,6 +104,12 @@ expire_size e = omega (arith, len4 (to_be_bytes w16 e.connection) (to_be_bytes w
 pub swap_out_size : (s : SwapOutEntry) → length (swap_out s) ≡ 10 + length (numbers s.numbers)
 unfolding swap_out
 swap_out_size s = omega (arith, len3 (to_be_bytes w16 s.connection) (to_be_bytes w64 s.batch) (numbers s.numbers))
+
+-- ---- groups
+
+pub item_size : (i : Item) → length (item i) ≡ 5 + length i.payload
+unfolding item
+item_size i = omega (arith, len3 (byte i.kind) (to_be_bytes w32 (length i.payload)) i.payload)
 
 -- ---- snapshots
 
