@@ -47,7 +47,7 @@ fn take_head(alloc: Global, version: u8, payload: &[u8]) -> Result<SoFar, Unfit>
     ensures memory { IsErrOf result Unfit.Memory → IsTrue (is_ok (head_front_at version payload.now)) }
 {
     // Another version is told before memory is taken for the lists.
-    if payload.first() != Some(&version) {
+    if payload.is_empty() || payload[0] != version {
         return Err(Unfit::Form);
     }
     let head = read_head(alloc, payload)?;
