@@ -77,3 +77,17 @@ pub place_above : (k : Kept) (a : ActiveFile) → file_has_place k a ≡ true �
 place_above k a place =
     ltb-true (last_number (λ (b : ActiveFile). b.file.number) k.files) a.file.number (second_of_seven (length k.batches == 0) (nat_lt (last_number (λ (b : ActiveFile). b.file.number) k.files) a.file.number)
     (nat_lt a.connection (length k.connections)) (nat_lt a.file.number k.next_number) (nat_lt 0 a.file.arrival) (nat_lt a.file.arrival k.next_arrival) (nat_lt (length k.files) LIVE_FILES_MAX) place)
+
+-- the blocks of files, which have the connection beside the record
+pub files_size : (files : List ActiveFile) → length (flat_map file_block files) ≡ 39 * length files + sum (map record_size files)
+files_size [] = refl
+files_size (a ∷ files) =
+    omega (
+      arith,
+      ap length (flat_map-cons file_block a files),
+      length-append (file_block a) (flat_map file_block files),
+      length-block (kind_code kinds.File) (active_file a),
+      active_size a,
+      sum_by-cons (λ x. x) (record_size a) (map record_size files),
+      files_size files,
+    )
