@@ -334,12 +334,12 @@ begins_with version bytes = nat_lt 0 (length bytes) && (get_or bytes 0 0 == vers
 pub other_version : (version : ℕ) (bytes : List ℕ) → IsBytes bytes → begins_with version bytes ≡ false → head_next version (whole head_at bytes) ≡ None
 other_version version bytes fits other =
     head_refused version (whole head_at bytes) (λ h e same.
-      let begin = first_byte bytes h fits e in
-      let some = begin.0 in
-      let is : get_or bytes 0 0 ≡ version = begin.1 ∙ same in
-      let first : nat_lt 0 (length bytes) ≡ true = grind (arith, nat_tests, some) in
-      let second : (get_or bytes 0 0 == version) ≡ true = grind (arith, nat_tests, is) in
-      true≢false (sym (both_hold _ _ first second) ∙ other))
+    let begin = first_byte bytes h fits e in
+    let some = begin.0 in
+    let is : get_or bytes 0 0 ≡ version = begin.1 ∙ same in
+    let first : nat_lt 0 (length bytes) ≡ true = grind (arith, nat_tests, some) in
+    let second : (get_or bytes 0 0 == version) ≡ true = grind (arith, nat_tests, is) in
+    true≢false (sym (both_hold _ _ first second) ∙ other))
   where
     both_hold : (a b : Bool) → a ≡ true → b ≡ true → (a && b) ≡ true
     both_hold a b p q = rw (p, q) refl

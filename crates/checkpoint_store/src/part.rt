@@ -14,8 +14,8 @@ ghost use Rattle.checkpoint_store.specs.SoFar.{IsSoFar, next_is};
 use crate::so_far::{SoFar, Unfit};
 use flowfile_record::Text;
 use record_codec::{
-    Head, PAYLOAD_MAX, SECOND_VERSION, SnapshotKind, read_active_file, read_head, read_snapshot_end,
-    read_swap_batch,
+    Head, PAYLOAD_MAX, SECOND_VERSION, SnapshotKind, read_active_file, read_head,
+    read_snapshot_end, read_swap_batch,
 };
 use std::alloc::Global;
 

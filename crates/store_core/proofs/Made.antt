@@ -10,6 +10,7 @@ use Rattle.disk_trait.specs.declared.damage.Damage.TheVariants.{Form}
 use Rattle.flowfile_record.specs.Stored.{Kept}
 use Rattle.flowfile_record.specs.declared.stored.SwapBatch.{SwapBatch}
 use Rattle.flowfile_record.specs.declared.content.ContentRef.{ContentRef}
+use Rattle.record_codec.specs.declared.TheConstants.{FORMAT_VERSION}
 use Rattle.checkpoint_store.specs.Consistent.{IsConsistent}
 use Rattle.checkpoint_store.specs.Reading.{snapshot_of}
 use Rattle.checkpoint_store.specs.Snapshot.{snapshot_file}
@@ -45,8 +46,8 @@ pub made_kept : (flow : Flow) (lot : ℕ) (k : Kept) (files : Files) → IsNewSt
 unfolding snapshot_for
 made_kept flow lot k files made consistent none agrees =
     kept_by_log flow lot files first_log (made_current k files made).current
-    ∙ ap (λ (bytes : List ℕ). behind_snapshot files first_log (of_flow flow (snapshot_file 1) (snapshot_of (snapshot_file 1) bytes))) made.snapshot.1
-    ∙ ap (λ (read : Result Kept Damage). behind_snapshot files first_log (of_flow flow (snapshot_file 1) read)) (read_back (snapshot_file 1) k made.snapshot.0 consistent)
+    ∙ ap (λ (bytes : List ℕ). behind_snapshot files first_log (of_flow flow (snapshot_file 1) (snapshot_of FORMAT_VERSION (snapshot_file 1) bytes))) made.snapshot.1
+    ∙ ap (λ (read : Result Kept Damage). behind_snapshot files first_log (of_flow flow (snapshot_file 1) read)) (read_back FORMAT_VERSION (snapshot_file 1) k made.snapshot.0 consistent)
     ∙ ap (behind_snapshot files first_log) (of_agreed flow k true agrees refl)
     ∙ ap (λ (batches : List SwapBatch). with_entries first_log k (unless_swapped (least_of (map (λ b. b.batch) batches ++ [])))) none
 

@@ -18,7 +18,7 @@ returns-then-not-is_of_version-clause-unfit c = λ form.
 
 pub returns-in_err-head-clause-memory : goal.returns-in_err-head-clause-memory
 returns-in_err-head-clause-memory c = λ is.
-    let p = err_from_is_err_and c.from_residual-in_err-head.result c.from_residual-in_err-head.ensures.1 in
+    let p = err_from_is_err_and c.from_residual.result c.from_residual.ensures.1 in
     let unfit : unfit_of c.in_err-head.field-0.0 ≡ Memory = cc (p.1, p.2, is) in
     let same = memory_only c.in_err-head.field-0.0 unfit in
     let first = this_version c.args.version c.args.payload.now (sym c.is_of_version.ensures ∙ c.if-not-is_of_version.false) in
