@@ -1,16 +1,18 @@
 -- How the entries of a log are encoded, and which have an encoding.
-use Rattle.std.specs.Prelude.{◌≡◌, ℕ, ◌<◌, ◌^◌, List, ◌++◌, Option, Some, None}
+use Rattle.std.specs.Prelude.{◌≡◌, ℕ, ◌+◌, ◌<◌, ◌==◌, ◌^◌, IsTrue, List, ◌++◌, Option, Some, None, if◌then◌else◌}
 use Rattle.std.specs.Int.{w16, w64, to_be_bytes}
 use Rattle.flowfile_record.specs.Encoding.{byte, listed, numbers, IsNumber, AreListed, AreNumbers}
 use Rattle.flowfile_record.specs.declared.stored.Counted.{Counted}
 use Rattle.record_codec.specs.ActiveFile.{active_file, IsActiveFile}
-use Rattle.record_codec.specs.declared.TheConstants.{FORMAT_VERSION}
+use Rattle.flowfile_record.specs.declared.limits.TheConstants.{NUMBER_LIMIT}
+use Rattle.record_codec.specs.Version.{is_version}
+use Rattle.record_codec.specs.declared.TheConstants.{SECOND_VERSION}
 use Rattle.record_codec.specs.declared.entry.TheConstants.{NO_GENERATOR}
 use Rattle.record_codec.specs.declared.entry.SessionEntry.{SessionEntry}
 use Rattle.record_codec.specs.declared.entry.ExpireEntry.{ExpireEntry}
 use Rattle.record_codec.specs.declared.entry.SwapOutEntry.{SwapOutEntry}
 use Rattle.record_codec.specs.declared.entry.LogEntry.{LogEntry}
-use Rattle.record_codec.specs.declared.entry.LogEntry.TheVariants.{Begin, Session, Expire, SwapOut, SwapIn}
+use Rattle.record_codec.specs.declared.entry.LogEntry.TheVariants.{Begin, Session, Expire, SwapOut, SwapIn, Age}
 
 -- ---- encodings
 
@@ -36,20 +38,26 @@ swap_out s = to_be_bytes w16 s.connection ++ to_be_bytes w64 s.batch ++ numbers 
 
 -- the version of the format comes first in a log
 unfoldable pub entry : LogEntry → List ℕ
-entry (Begin log) = byte FORMAT_VERSION ++ to_be_bytes w64 log
+entry (Begin version log) = byte version ++ to_be_bytes w64 log
 entry (Session s) = session s
 entry (Expire e) = expire e
 entry (SwapOut s) = swap_out s
 entry (SwapIn connection batch) = to_be_bytes w16 connection ++ to_be_bytes w64 batch
+entry (Age line) = to_be_bytes w64 line
 
 abbrev pub kind_of : LogEntry → ℕ
-kind_of (Begin log) = 1
+kind_of (Begin version log) = 1
 kind_of (Session s) = 2
 kind_of (Expire e) = 3
 kind_of (SwapOut s) = 4
 kind_of (SwapIn connection batch) = 5
+kind_of (Age line) = 7
 
 -- ---- what has an encoding
+
+-- the numbers of a version's logs are below it: in the second, a log has one number more than other things
+abbrev pub log_limit : (version : ℕ) → ℕ
+log_limit version = if version == SECOND_VERSION then NUMBER_LIMIT + 1 else NUMBER_LIMIT
 
 abbrev pub IsPlace : ℕ → Type 0
 IsPlace place = place < 2 ^ 16
@@ -83,11 +91,12 @@ pub record IsSwapOut (s : SwapOutEntry) : Type 0 where
   pub numbers : AreNumbers s.numbers
 
 abbrev pub IsEntry : LogEntry → Type 0
-IsEntry (Begin log) = IsNumber log
+IsEntry (Begin version log) = IsTrue (is_version version) × (log < log_limit version)
 IsEntry (Session s) = IsSession s
 IsEntry (Expire e) = IsExpire e
 IsEntry (SwapOut s) = IsSwapOut s
 IsEntry (SwapIn connection batch) = IsPlace connection × IsNumber batch
+IsEntry (Age line) = IsNumber line
 
 abbrev pub IsEntryOf : ℕ → LogEntry → Type 0
 IsEntryOf kind e = IsEntry e × (kind_of e ≡ kind)

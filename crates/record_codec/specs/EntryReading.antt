@@ -1,19 +1,27 @@
 -- Reading the entries of a log from left to right, up to the first field that can't be read.
-use Rattle.std.specs.Prelude.{ℕ, ◌==◌, ◌||◌, Bool, false, not, is_ok, List, length, Option, Some, None, Ok, Err, if◌then◌else◌}
+use Rattle.std.specs.Prelude.{ℕ, ◌==◌, ◌||◌, nat_lt, Bool, false, not, is_ok, List, length, Option, Some, None, Ok, Err, if◌then◌else◌}
 use Rattle.std.specs.Int.{w16, w64}
 use Rattle.flowfile_record.specs.Reading.{Reading, ◌>>=◌, ◌then◌, made, such, uint_at, number_at, numbers_at, listed_at, first_at}
 use Rattle.flowfile_record.specs.declared.stored.Counted.{Counted}
 use Rattle.record_codec.specs.ActiveFile.{active_file_at, active_front_at}
+use Rattle.record_codec.specs.EntryEncoding.{log_limit}
 use Rattle.record_codec.specs.Version.{version_at}
 use Rattle.record_codec.specs.declared.entry.TheConstants.{NO_GENERATOR}
 use Rattle.record_codec.specs.declared.entry.SessionEntry.{SessionEntry}
 use Rattle.record_codec.specs.declared.entry.ExpireEntry.{ExpireEntry}
 use Rattle.record_codec.specs.declared.entry.SwapOutEntry.{SwapOutEntry}
 use Rattle.record_codec.specs.declared.entry.LogEntry.{LogEntry}
-use Rattle.record_codec.specs.declared.entry.LogEntry.TheVariants.{Begin, Session, Expire, SwapOut, SwapIn}
+use Rattle.record_codec.specs.declared.entry.LogEntry.TheVariants.{Begin, Session, Expire, SwapOut, SwapIn, Age}
+
+-- the number of a log of this version
+unfoldable pub log_number_at : (version : ℕ) → Reading ℕ
+log_number_at version = such (λ log. nat_lt log (log_limit version)) (uint_at w64)
 
 unfoldable pub begin_at : Reading LogEntry
-begin_at = made (λ b. Begin b.1) (version_at then number_at)
+begin_at bytes = do
+  version ← version_at bytes
+  log ← log_number_at version.0 version.1
+  Ok (Begin version.0 log.0, log.1)
 
 -- the count behind the place of a generator, which is 0 for none
 unfoldable pub count_at : ℕ → Reading ℕ
@@ -54,6 +62,9 @@ swap_out_at = made (λ s. record { connection = s.0; batch = s.1.0; numbers = s.
 unfoldable pub swap_in_at : Reading LogEntry
 swap_in_at = made (λ s. SwapIn s.0 s.1) (uint_at w16 then number_at)
 
+unfoldable pub age_at : Reading LogEntry
+age_at = made Age number_at
+
 -- no entry has another kind
 unfoldable pub entry_at : ℕ → Reading LogEntry
 entry_at kind bytes =
@@ -62,6 +73,7 @@ entry_at kind bytes =
     else if kind == 3 then made Expire expire_at bytes
     else if kind == 4 then made SwapOut swap_out_at bytes
     else if kind == 5 then swap_in_at bytes
+    else if kind == 7 then age_at bytes
     else Err (length bytes)
 
 -- ---- where memory is taken: for the first item of a list, and in a placed file for its first pair of attributes

@@ -1,8 +1,12 @@
 pub mod ActiveFile
 pub mod Block
+pub mod BlockEntries
 pub mod EntryReading
 pub mod EntryEncoding
 pub mod FileReading
+pub mod Frames
+pub mod Group
+pub mod GroupReading
 pub mod LogEntries
 pub mod Placeless
 pub mod FileEncoding

@@ -4,7 +4,7 @@ use Rattle.flowfile_record.specs.declared.flow_file.FlowFile.{FlowFile}
 use Rattle.flowfile_record.specs.declared.stored.ActiveFile.{ActiveFile}
 use Rattle.record_codec.specs.ActiveFile.{active}
 use Rattle.record_codec.specs.declared.entry.LogEntry.{LogEntry}
-use Rattle.record_codec.specs.declared.entry.LogEntry.TheVariants.{Begin, Session, Expire, SwapOut, SwapIn}
+use Rattle.record_codec.specs.declared.entry.LogEntry.TheVariants.{Begin, Session, Expire, SwapOut, SwapIn, Age}
 
 -- the same flow file, its content at offset 0 of slot 0
 abbrev pub placeless : FlowFile → FlowFile
@@ -22,7 +22,7 @@ placeless_active a = active a.connection (placeless a.file)
 
 -- the same entry, with each content there
 abbrev pub placeless_entry : LogEntry → LogEntry
-placeless_entry (Begin log) = Begin log
+placeless_entry (Begin version log) = Begin version log
 placeless_entry (Session s) = Session (record {
   processor = s.processor;
   moment = s.moment;
@@ -36,3 +36,4 @@ placeless_entry (Session s) = Session (record {
 placeless_entry (Expire e) = Expire e
 placeless_entry (SwapOut s) = SwapOut s
 placeless_entry (SwapIn connection batch) = SwapIn connection batch
+placeless_entry (Age line) = Age line

@@ -53,17 +53,19 @@ pub struct SwapOutEntry {
 /// An entry of a log. Connections and processors are named by their places in the flow.
 #[derive(Debug, Drop)]
 pub enum LogEntry {
-    /// The first entry of each log, with the log's number.
-    Begin { log: u64 },
+    /// The first entry of each log, with the version of its format and its number.
+    Begin { version: u8, log: u64 },
     Session(SessionEntry),
     Expire(ExpireEntry),
     SwapOut(SwapOutEntry),
     /// A batch of a connection that was swapped in again.
     SwapIn { connection: u16, batch: u64 },
+    /// The line up to which events have aged out. It belongs to the second version alone.
+    Age { line: u64 },
 }
 
 impl LogEntry {
-    /// The kind of the entry's block, from 1 to 5.
+    /// The kind of the entry's block, from 1 to 5 or 7.
     pub fn kind(&self) -> u8
         ensures { result ≡ kind_of self.now }
     {
@@ -73,6 +75,7 @@ impl LogEntry {
             LogEntry::Expire(_) => 3,
             LogEntry::SwapOut(_) => 4,
             LogEntry::SwapIn { .. } => 5,
+            LogEntry::Age { .. } => 7,
         }
     }
 }
@@ -99,7 +102,7 @@ pub fn write_entry(out: &mut Vec<u8>, entry: &LogEntry) -> Result<(), AllocError
     Ok(())
 }
 
-/// The entry of a kind that the bytes encode, all of them. No entry has a kind outside 1 to 5, which is `Form` at 0.
+/// The entry of a kind that the bytes encode, all of them. No entry has a kind outside 1 to 5 and 7, which is `Form` at 0.
 pub fn read_entry(alloc: Global, kind: u8, bytes: &[u8]) -> Result<LogEntry, CodecError>
     // What is read is encoded so.
     ensures found { IfOk result (λ entry. IsEntryOf kind entry × (bytes.now ≡ encoding entry)) }

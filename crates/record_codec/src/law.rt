@@ -2,8 +2,8 @@
 ghost use Rattle.std.specs.Prelude.{◌≡◌, ◌^◌};
 
 use crate::{
-    BLOCK_OVERHEAD, CLOSED_GATE, FIRST_VERSION, FORMAT_VERSION, HEADER_SIZE, NO_GENERATOR,
-    OPEN_GATE, PAYLOAD_MAX, SECOND_VERSION, SLOT_LIMIT,
+    BLOCK_OVERHEAD, CLOSED_GATE, FIRST_VERSION, FORMAT_VERSION, GROUP_KIND, HEADER_SIZE,
+    NO_GENERATOR, OPEN_GATE, PAYLOAD_MAX, SECOND_VERSION, SLOT_LIMIT,
 };
 
 /// The limits and the fixed bytes of the format.
@@ -13,6 +13,7 @@ pub fn numbers_of_the_format()
     ensures overhead { BLOCK_OVERHEAD ≡ 37 }
     ensures slots { SLOT_LIMIT ≡ 65_536 }
     ensures no_generator { NO_GENERATOR ≡ 65_535 }
+    ensures group { GROUP_KIND ≡ 6 }
     ensures versions { (FIRST_VERSION ≡ 1) × (SECOND_VERSION ≡ 2) }
     ensures version { FORMAT_VERSION ≡ FIRST_VERSION }
     ensures gates { (OPEN_GATE ≡ 0x5A) × (CLOSED_GATE ≡ 0) }

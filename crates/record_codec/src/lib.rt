@@ -7,9 +7,11 @@
 mod active_file;
 mod attributes;
 mod block;
+mod block_entries;
 mod content;
 mod entry;
 mod flow_file;
+mod group;
 mod head;
 mod law;
 mod log;
@@ -24,6 +26,7 @@ pub use block::{
     BLOCK_OVERHEAD, Block, BlockEnd, HEADER_SIZE, PAYLOAD_MAX, append_block, append_parts,
     block_size, blocks_have_one_encoding, read_block, size_by_header,
 };
+pub use block_entries::{blocks_hold_their_entries, read_entries};
 pub use content::SLOT_LIMIT;
 pub use entry::{
     ExpireEntry, LogEntry, NO_GENERATOR, SessionEntry, SwapOutEntry, entries_have_one_encoding,
@@ -31,12 +34,15 @@ pub use entry::{
 };
 pub use flow_file::{file_size, flow_files_have_one_encoding, read_file, write_file};
 pub use flowfile_record::CodecError;
+pub use group::{
+    GROUP_KIND, Item, Items, group_size, groups_have_one_encoding, read_group, write_group,
+};
 pub use head::{
     Head, head_size, head_size_of, heads_have_one_encoding, read_head, write_head, write_head_of,
 };
 pub use law::numbers_of_the_format;
 pub use log::{
-    CLOSED_GATE, OPEN_GATE, an_open_gate_adds_an_entry, last_gates_end_a_log,
+    CLOSED_GATE, OPEN_GATE, an_open_gate_adds_entries, last_gates_end_a_log,
     the_first_damage_is_told,
 };
 pub use snapshot::{

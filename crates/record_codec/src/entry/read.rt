@@ -2,15 +2,17 @@
 ghost use Rattle.std.specs.Prelude.{◌≡◌, ◌<◌, ◌||◌, length, IsTrue, is_ok, IsErrOf};
 ghost use Rattle.flowfile_record.specs.Reading.{Reads, Gives, Answers, answer, whole, items_at, listed_at, first_at};
 ghost use Rattle.record_codec.specs.ActiveFile.{active_file_at, active_front_at};
-ghost use Rattle.record_codec.specs.EntryReading.{begin_at, count_at, generator_at, session_at, expire_at, swap_out_at, swap_in_at, entry_at, session_takes_memory, expire_takes_memory, swap_out_takes_memory, takes_memory};
+ghost use Rattle.record_codec.specs.EntryEncoding.{log_limit};
+ghost use Rattle.record_codec.specs.EntryReading.{log_number_at, begin_at, count_at, generator_at, session_at, expire_at, swap_out_at, swap_in_at, age_at, entry_at, session_takes_memory, expire_takes_memory, swap_out_takes_memory, takes_memory};
 
+use crate::SECOND_VERSION;
 use crate::active_file::read_fields as read_active_fields;
 use crate::entry::{ExpireEntry, LogEntry, NO_GENERATOR, SessionEntry, SwapOutEntry};
 use crate::version::read_version;
 use flowfile_record::fields::{
     FieldError, Unread, read_number, read_numbers, read_u16, read_u32, read_u64,
 };
-use flowfile_record::{ActiveFile, CodecError, Counted, Sequence};
+use flowfile_record::{ActiveFile, CodecError, Counted, NUMBER_LIMIT, Sequence};
 use std::alloc::Global;
 
 pub(crate) fn read_answer(alloc: Global, kind: u8, bytes: &[u8]) -> Result<LogEntry, CodecError>
@@ -56,6 +58,7 @@ fn read_of_kind(alloc: Global, kind: u8, bytes: &[u8]) -> Result<(LogEntry, &[u8
             Ok((LogEntry::SwapOut(swap_out), rest))
         }
         5 => Ok(read_swap_in(bytes)?),
+        7 => Ok(read_age(bytes)?),
         _ => Err(FieldError::Form {
             left: bytes.len() as u64,
         }),
@@ -66,9 +69,34 @@ fn read_of_kind(alloc: Global, kind: u8, bytes: &[u8]) -> Result<(LogEntry, &[u8
 fn read_begin(bytes: &[u8]) -> Result<(LogEntry, &[u8]), Unread>
     ensures { Reads (λ x. (x.0, x.1.now)) result (begin_at bytes.now) }
 {
-    let (_, rest) = read_version(bytes)?;
-    let (log, rest) = read_number(rest)?;
-    Ok((LogEntry::Begin { log }, rest))
+    let (version, rest) = read_version(bytes)?;
+    let (log, rest) = read_log_number(version, rest)?;
+    Ok((LogEntry::Begin { version, log }, rest))
+}
+
+// The number of a log of this version.
+#[tactic(auto, unfolding(crate::specs::EntryReading::log_number_at))]
+fn read_log_number(version: u8, bytes: &[u8]) -> Result<(u64, &[u8]), Unread>
+    ensures { Reads (λ x. (x.0, x.1.now)) result (log_number_at version bytes.now) }
+{
+    let (log, rest) = read_u64(bytes)?;
+    if log >= log_limit(version) {
+        return Err(Unread {
+            left: bytes.len() as u64,
+        });
+    }
+    Ok((log, rest))
+}
+
+// The numbers of a version's logs are below it.
+fn log_limit(version: u8) -> u64
+    ensures { result ≡ log_limit version }
+{
+    if version == SECOND_VERSION {
+        NUMBER_LIMIT + 1
+    } else {
+        NUMBER_LIMIT
+    }
 }
 
 #[tactic(auto, unfolding(crate::specs::EntryReading::session_at))]
@@ -197,4 +225,12 @@ fn read_swap_in(bytes: &[u8]) -> Result<(LogEntry, &[u8]), Unread>
     let (connection, rest) = read_u16(bytes)?;
     let (batch, rest) = read_number(rest)?;
     Ok((LogEntry::SwapIn { connection, batch }, rest))
+}
+
+#[tactic(auto, unfolding(crate::specs::EntryReading::age_at))]
+fn read_age(bytes: &[u8]) -> Result<(LogEntry, &[u8]), Unread>
+    ensures { Reads (λ x. (x.0, x.1.now)) result (age_at bytes.now) }
+{
+    let (line, rest) = read_number(bytes)?;
+    Ok((LogEntry::Age { line }, rest))
 }

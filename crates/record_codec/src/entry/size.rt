@@ -27,6 +27,7 @@ pub(crate) fn size_of(entry: &LogEntry) -> u64
         LogEntry::Expire(expire) => expire_size(expire),
         LogEntry::SwapOut(swap_out) => swap_out_size(swap_out),
         LogEntry::SwapIn { .. } => 10,
+        LogEntry::Age { .. } => 8,
     }
 }
 

@@ -5,7 +5,6 @@ ghost use Rattle.record_codec.specs.ActiveFile.{active_file, IsActiveFile};
 ghost use Rattle.record_codec.specs.EntryEncoding as encoding;
 ghost use Rattle.record_codec.specs.EntryEncoding.{IsEntry, IsSession, IsExpire, IsSwapOut};
 
-use crate::FORMAT_VERSION;
 use crate::active_file::put_active_file;
 use crate::entry::size::{COUNTERS_SIZE, GENERATOR_SIZE};
 use crate::entry::{ExpireEntry, LogEntry, NO_GENERATOR, SessionEntry, SwapOutEntry};
@@ -20,8 +19,8 @@ pub(crate) fn put_entry(out: &mut Vec<u8>, entry: &LogEntry)
     ensures capacity { vec_capacity out.old ≤ vec_capacity out.new }
 {
     match entry {
-        LogEntry::Begin { log } => {
-            put_u8(out, FORMAT_VERSION);
+        LogEntry::Begin { version, log } => {
+            put_u8(out, *version);
             put_u64(out, *log);
         }
         LogEntry::Session(session) => put_session(out, session),
@@ -31,6 +30,7 @@ pub(crate) fn put_entry(out: &mut Vec<u8>, entry: &LogEntry)
             put_u16(out, *connection);
             put_u64(out, *batch);
         }
+        LogEntry::Age { line } => put_u64(out, *line),
     }
 }
 
