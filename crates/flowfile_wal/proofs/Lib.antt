@@ -1,3 +1,4 @@
+pub mod Extents
 pub mod Says
 pub mod Appending
 pub mod Files

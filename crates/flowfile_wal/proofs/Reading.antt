@@ -21,6 +21,9 @@ use Rattle.flowfile_wal.specs.Reads.{named_at, AreEntriesAt, IsDamagedAt, IsLast
 use Rattle.flowfile_wal.proofs.Extents.{found_fits}
 use Rattle.flowfile_wal.proofs.Says.{Found, ok, begun_alone, opens, says_of, says_misbegun, says_unread}
 
+abbrev Says : Type 0
+Says = Result CurrentLog Damage
+
 abbrev pub error : Damage → Says
 error d = Err d
 
