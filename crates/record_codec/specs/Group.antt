@@ -26,7 +26,7 @@ pub record IsItem (i : Item) : Type 0 where
 -- a group that has an encoding: an entry alone is no group
 pub record IsGroup (items : List Item) : Type 0 where
   pub several : 2 ≤ length items
-  pub items : AreListed IsItem items
+  pub each : AreListed IsItem items
 
 -- an entry, as an item of a group
 abbrev pub item_of : LogEntry → Item
