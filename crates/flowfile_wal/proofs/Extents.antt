@@ -1,5 +1,5 @@
 -- Where the blocks of a log and its last gate stand.
-use Rattle.std.proofs.Common.{◌≡◌, ℕ, zero, suc, ◌+◌, ◌<◌, ◌≤◌, ◌==◌, ◌&&◌, ltb, cond, Bool, true, false, List, [], ◌∷◌, length, refl, sym, ap, ◌∙◌, arith}
+use Rattle.std.proofs.Common.{◌≡◌, ℕ, zero, suc, ◌+◌, ◌<◌, ◌≤◌, ◌==◌, ◌&&◌, ltb, cond, Bool, true, false, List, [], ◌∷◌, ◌++◌, length, refl, sym, ap, ◌∙◌, arith}
 use Rattle.std.specs.Prelude.{Option, None, Some, Result, Ok, Err}
 use Rattle.std.specs.List.{list_all}
 use Rattle.record_codec.specs.Block.{Reading, Whole, Cut, Long, Differs, reading_of}
@@ -48,20 +48,20 @@ Extent passed at bytes read = (at + passed ≤ read.end) × (read.end ≤ at + l
 Later : (version at : ℕ) (rest : List ℕ) → Type 0
 Later version at rest = (size : ℕ) (r : LogRead) → size ≤ length rest → log_from version size (at + 1) rest ≡ ok r → Extent size (at + 1) rest r
 
+of_test : (found other : Found) (has : List LogEntry × ℕ) (b : Bool) → cond b found other ≡ Ok has → (other ≡ Ok has → ⊥) → found ≡ Ok has
+of_test found other has true e isnt = e
+of_test found other has false e isnt = absurd (isnt e)
+
 -- what was found, and belongs to the version
 pub of_version_is : (version : ℕ) (found : Found) (has : List LogEntry × ℕ) → of_version version found ≡ Ok has → found ≡ Ok has
-of_version_is version (Ok found) has e = of_test (list_all (belongs version) found.0) e
-  where
-    of_test : (b : Bool) → cond b (Ok found) (Err Cause.Form) ≡ Ok has → Ok found ≡ Ok has
-    of_test true e = e
-    of_test false e = absurd cc
+of_version_is version (Ok found) has e = of_test (Ok found) (Err Cause.Form) has (list_all (belongs version) found.0) e (λ (e : Err Cause.Form ≡ Ok has). absurd cc)
 of_version_is version (Err cause) has e = absurd cc
 
 extent_read : (version at : ℕ) (gate : ℕ) (rest : List ℕ) (read : LogRead) (found : List LogEntry × ℕ) → found.1 ≤ length rest → Later version at rest → (log : Result LogRead LogDamage)
     → log_from version found.1 (at + 1) rest ≡ log → after (gated at found.0) log ≡ ok read → Extent 0 at (gate ∷ rest) read
 unfolding Later Extent
 extent_read version at gate rest read found fits later (Ok r) e both =
-    let same : record { entries = _; end = r.end } ≡ read = cc in
+    let same : record { entries = gated at found.0 ++ r.entries; end = r.end } ≡ read = cc in
     let end : r.end ≡ read.end = ap (λ (x : LogRead). x.end) same in
     let x = later found.1 r fits e in
     (omega (arith, x.0, end), omega (arith, x.1, end))

@@ -152,7 +152,7 @@ first version number size bytes read counted is reads =
     let rest = drop 1 bytes in
     let behind : log_of version bytes ≡ behind_gate 0 (entries_at version rest) (λ n. log_from version n 1 rest) = ap (log_of version) o.0 ∙ opened version 0 rest o.1 in
     let found : entries_at version rest ≡ alone version number size = ap (of_version version) is in
-    let long : length bytes ≡ 1 + length rest = ap length o.0 in
+    let long : length bytes ≡ 1 + length rest = omega (arith, ap length o.0) in
     first_of version number size bytes read (log_from version size 1 rest) (omega (arith, long)) (found_fits rest (Begin version number ∷ [], size) is) long refl
     (sym (behind ∙ ap (λ (f : Found). behind_gate 0 f (λ n. log_from version n 1 rest)) found) ∙ reads)
 
@@ -193,7 +193,7 @@ module _ (number : ℕ) (bytes : List ℕ) (log : CurrentLog) (counted : counts 
       → (counts new ≡ true) × (log_in number new ≡ log_read number log.version whole)
   goes_on new tail whole goes reads =
       let o = opens bytes counted in
-      let long : length bytes ≡ 1 + length (drop 1 bytes) = ap length o.0 in
+      let long : length bytes ≡ 1 + length (drop 1 bytes) = omega (arith, ap length o.0) in
       let again = again_open (drop 1 bytes) tail log.end (Begin log.version number ∷ [], r.size) r.first (omega (arith, f.from, end_is)) (omega (arith, f.to, end_is, long)) in
       let same : take log.end (OPEN_GATE ∷ drop 1 bytes) ++ tail ≡ new = ap (λ (l : List ℕ). take log.end l ++ tail) (sym o.0) ∙ sym goes in
       (subst (λ (l : List ℕ). counts l ≡ true) same again.0,

@@ -1,5 +1,5 @@
 -- What is in memory of a log, and the files that it stands for.
-use Rattle.std.proofs.Common.{◌≡◌, ℕ, ◌+◌, true, List, [], ◌∷◌, length, refl, sym, ◌∙◌, ap, subst, arith}
+use Rattle.std.proofs.Common.{◌≡◌, ℕ, ◌+◌, ◌<◌, true, List, [], ◌∷◌, length, refl, sym, ◌∙◌, ap, subst, arith}
 use Rattle.std.specs.Prelude.{IsTrue, Option, Some, Result, Ok}
 use Rattle.disk_trait.specs.Files.{Files, At, named}
 use Rattle.disk_trait.specs.declared.damage.Damage.{Damage}
@@ -7,16 +7,19 @@ use Rattle.disk_trait.specs.declared.file_name.FileKind.TheVariants.{Log}
 use Rattle.record_codec.specs.Block.{block}
 use Rattle.record_codec.specs.EntryEncoding.{entry as encoding, kind_of}
 use Rattle.record_codec.specs.Frames.{begun_log}
-use Rattle.record_codec.specs.LogEntries.{LogRead, ended, with_more, log_of}
+use Rattle.record_codec.specs.LogEntries.{LogRead, ended, told, found_in, with_more, log_of}
+use Rattle.record_codec.specs.BlockEntries.{entries_in}
 use Rattle.record_codec.specs.declared.entry.LogEntry.{LogEntry}
 use Rattle.record_codec.specs.declared.entry.LogEntry.TheVariants.{Begin}
 use Rattle.record_codec.specs.declared.log.TheConstants.{OPEN_GATE, CLOSED_GATE}
 use Rattle.record_codec.proofs.Blocks.{length-block, reading_of-block}
+use Rattle.record_codec.proofs.BlockEntries.{entry_held}
+use Rattle.record_codec.proofs.Logs.{entries_more}
 use Rattle.flowfile_wal.specs.Calls.{InEach, RestInEach}
 use Rattle.flowfile_wal.specs.Current.{CurrentLog, current_log, first_found}
 use Rattle.flowfile_wal.specs.Steps.{LogState, IsCurrentIn, IsReadyIn, IsLogAt, IsClosedLog, IsClosedIn, IsBegunIn, RestsAt, MoreEntries, numbered_log, with_entries}
 use Rattle.flowfile_wal.proofs.Says.{ok, alone, says_of}
-use Rattle.flowfile_wal.proofs.Appending.{ends_closed}
+use Rattle.flowfile_wal.proofs.Appending.{ends_closed, closed_length}
 use Rattle.flowfile_wal.proofs.Beginnings.{begun_counts}
 use Rattle.flowfile_wal.proofs.Files.{said, current_is, closed_in, at_rest, with_more_entries}
 
@@ -46,6 +49,12 @@ module _ (state : LogState) (number version gate : ℕ) (has : state.number ≡ 
     entries = is.log.entries;
     rests = subst (λ (l : CurrentLog). IsClosedLog l (files (named Log l.number))) (ready_is is) (at_rest is.log files is.ready);
   }
+
+-- its last gate is there
+pub gate_there : (state : LogState) (number version gate : ℕ) → state.number ≡ Some number → state.version ≡ version → state.end ≡ gate → (files : Files) → IsReadyIn state files → gate < length (files (named Log number))
+gate_there state number version gate has in_version ends files ready =
+    let bytes = files (named Log number) in
+    omega (arith, closed_length gate bytes (rests_at state number version gate has in_version ends files ready).rests.closed)
 
 -- and so in all files that a stop may leave
 pub rest_in_each : (state : LogState) (number version gate : ℕ) → state.number ≡ Some number → state.version ≡ version → state.end ≡ gate → (left : Files → Type 0) → InEach left (IsReadyIn state) → RestInEach number version gate left

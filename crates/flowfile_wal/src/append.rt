@@ -1,10 +1,11 @@
 //! A block is written behind a closed gate and synced, with a closed gate of its own behind it, and only then is the
 //! gate opened, by a write of its own: a stop leaves all its entries or none, whatever a torn write leaves.
-ghost use Rattle.std.specs.Prelude.{◌≡◌, ℕ, ◌+◌, ◌^◌, ◌<◌, List, length, OnOk, IsErr};
+ghost use Rattle.std.specs.Prelude.{◌≡◌, ℕ, ◌+◌, ◌^◌, ◌<◌, List, length, IsTrue, OnOk, IsErr};
 ghost use Rattle.disk_trait.specs.Images.{Since, IsOnly, calls_later};
 ghost use Rattle.disk_trait.specs.Faults.{CountsFaults};
 ghost use Rattle.record_codec.specs.declared.entry.LogEntry.{LogEntry};
 ghost use Rattle.flowfile_wal.specs.Calls.{InEach, RestInEach, WithOrWithout};
+ghost use Rattle.flowfile_wal.specs.Current.{log_bytes};
 ghost use Rattle.flowfile_wal.specs.Steps.{IsFrame, AddsEntries};
 
 use disk_trait::{Disk, Failed, FileKind, FileName, write_synced};
@@ -19,6 +20,7 @@ pub fn append_frame<D: Disk>(
     frame: &[u8],
 ) -> Result<(), Failed>
     requires room { end + 1 < 2 ^ 64 }
+    requires there { IsTrue D.tells → end < length (log_bytes (D.held disk.old) number) }
     // A stop within the call leaves a log of before it, or what was held with the entries.
     ensures images { (version : ℕ) (entries : List LogEntry)
         → RestInEach number version end (D.images disk.old (D.moment disk.old)) → IsFrame version entries frame.now

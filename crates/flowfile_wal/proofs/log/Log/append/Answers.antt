@@ -3,8 +3,17 @@ use Rattle.std.specs.Prelude.{Some}
 use Rattle.disk_trait.specs.Images.{Since}
 use Rattle.flowfile_wal.specs.Calls.{RestInEach, WithOrWithout, InEach}
 use Rattle.flowfile_wal.specs.Steps.{LogState, IsReadyIn, AddsEntries}
-use Rattle.flowfile_wal.proofs.States.{rest_in_each, ready_more}
+use Rattle.flowfile_wal.proofs.States.{gate_there, rest_in_each, ready_more}
 use Rattle.flowfile_wal.proofs.log.Log.append.Goals as goal
+
+pub append_frame-requires-clause-there : goal.append_frame-requires-clause-there
+append_frame-requires-clause-there g c lfts out told =
+    let laws = g.met.D.Disk g.world.𝓛 g.world.𝓜 g.world.𝓡 ((λ s x. x), (λ x. x), (λ x. x), λ x. x) in
+    let old = c.args.disk.now in
+    let state : LogState = c.args.self.now in
+    let ends = sym (ap (λ (s : LogState). s.end) c.self.view_is) in
+    let has : state.number ≡ Some c.in-Some.number = sym (ap (λ (s : LogState). s.number) c.self.view_is) ∙ c.in-Some.is in
+    gate_there state c.in-Some.number state.version c.self.inside.gate has refl ends (g.D.Disk.held old) (c.requires.ready (g.D.Disk.held old) (laws.held_is_left old told))
 
 pub returns-clause-images : goal.returns-clause-images
 returns-clause-images g c number entries is is_frame =
