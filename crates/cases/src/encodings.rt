@@ -1,5 +1,6 @@
 //! Cases of encodings: what is read, and what is written.
 use crate::events;
+use crate::groups;
 use crate::json::{item, member, number, text, word};
 use anyhow::{Context, Result, bail};
 use flowfile_record::CodecError;
@@ -78,6 +79,7 @@ fn rewritten(alloc: Global, form: &str, given: &[u8]) -> Result<Result<Vec<u8>, 
         "end" => end_rewritten(alloc, given),
         "head" => head_rewritten(alloc, given),
         "entry" => entry_rewritten(alloc, given),
+        "group" => groups::rewritten(alloc, given),
         "event" => events::rewritten(alloc, given),
         _ => bail!("no form of a record"),
     }

@@ -6,6 +6,7 @@ mod disks;
 mod encodings;
 mod events;
 mod expressions;
+mod groups;
 mod json;
 mod orders;
 mod records;
@@ -69,6 +70,9 @@ fn put_answer_of_records(out: &mut String, alloc: Global, case: &Value) -> Resul
     }
     if let Some(form) = case.get("record") {
         return encodings::put_record(out, alloc, form, case);
+    }
+    if let Some(bytes) = case.get("entries") {
+        return groups::put_entries(out, alloc, bytes);
     }
     if let Some(bytes) = case.get("kin") {
         return events::put_kin(out, alloc, bytes);

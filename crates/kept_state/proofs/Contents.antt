@@ -9,12 +9,12 @@ use Rattle.record_codec.specs.EntryEncoding.{entry as encoding, kind_of, IsEntry
 use Rattle.record_codec.specs.FileEncoding.{IsContentRef}
 use Rattle.record_codec.specs.Placeless.{placeless_active, placeless_entry}
 use Rattle.record_codec.specs.declared.entry.LogEntry.{LogEntry}
-use Rattle.record_codec.specs.declared.entry.LogEntry.TheVariants.{Begin, Session, Expire, SwapOut, SwapIn}
+use Rattle.record_codec.specs.declared.entry.LogEntry.TheVariants.{Begin, Session, Expire, SwapOut, SwapIn, Age}
 use Rattle.record_codec.specs.declared.log.TheConstants.{CLOSED_GATE}
 use Rattle.record_codec.proofs.Blocks.{length-block}
 use Rattle.record_codec.proofs.Sizes.{placeless_entry_size}
 use Rattle.kept_state.specs.Changes.{at_content, with_content_at, entry_with_content, placed_in, HasContentLike}
-use Rattle.kept_state.specs.Memory.{framed_entry}
+use Rattle.record_codec.specs.Frames.{entry_frame}
 
 pub within : (place : ℕ) (at : ContentRef) (files : List ActiveFile) → HasContentLike at place files → place < length files
 within place at [] like = absurd like
@@ -61,7 +61,7 @@ length-with zero at (a ∷ files) = refl
 length-with (suc place) at (a ∷ files) = ap suc (length-with place at files)
 
 pub placeless_same : (e : LogEntry) (place : ℕ) (at : ContentRef) → HasContentLike at place (placed_in e) → placeless_entry (entry_with_content e place at) ≡ placeless_entry e
-placeless_same (Begin log) place at like = refl
+placeless_same (Begin version log) place at like = refl
 placeless_same (Session s) place at like =
     ap (λ (files : List ActiveFile). Session (record {
       processor = s.processor;
@@ -76,9 +76,10 @@ placeless_same (Session s) place at like =
 placeless_same (Expire e) place at like = refl
 placeless_same (SwapOut s) place at like = refl
 placeless_same (SwapIn connection batch) place at like = refl
+placeless_same (Age line) place at like = refl
 
 pub is_entry_with : (e : LogEntry) (place : ℕ) (at : ContentRef) → IsContentRef at → IsEntry e → IsEntry (entry_with_content e place at)
-is_entry_with (Begin log) place at is entry = entry
+is_entry_with (Begin version log) place at is entry = entry
 is_entry_with (Session s) place at is entry = record {
   processor = entry.processor;
   moment = entry.moment;
@@ -92,14 +93,16 @@ is_entry_with (Session s) place at is entry = record {
 is_entry_with (Expire e) place at is entry = entry
 is_entry_with (SwapOut s) place at is entry = entry
 is_entry_with (SwapIn connection batch) place at is entry = entry
+is_entry_with (Age line) place at is entry = entry
 
 -- the files that an entry with an encoding places have one
 active_encoded : (e : LogEntry) → IsEntry e → All IsActiveFile (placed_in e)
-active_encoded (Begin log) entry = All-nil IsActiveFile
+active_encoded (Begin version log) entry = All-nil IsActiveFile
 active_encoded (Session s) entry = entry.placed.1
 active_encoded (Expire e) entry = All-nil IsActiveFile
 active_encoded (SwapOut s) entry = All-nil IsActiveFile
 active_encoded (SwapIn connection batch) entry = All-nil IsActiveFile
+active_encoded (Age line) entry = All-nil IsActiveFile
 
 pub content_encoded : (e : LogEntry) (place : ℕ) (a : ActiveFile) → IsEntry e → place < length (placed_in e) → a ≡ get_or (placed_in e) place a → IsContentRef a.file.content
 content_encoded e place a entry lt is =
@@ -109,8 +112,8 @@ pub encoding_with : (e : LogEntry) (place : ℕ) (at : ContentRef) → HasConten
 encoding_with e place at like =
     sym (placeless_entry_size (entry_with_content e place at)) ∙ ap (λ (p : LogEntry). length (encoding p)) (placeless_same e place at like) ∙ placeless_entry_size e
 
-pub length-frame : (e : LogEntry) → length (framed_entry e) ≡ length (encoding e) + 38
+pub length-frame : (e : LogEntry) → length (entry_frame e) ≡ length (encoding e) + 38
 length-frame e = omega (arith, length-append (block (kind_of e) (encoding e)) (CLOSED_GATE ∷ []), length-block (kind_of e) (encoding e))
 
-pub frame_with : (e : LogEntry) (place : ℕ) (at : ContentRef) → HasContentLike at place (placed_in e) → length (framed_entry (entry_with_content e place at)) ≡ length (framed_entry e)
+pub frame_with : (e : LogEntry) (place : ℕ) (at : ContentRef) → HasContentLike at place (placed_in e) → length (entry_frame (entry_with_content e place at)) ≡ length (entry_frame e)
 frame_with e place at like = omega (arith, length-frame (entry_with_content e place at), length-frame e, encoding_with e place at like)

@@ -10,7 +10,7 @@ use Rattle.flowfile_record.specs.declared.limits.TheConstants.{LIVE_FILES_MAX, L
 use Rattle.flowfile_record.specs.declared.stored.ActiveFile.{ActiveFile}
 use Rattle.record_codec.specs.Placeless.{placeless_active, placeless_entry}
 use Rattle.record_codec.specs.declared.entry.LogEntry.{LogEntry}
-use Rattle.record_codec.specs.declared.entry.LogEntry.TheVariants.{Begin, Session, Expire, SwapOut, SwapIn}
+use Rattle.record_codec.specs.declared.entry.LogEntry.TheVariants.{Begin, Session, Expire, SwapOut, SwapIn, Age}
 use Rattle.record_codec.specs.declared.entry.SessionEntry.{SessionEntry}
 use Rattle.record_codec.proofs.Sizes.{placeless_size}
 use Rattle.checkpoint_store.specs.Consistent.{record_size}
@@ -70,8 +70,9 @@ session_same files k s =
     ∙ ap (test numbers arrivals places) (limit_same k s)
 
 pub placeless_fits : (files : ℕ → List FlowFile) (k : Kept) (e : LogEntry) → entry_suits files k (placeless_entry e) ≡ entry_suits files k e
-placeless_fits files k (Begin log) = refl
+placeless_fits files k (Begin version log) = refl
 placeless_fits files k (Session s) = session_same files k s
 placeless_fits files k (Expire e) = refl
 placeless_fits files k (SwapOut s) = refl
 placeless_fits files k (SwapIn connection batch) = refl
+placeless_fits files k (Age line) = refl

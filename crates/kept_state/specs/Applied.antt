@@ -11,7 +11,7 @@ use Rattle.record_codec.specs.ActiveFile.{active}
 use Rattle.record_codec.specs.declared.entry.SessionEntry.{SessionEntry}
 use Rattle.record_codec.specs.declared.entry.SwapOutEntry.{SwapOutEntry}
 use Rattle.record_codec.specs.declared.entry.LogEntry.{LogEntry}
-use Rattle.record_codec.specs.declared.entry.LogEntry.TheVariants.{Begin, Session, Expire, SwapOut, SwapIn}
+use Rattle.record_codec.specs.declared.entry.LogEntry.TheVariants.{Begin, Session, Expire, SwapOut, SwapIn, Age}
 use Rattle.checkpoint_store.specs.Consistent.{record_size}
 
 abbrev pub active_number : ActiveFile → ℕ
@@ -55,7 +55,7 @@ session_applied k s = record k {
 
 -- what is kept after an entry
 abbrev pub applied : (files : ℕ → List FlowFile) → Kept → LogEntry → Kept
-applied files k (Begin log) = k
+applied files k (Begin version log) = k
 applied files k (Session s) = session_applied k s
 applied files k (Expire e) = record k { last_event = e.last_event; files = left_after e.numbers k.files }
 applied files k (SwapOut s) = record k {
@@ -67,6 +67,7 @@ applied files k (SwapIn connection batch) = record k {
   files = with_files (map (active connection) (files batch)) k.files;
   batches = without_item (λ b. b.batch) batch k.batches;
 }
+applied files k (Age line) = record k { line = line }
 
 -- the batches that an entry swaps out
 abbrev pub batch_swapped_out : LogEntry → List ℕ

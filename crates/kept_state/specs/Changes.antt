@@ -17,7 +17,7 @@ use Rattle.record_codec.specs.Placeless.{placeless}
 use Rattle.record_codec.specs.declared.block.TheConstants.{PAYLOAD_MAX}
 use Rattle.record_codec.specs.declared.entry.SessionEntry.{SessionEntry}
 use Rattle.record_codec.specs.declared.entry.LogEntry.{LogEntry}
-use Rattle.record_codec.specs.declared.entry.LogEntry.TheVariants.{Begin, Session, Expire, SwapOut, SwapIn}
+use Rattle.record_codec.specs.declared.entry.LogEntry.TheVariants.{Begin, Session, Expire, SwapOut, SwapIn, Age}
 use Rattle.kept_state.specs.Applied.{session_applied}
 use Rattle.kept_state.specs.Fits.{session_suits, entry_suits}
 use Rattle.kept_state.specs.Limits.{numbers_limit}
@@ -88,7 +88,8 @@ entry_with_content (Session s) place at = Session (record s { placed = with_cont
 entry_with_content (Expire e) place at = Expire e
 entry_with_content (SwapOut s) place at = SwapOut s
 entry_with_content (SwapIn connection batch) place at = SwapIn connection batch
-entry_with_content (Begin log) place at = Begin log
+entry_with_content (Begin version log) place at = Begin version log
+entry_with_content (Age line) place at = Age line
 
 -- a content of this size and digest is that of the file at this place
 abbrev pub HasContentLike : ContentRef → ℕ → List ActiveFile → Type 0

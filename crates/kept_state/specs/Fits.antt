@@ -10,7 +10,7 @@ use Rattle.record_codec.specs.declared.entry.SessionEntry.{SessionEntry}
 use Rattle.record_codec.specs.declared.entry.ExpireEntry.{ExpireEntry}
 use Rattle.record_codec.specs.declared.entry.SwapOutEntry.{SwapOutEntry}
 use Rattle.record_codec.specs.declared.entry.LogEntry.{LogEntry}
-use Rattle.record_codec.specs.declared.entry.LogEntry.TheVariants.{Begin, Session, Expire, SwapOut, SwapIn}
+use Rattle.record_codec.specs.declared.entry.LogEntry.TheVariants.{Begin, Session, Expire, SwapOut, SwapIn, Age}
 use Rattle.kept_state.specs.Applied.{active_number, left_after, session_applied, applied}
 use Rattle.kept_state.specs.Limits.{live_limit}
 
@@ -102,14 +102,15 @@ swap_out_fits k s =
     are_distinct_numbers s.numbers && are_active_in k.files s.connection s.numbers
     && (s.batch == k.next_batch) && nat_lt s.connection (length k.connections)
 
--- A Begin doesn't fit: it is the first entry of its log alone.
+-- A Begin doesn't fit: it is the first entry of its log alone. Nor does an Age, which no log has that counts today.
 abbrev pub entry_suits : (files : ℕ → List FlowFile) → Kept → LogEntry → Bool
-entry_suits files k (Begin log) = false
+entry_suits files k (Begin version log) = false
 entry_suits files k (Session s) = session_suits files k s && is_none (live_limit (session_applied k s))
 entry_suits files k (Expire e) = expire_fits k e
 entry_suits files k (SwapOut s) = swap_out_fits k s
 entry_suits files k (SwapIn connection batch) =
     list_any (λ b. (b.batch == batch) && (b.connection == connection)) k.batches
+entry_suits files k (Age line) = false
 
 -- ---- what a log's entries make of what is kept
 

@@ -1,14 +1,10 @@
 -- What a store keeps, in memory.
-use Rattle.std.specs.Prelude.{◌≡◌, ℕ, List, [], ◌∷◌, ◌++◌, map, refl}
+use Rattle.std.specs.Prelude.{◌≡◌, ℕ, [], map, refl}
 use Rattle.std.specs.Coded.{Coded, code_by, coded×, coded_ℕ}
 use Rattle.std.specs.List.{sum}
 use Rattle.flowfile_record.specs.Stored.{Kept, kept_of}
 use Rattle.flowfile_record.specs.StoredCode.{kept_code}
 use Rattle.flowfile_record.specs.declared.stored.Stored.{Stored}
-use Rattle.record_codec.specs.Block.{block}
-use Rattle.record_codec.specs.EntryEncoding.{entry as encoding, kind_of}
-use Rattle.record_codec.specs.declared.entry.LogEntry.{LogEntry}
-use Rattle.record_codec.specs.declared.log.TheConstants.{CLOSED_GATE}
 use Rattle.checkpoint_store.specs.Consistent.{IsConsistent, record_size}
 
 -- what is kept, and for how many files more there is room
@@ -26,7 +22,3 @@ pub record IsHeldState (stored : Stored) (bytes : ℕ) : Type 0 where
   pub consistent : IsConsistent (kept_of stored)
   pub no_batches : stored.batches.items ≡ []
   pub bytes_are : bytes ≡ sum (map record_size stored.files.items)
-
--- the block of an entry with a closed gate behind it
-abbrev pub framed_entry : LogEntry → List ℕ
-framed_entry e = block (kind_of e) (encoding e) ++ CLOSED_GATE ∷ []

@@ -2,7 +2,7 @@
 use Rattle.std.specs.Prelude.{◌≡◌, ◌≤◌, [], length, vec_capacity}
 use Rattle.record_codec.specs.EntryEncoding.{entry as encoding, IsEntry}
 use Rattle.record_codec.specs.declared.block.TheConstants.{PAYLOAD_MAX}
-use Rattle.kept_state.specs.Memory.{framed_entry}
+use Rattle.record_codec.specs.Frames.{entry_frame}
 use Rattle.kept_state.specs.declared.prepared.PreparedEntry.TheInside.{Inside}
 
 -- it has an encoding, and there is room for its payload and for its block with a closed gate behind it
@@ -12,4 +12,4 @@ pub record IsPrepared (p : Inside) : Type 0 where
   pub no_payload : p.payload.items ≡ []
   pub no_frame : p.frame.items ≡ []
   pub payload_room : length (encoding p.entry) ≤ vec_capacity p.payload
-  pub frame_room : length (framed_entry p.entry) ≤ vec_capacity p.frame
+  pub frame_room : length (entry_frame p.entry) ≤ vec_capacity p.frame

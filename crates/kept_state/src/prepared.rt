@@ -4,7 +4,7 @@ ghost use Rattle.record_codec.specs.EntryEncoding.{entry as encoding, IsEntry};
 ghost use Rattle.record_codec.specs.FileEncoding.{IsContentRef};
 ghost use Rattle.record_codec.specs.Placeless.{placeless_entry};
 ghost use Rattle.kept_state.specs.Changes.{placed_in, with_content_at, entry_with_content, HasContentLike};
-ghost use Rattle.kept_state.specs.Memory.{framed_entry};
+ghost use Rattle.record_codec.specs.Frames.{entry_frame};
 
 use flowfile_record::{ActiveFile, ContentRef, Sequence};
 use record_codec::{
@@ -90,7 +90,7 @@ impl PreparedEntry {
     pub fn into_frame(self) -> (LogEntry, Vec<u8>)
         ensures entry { result.0 ≡ self }
         ensures encoded { IsEntry self }
-        ensures frame { result.1.items ≡ framed_entry self }
+        ensures frame { result.1.items ≡ entry_frame self }
     {
         let PreparedEntry {
             alloc: _,
@@ -139,9 +139,9 @@ fn write_block(entry: &LogEntry, payload: &mut Vec<u8>, out: &mut Vec<u8>)
     requires encoded { IsEntry entry.now }
     requires size { length (encoding entry.now) ≤ PAYLOAD_MAX }
     requires payload_room { length (encoding entry.now) ≤ vec_capacity payload.old }
-    requires out_room { length (framed_entry entry.now) ≤ vec_capacity out.old }
+    requires out_room { length (entry_frame entry.now) ≤ vec_capacity out.old }
     requires empty { (payload.old.items ≡ []) × (out.old.items ≡ []) }
-    ensures { out.new.items ≡ framed_entry entry.now }
+    ensures { out.new.items ≡ entry_frame entry.now }
 {
     let Ok(()) = write_entry(payload, entry) else {
         unreachable!()

@@ -1,23 +1,25 @@
 -- Entries of a log: what is read is encoded so, and what is encoded so is read again.
-use Rattle.std.proofs.Common.{◌≡◌, ◌≢◌, ℕ, ◌^◌, ◌<◌, ◌==◌, ◌||◌, not, eqb, Bool, true, false, cond, List, ◌++◌, length, IsTrue, Option, Some, None, Ok, Err, refl, sym, ap, subst, ◌∙◌, append_assoc, arith}
+use Rattle.std.proofs.Common.{◌≡◌, ◌≢◌, ℕ, ◌+◌, ◌^◌, ◌<◌, ◌==◌, ◌||◌, nat_lt, not, eqb, Bool, true, false, cond, List, ◌++◌, length, IsTrue, Option, Some, None, Ok, Err, refl, sym, ap, subst, ◌∙◌, append_assoc, arith}
 use Rattle.std.specs.Int.{w16, w64, to_be_bytes}
-use Rattle.std.proofs.lemmas.Bool.{eqb-true, eqb-false, ne_eqb}
+use Rattle.std.proofs.lemmas.Bool.{eqb-true, eqb-false, ne_eqb, ltb-true, lt-ltb}
+use Rattle.std.proofs.lemmas.Bool.Decides.{nat_tests}
 use Rattle.flowfile_record.specs.Field.{IsBytes, Takes, IsField}
 use Rattle.flowfile_record.specs.Reading.{Reading, ◌>>=◌, ◌then◌, made, uint_at, number_at, numbers_at, listed_at}
 use Rattle.flowfile_record.specs.Encoding.{byte, listed, numbers, IsNumber, AreListed, AreNumbers}
 use Rattle.flowfile_record.proofs.FieldLaws.{bind_ok, ok_is, Takes-then, pair_is, made_is, made_from, such_is, u16_is, u64_is, number_is, numbers_is, listed_is}
 use Rattle.record_codec.specs.ActiveFile.{active_file, active_file_at, IsActiveFile}
-use Rattle.record_codec.specs.EntryReading.{begin_at, count_at, generator_at, session_at, expire_at, swap_out_at, swap_in_at, entry_at}
-use Rattle.record_codec.specs.EntryEncoding.{generator, counters, session, expire, swap_out, entry, IsPlace, IsMoment, IsGenerator, IsSession, IsExpire, IsSwapOut, IsEntryOf}
-use Rattle.record_codec.specs.Version.{version_at}
+use Rattle.record_codec.specs.EntryReading.{log_number_at, begin_at, count_at, generator_at, session_at, expire_at, swap_out_at, swap_in_at, age_at, entry_at}
+use Rattle.record_codec.specs.EntryEncoding.{generator, counters, session, expire, swap_out, entry, log_limit, IsPlace, IsMoment, IsGenerator, IsSession, IsExpire, IsSwapOut, IsEntryOf}
+use Rattle.record_codec.specs.Version.{is_version, version_at}
 use Rattle.flowfile_record.specs.declared.stored.ActiveFile.{ActiveFile}
 use Rattle.flowfile_record.specs.declared.stored.Counted.{Counted}
+use Rattle.flowfile_record.specs.declared.limits.TheConstants.{NUMBER_LIMIT}
 use Rattle.record_codec.specs.declared.entry.TheConstants.{NO_GENERATOR}
 use Rattle.record_codec.specs.declared.entry.SessionEntry.{SessionEntry}
 use Rattle.record_codec.specs.declared.entry.ExpireEntry.{ExpireEntry}
 use Rattle.record_codec.specs.declared.entry.SwapOutEntry.{SwapOutEntry}
 use Rattle.record_codec.specs.declared.entry.LogEntry.{LogEntry}
-use Rattle.record_codec.specs.declared.entry.LogEntry.TheVariants.{Begin, Session, Expire, SwapOut, SwapIn}
+use Rattle.record_codec.specs.declared.entry.LogEntry.TheVariants.{Begin, Session, Expire, SwapOut, SwapIn, Age}
 use Rattle.record_codec.proofs.Chains.{regroup8}
 use Rattle.record_codec.proofs.ActiveFiles.{active_file_is}
 use Rattle.record_codec.proofs.Versions.{IsVersion, version_is}
@@ -153,65 +155,103 @@ swap_out_is =
 
 -- ---- entries by kind
 
-begin_has : (a : ℕ × ℕ) → IsVersion a.0 × IsNumber a.1 → (entry (Begin a.1) ≡ byte a.0 ++ to_be_bytes w64 a.1) × IsEntryOf 1 (Begin a.1)
-unfolding entry IsVersion
-begin_has a h = (ap (λ (n : ℕ). byte n ++ to_be_bytes w64 a.1) (sym (eqb-true a.0 1 h.0.1)), (h.1, refl))
+version_below : (version : ℕ) → is_version version ≡ true → version < 2 ^ 8
+version_below version is = grind (arith, nat_tests)
 
-begin_had : (e : LogEntry) → IsEntryOf 1 e → (a : ℕ × ℕ) × (IsVersion a.0 × IsNumber a.1) × (Begin a.1 ≡ e)
-unfolding IsVersion
-begin_had (Begin log) h = ((1, log), ((omega arith, refl), h.0), refl)
-begin_had (Session s) h = absurd (omega (arith, h.1))
-begin_had (Expire e) h = absurd (omega (arith, h.1))
-begin_had (SwapOut s) h = absurd (omega (arith, h.1))
-begin_had (SwapIn connection batch) h = absurd (omega (arith, h.1))
+limit_below : (second : Bool) (log : ℕ) → log < cond second (NUMBER_LIMIT + 1) NUMBER_LIMIT → log < 2 ^ 64
+limit_below true log lt = omega arith
+limit_below false log lt = omega arith
+
+log_number_is : (version : ℕ) → IsField (log_number_at version) (to_be_bytes w64) (λ log. (log < 2 ^ 64) × IsTrue (nat_lt log (log_limit version)))
+unfolding log_number_at
+log_number_is version = such_is (λ log. nat_lt log (log_limit version)) (uint_at w64) (to_be_bytes w64) (λ log. log < 2 ^ 64) u64_is
+
+begin_takes : (bytes : List ℕ) (x : LogEntry × List ℕ) → IsBytes bytes → begin_at bytes ≡ Ok x → Takes bytes (entry x.0) x.1 × IsEntryOf 1 x.0
+unfolding begin_at entry
+begin_takes bytes x fits e =
+    let a = bind_ok (version_at bytes) (λ version. log_number_at version.0 version.1 >>= λ log. Ok (Begin version.0 log.0, log.1)) x e in
+    let b = bind_ok (log_number_at a.0.0 a.0.1) (λ log. Ok (Begin a.0.0 log.0, log.1)) x a.2 in
+    let version = version_is.takes bytes a.0 fits a.1 in
+    let log = (log_number_is a.0.0).takes a.0.1 b.0 version.0.rest_fits b.1 in
+    let both = Takes-then bytes (byte a.0.0) a.0.1 (to_be_bytes w64 b.0.0) b.0.1 version.0 log.0 in
+    subst (λ (y : LogEntry × List ℕ). Takes bytes (entry y.0) y.1 × IsEntryOf 1 y.0) (ok_is (Begin a.0.0 b.0.0, b.0.1) x b.2)
+    (both, ((version.1.1, ltb-true b.0.0 (log_limit a.0.0) log.1.1), refl))
+
+begin_again : (e : LogEntry) (rest : List ℕ) → IsEntryOf 1 e → begin_at (entry e ++ rest) ≡ Ok (e, rest)
+unfolding begin_at entry
+begin_again (Begin version log) rest h =
+    let regrouped : (byte version ++ to_be_bytes w64 log) ++ rest ≡ byte version ++ (to_be_bytes w64 log ++ rest) = append_assoc (byte version) (to_be_bytes w64 log) rest in
+    let first = version_is.again version (to_be_bytes w64 log ++ rest) (version_below version h.0.0, h.0.0) in
+    let second = (log_number_is version).again log rest (limit_below (eqb version 2) log h.0.1, lt-ltb log (log_limit version) h.0.1) in
+    ap begin_at regrouped ∙ rw (first, second) refl
+begin_again (Session s) rest h = absurd (omega (arith, h.1))
+begin_again (Expire e) rest h = absurd (omega (arith, h.1))
+begin_again (SwapOut s) rest h = absurd (omega (arith, h.1))
+begin_again (SwapIn connection batch) rest h = absurd (omega (arith, h.1))
+begin_again (Age line) rest h = absurd (omega (arith, h.1))
 
 begin_is : IsField begin_at entry (IsEntryOf 1)
-unfolding begin_at
-begin_is = made_from (λ b. Begin b.1) (version_at then number_at) _ entry _ (IsEntryOf 1) (pair_is version_at number_at byte (to_be_bytes w64) IsVersion IsNumber version_is number_is) begin_has begin_had
+begin_is = record { takes = begin_takes; again = begin_again }
 
 session_had : (e : LogEntry) → IsEntryOf 2 e → (s : SessionEntry) × IsSession s × (Session s ≡ e)
-session_had (Begin log) h = absurd (omega (arith, h.1))
+session_had (Begin version log) h = absurd (omega (arith, h.1))
 session_had (Session s) h = (s, h.0, refl)
 session_had (Expire e) h = absurd (omega (arith, h.1))
 session_had (SwapOut s) h = absurd (omega (arith, h.1))
 session_had (SwapIn connection batch) h = absurd (omega (arith, h.1))
+session_had (Age line) h = absurd (omega (arith, h.1))
 
 session_entry_is : IsField (made Session session_at) entry (IsEntryOf 2)
 unfolding entry
 session_entry_is = made_from (λ s. Session s) session_at session entry IsSession (IsEntryOf 2) session_is (λ s h. (refl, (h, refl))) session_had
 
 expire_had : (e : LogEntry) → IsEntryOf 3 e → (s : ExpireEntry) × IsExpire s × (Expire s ≡ e)
-expire_had (Begin log) h = absurd (omega (arith, h.1))
+expire_had (Begin version log) h = absurd (omega (arith, h.1))
 expire_had (Session s) h = absurd (omega (arith, h.1))
 expire_had (Expire e) h = (e, h.0, refl)
 expire_had (SwapOut s) h = absurd (omega (arith, h.1))
 expire_had (SwapIn connection batch) h = absurd (omega (arith, h.1))
+expire_had (Age line) h = absurd (omega (arith, h.1))
 
 expire_entry_is : IsField (made Expire expire_at) entry (IsEntryOf 3)
 unfolding entry
 expire_entry_is = made_from (λ e. Expire e) expire_at expire entry IsExpire (IsEntryOf 3) expire_is (λ s h. (refl, (h, refl))) expire_had
 
 swap_out_had : (e : LogEntry) → IsEntryOf 4 e → (s : SwapOutEntry) × IsSwapOut s × (SwapOut s ≡ e)
-swap_out_had (Begin log) h = absurd (omega (arith, h.1))
+swap_out_had (Begin version log) h = absurd (omega (arith, h.1))
 swap_out_had (Session s) h = absurd (omega (arith, h.1))
 swap_out_had (Expire e) h = absurd (omega (arith, h.1))
 swap_out_had (SwapOut s) h = (s, h.0, refl)
 swap_out_had (SwapIn connection batch) h = absurd (omega (arith, h.1))
+swap_out_had (Age line) h = absurd (omega (arith, h.1))
 
 swap_out_entry_is : IsField (made SwapOut swap_out_at) entry (IsEntryOf 4)
 unfolding entry
 swap_out_entry_is = made_from (λ s. SwapOut s) swap_out_at swap_out entry IsSwapOut (IsEntryOf 4) swap_out_is (λ s h. (refl, (h, refl))) swap_out_had
 
 swap_in_had : (e : LogEntry) → IsEntryOf 5 e → (a : ℕ × ℕ) × (IsPlace a.0 × IsNumber a.1) × (SwapIn a.0 a.1 ≡ e)
-swap_in_had (Begin log) h = absurd (omega (arith, h.1))
+swap_in_had (Begin version log) h = absurd (omega (arith, h.1))
 swap_in_had (Session s) h = absurd (omega (arith, h.1))
 swap_in_had (Expire e) h = absurd (omega (arith, h.1))
 swap_in_had (SwapOut s) h = absurd (omega (arith, h.1))
 swap_in_had (SwapIn connection batch) h = ((connection, batch), h.0, refl)
+swap_in_had (Age line) h = absurd (omega (arith, h.1))
 
 swap_in_is : IsField swap_in_at entry (IsEntryOf 5)
 unfolding swap_in_at entry
 swap_in_is = made_from (λ s. SwapIn s.0 s.1) (uint_at w16 then number_at) _ entry _ (IsEntryOf 5) (pair_is (uint_at w16) number_at (to_be_bytes w16) (to_be_bytes w64) IsPlace IsNumber u16_is number_is) (λ a h. (refl, (h, refl))) swap_in_had
+
+age_had : (e : LogEntry) → IsEntryOf 7 e → (line : ℕ) × IsNumber line × (Age line ≡ e)
+age_had (Begin version log) h = absurd (omega (arith, h.1))
+age_had (Session s) h = absurd (omega (arith, h.1))
+age_had (Expire e) h = absurd (omega (arith, h.1))
+age_had (SwapOut s) h = absurd (omega (arith, h.1))
+age_had (SwapIn connection batch) h = absurd (omega (arith, h.1))
+age_had (Age line) h = (line, h.0, refl)
+
+age_is : IsField age_at entry (IsEntryOf 7)
+unfolding age_at entry
+age_is = made_from (λ line. Age line) number_at (to_be_bytes w64) entry IsNumber (IsEntryOf 7) number_is (λ line h. (refl, (h, refl))) age_had
 
 -- ---- all kinds
 
@@ -225,12 +265,13 @@ of_kind kind k r field e = subst (λ (n : ℕ). IsField r entry (IsEntryOf n)) (
 unread : Reading LogEntry
 unread bytes = Err (length bytes)
 
-no_kind : (kind : ℕ) → kind ≢ 1 → kind ≢ 2 → kind ≢ 3 → kind ≢ 4 → kind ≢ 5 → (e : LogEntry) → IsEntryOf kind e → ⊥
-no_kind kind n1 n2 n3 n4 n5 (Begin log) h = n1 (sym h.1)
-no_kind kind n1 n2 n3 n4 n5 (Session s) h = n2 (sym h.1)
-no_kind kind n1 n2 n3 n4 n5 (Expire e) h = n3 (sym h.1)
-no_kind kind n1 n2 n3 n4 n5 (SwapOut s) h = n4 (sym h.1)
-no_kind kind n1 n2 n3 n4 n5 (SwapIn connection batch) h = n5 (sym h.1)
+no_kind : (kind : ℕ) → kind ≢ 1 → kind ≢ 2 → kind ≢ 3 → kind ≢ 4 → kind ≢ 5 → kind ≢ 7 → (e : LogEntry) → IsEntryOf kind e → ⊥
+no_kind kind n1 n2 n3 n4 n5 n7 (Begin version log) h = n1 (sym h.1)
+no_kind kind n1 n2 n3 n4 n5 n7 (Session s) h = n2 (sym h.1)
+no_kind kind n1 n2 n3 n4 n5 n7 (Expire e) h = n3 (sym h.1)
+no_kind kind n1 n2 n3 n4 n5 n7 (SwapOut s) h = n4 (sym h.1)
+no_kind kind n1 n2 n3 n4 n5 n7 (SwapIn connection batch) h = n5 (sym h.1)
+no_kind kind n1 n2 n3 n4 n5 n7 (Age line) h = n7 (sym h.1)
 
 unread_is : (kind : ℕ) → ((e : LogEntry) → IsEntryOf kind e → ⊥) → IsField unread entry (IsEntryOf kind)
 unfolding unread
@@ -246,5 +287,6 @@ entry_is kind =
     chosen_is (eqb kind 2) (made Session session_at) _ entry (IsEntryOf kind) (of_kind kind 2 (made Session session_at) session_entry_is) (λ n2.
     chosen_is (eqb kind 3) (made Expire expire_at) _ entry (IsEntryOf kind) (of_kind kind 3 (made Expire expire_at) expire_entry_is) (λ n3.
     chosen_is (eqb kind 4) (made SwapOut swap_out_at) _ entry (IsEntryOf kind) (of_kind kind 4 (made SwapOut swap_out_at) swap_out_entry_is) (λ n4.
-    chosen_is (eqb kind 5) swap_in_at unread entry (IsEntryOf kind) (of_kind kind 5 swap_in_at swap_in_is) (λ n5.
-    unread_is kind (no_kind kind (eqb-false kind 1 n1) (eqb-false kind 2 n2) (eqb-false kind 3 n3) (eqb-false kind 4 n4) (eqb-false kind 5 n5)))))))
+    chosen_is (eqb kind 5) swap_in_at _ entry (IsEntryOf kind) (of_kind kind 5 swap_in_at swap_in_is) (λ n5.
+    chosen_is (eqb kind 7) age_at unread entry (IsEntryOf kind) (of_kind kind 7 age_at age_is) (λ n7.
+    unread_is kind (no_kind kind (eqb-false kind 1 n1) (eqb-false kind 2 n2) (eqb-false kind 3 n3) (eqb-false kind 4 n4) (eqb-false kind 5 n5) (eqb-false kind 7 n7))))))))

@@ -24,6 +24,10 @@ pub then_ok : {A B : Type 0} (first : Reading A) (second : Reading B) (bytes : L
 then_ok {A = A} first second bytes a rest e after =
     ap (λ (r : Read A). is_ok (r >>= λ x. second x.1 >>= λ b. pair x.0 b)) e ∙ ok_after a (second rest) after
 
+pub then_read : {A B : Type 0} (first : Reading A) (second : Reading B) (bytes rest after : List ℕ) (a : A) (b : B) → first bytes ≡ Ok (a, rest) → second rest ≡ Ok (b, after)
+    → (first then second) bytes ≡ Ok ((a, b), after)
+then_read {A = A} {B = B} first second bytes rest after a b e behind = ap (λ (r : Read A). r >>= λ x. second x.1 >>= λ y. pair x.0 y) e ∙ ap (λ (r : Read B). r >>= λ y. pair a y) behind
+
 -- a list's first item that is read
 pub first_ok : {A : Type 0} (item : Reading A) (bytes : List ℕ) (count : ℕ) (rest : List ℕ) → uint_at w32 bytes ≡ Ok (count, rest) → 0 < count → is_ok (item rest) ≡ true
     → is_ok (first_at item bytes) ≡ true

@@ -1,11 +1,13 @@
 pub mod ActiveFiles
 pub mod AttributeLaws
+pub mod BlockContents
 pub mod Blocks
 pub mod Chains
 pub mod EntryLaws
 pub mod Exacts
 pub mod FileLaws
 pub mod Fronts
+pub mod Groups
 pub mod Heads
 pub mod Keys
 pub mod Logs

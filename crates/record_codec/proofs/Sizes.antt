@@ -18,17 +18,19 @@ use Rattle.flowfile_record.specs.declared.stored.SwapBatch.{SwapBatch}
 use Rattle.record_codec.specs.ActiveFile.{active_file, IsActiveFile}
 use Rattle.record_codec.specs.FileEncoding.{pair, attributes, content_ref, flow_file, IsFlowFile}
 use Rattle.record_codec.specs.EntryEncoding.{generator, counters, session, expire, swap_out, entry}
+use Rattle.record_codec.specs.Group.{item}
 use Rattle.record_codec.specs.Placeless.{placeless, placeless_active, placeless_entry}
 use Rattle.record_codec.specs.Snapshot.{swap_batch}
 use Rattle.record_codec.specs.StoreHead.{head}
 use Rattle.record_codec.specs.Texts.{texts}
 use Rattle.record_codec.specs.declared.TheConstants.{FORMAT_VERSION}
+use Rattle.record_codec.specs.declared.group.Item.{Item}
 use Rattle.record_codec.specs.declared.head.Head.{Head}
 use Rattle.record_codec.specs.declared.entry.SessionEntry.{SessionEntry}
 use Rattle.record_codec.specs.declared.entry.ExpireEntry.{ExpireEntry}
 use Rattle.record_codec.specs.declared.entry.SwapOutEntry.{SwapOutEntry}
 use Rattle.record_codec.specs.declared.entry.LogEntry.{LogEntry}
-use Rattle.record_codec.specs.declared.entry.LogEntry.TheVariants.{Begin, Session, Expire, SwapOut, SwapIn}
+use Rattle.record_codec.specs.declared.entry.LogEntry.TheVariants.{Begin, Session, Expire, SwapOut, SwapIn, Age}
 
 len3 : (a b c : List ℕ) → length (a ++ b ++ c) ≡ length a + length b + length c
 len3 a b c = length-append (a ++ b) c ∙ ap (λ n. n + length c) (length-append a b)
@@ -107,21 +109,17 @@ pub swap_out_size : (s : SwapOutEntry) → length (swap_out s) ≡ 10 + length (
 unfolding swap_out
 swap_out_size s = omega (arith, len3 (to_be_bytes w16 s.connection) (to_be_bytes w64 s.batch) (numbers s.numbers))
 
+-- ---- groups
+
+pub item_size : (i : Item) → length (item i) ≡ 5 + length i.payload
+unfolding item
+item_size i = omega (arith, len3 (byte i.kind) (to_be_bytes w32 (length i.payload)) i.payload)
+
 -- ---- snapshots
 
 pub swap_batch_size : (b : SwapBatch) → length (swap_batch b) ≡ 34
 unfolding swap_batch
 swap_batch_size b = omega (arith, len5 (to_be_bytes w16 b.connection) (to_be_bytes w64 b.batch) (to_be_bytes w64 b.files) (to_be_bytes w64 b.bytes) (to_be_bytes w64 b.encoded))
-
-pub head_size : (h : Head) → IsDigest h.flow → length (head h) ≡ 73 + length (texts h.connections) + length (numbers h.counts)
-unfolding head
-head_size h digest =
-    omega (
-      arith,
-      len6 (byte FORMAT_VERSION ++ to_be_bytes w64 h.store ++ h.flow ++ texts h.connections) (numbers h.counts) (to_be_bytes w64 h.next_number) (to_be_bytes w64 h.next_arrival) (to_be_bytes w64 h.last_event) (to_be_bytes w64 h.next_batch),
-      len4 (byte FORMAT_VERSION) (to_be_bytes w64 h.store) h.flow (texts h.connections),
-      digest,
-    )
 
 -- ---- sizes don't depend on where contents stand
 
@@ -156,7 +154,7 @@ listed_size xs = length-append (to_be_bytes w32 (length xs)) (flat_map active_fi
 
 pub placeless_entry_size : (e : LogEntry) → length (entry (placeless_entry e)) ≡ length (entry e)
 unfolding entry
-placeless_entry_size (Begin log) = refl
+placeless_entry_size (Begin version log) = refl
 placeless_entry_size (Session s) =
     omega (
       arith,
@@ -178,3 +176,4 @@ placeless_entry_size (Session s) =
 placeless_entry_size (Expire e) = refl
 placeless_entry_size (SwapOut s) = refl
 placeless_entry_size (SwapIn connection batch) = refl
+placeless_entry_size (Age line) = refl

@@ -31,6 +31,7 @@ pub struct Item {
 pub type Items = Sequence<Item>;
 
 /// How many bytes the encoding of a group has, the payload of its block.
+#[tactic(auto, unfolding(crate::specs::Group::group), using(crate::proofs::Sizes::item_size))]
 pub fn group_size(items: &[Item]) -> u64
     requires group { IsGroup items.now }
     requires size { length (encoding.group items.now) < 2 ^ 64 }

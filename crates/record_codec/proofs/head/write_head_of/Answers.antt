@@ -1,13 +1,15 @@
 use Rattle.std.proofs.Common.{length, ap, arith}
 use Rattle.flowfile_record.specs.Encoding.{numbers}
-use Rattle.record_codec.specs.StoreHead.{head_of}
+use Rattle.record_codec.specs.StoreHead.{head_of, in_second}
 use Rattle.record_codec.specs.Texts.{texts}
-use Rattle.record_codec.proofs.Sizes.{head_size}
-use Rattle.record_codec.proofs.StoreHeads.{head_written}
+use Rattle.record_codec.proofs.StoreHeads.{head_size, head_written, line_size}
 use Rattle.record_codec.proofs.head.write_head_of.Goals as goal
 
 pub put_lists-requires-clause-connections : goal.put_lists-requires-clause-connections
 put_lists-requires-clause-connections c = rw c.as_slice.ensures c.requires.connections
+
+pub put_lists-requires-clause-processors : goal.put_lists-requires-clause-processors
+put_lists-requires-clause-processors c = rw c.as_slice-2.ensures c.requires.processors
 
 pub put_lists-requires-clause-room : goal.put_lists-requires-clause-room
 put_lists-requires-clause-room c =
@@ -17,8 +19,9 @@ put_lists-requires-clause-room c =
       c.in_ok-reserve.ensures.len,
       c.head_size_of.ensures,
       ap (λ cs. length (texts cs)) c.as_slice.ensures,
-      ap (λ ns. length (numbers ns)) c.as_slice-2.ensures,
-      head_size (head_of c.args.stored.now) c.requires.flow,
+      ap (λ ps. length (in_second c.args.version (texts ps))) c.as_slice-2.ensures,
+      ap (λ ns. length (numbers ns)) c.as_slice-3.ensures,
+      head_size (head_of c.args.version c.args.stored.now) c.requires.flow,
     )
 
 pub put_counters-requires : goal.put_counters-requires
@@ -31,11 +34,13 @@ put_counters-requires c =
       c.put_lists.ensures.capacity,
       c.head_size_of.ensures,
       ap (λ cs. length (texts cs)) c.as_slice.ensures,
-      ap (λ ns. length (numbers ns)) c.as_slice-2.ensures,
-      head_size (head_of c.args.stored.now) c.requires.flow,
+      ap (λ ps. length (in_second c.args.version (texts ps))) c.as_slice-2.ensures,
+      ap (λ ns. length (numbers ns)) c.as_slice-3.ensures,
+      head_size (head_of c.args.version c.args.stored.now) c.requires.flow,
+      line_size c.args.version c.args.stored.now.line,
     )
 
 pub returns-clause-ok : goal.returns-clause-ok
 returns-clause-ok c =
-    head_written (head_of c.args.stored.now) c.args.out.now.items c.reserve.new.self.items c.put_lists.new.out.items c.put_counters.new.out.items c.as_slice.result.now c.as_slice-2.result.now
-    c.in_ok-reserve.ensures.items c.as_slice.ensures c.as_slice-2.ensures c.put_lists.ensures.items c.put_counters.ensures.items
+    head_written (head_of c.args.version c.args.stored.now) c.args.out.now.items c.reserve.new.self.items c.put_lists.new.out.items c.put_counters.new.out.items c.as_slice.result.now c.as_slice-2.result.now c.as_slice-3.result.now
+    c.in_ok-reserve.ensures.items c.as_slice.ensures c.as_slice-2.ensures c.as_slice-3.ensures c.put_lists.ensures.items c.put_counters.ensures.items

@@ -3,7 +3,7 @@ use Rattle.record_codec.specs.EntryEncoding.{entry as encoding, IsEntry}
 use Rattle.record_codec.specs.Placeless.{placeless_entry}
 use Rattle.record_codec.specs.declared.entry.LogEntry.{LogEntry}
 use Rattle.kept_state.specs.Changes.{placed_in, HasContentLike}
-use Rattle.kept_state.specs.Memory.{framed_entry}
+use Rattle.record_codec.specs.Frames.{entry_frame}
 use Rattle.kept_state.proofs.Contents.{is_entry_with, encoding_with, frame_with, placeless_same}
 use Rattle.kept_state.proofs.prepared.PreparedEntry.set_content.Goals as goal
 
@@ -14,7 +14,7 @@ invariant_of-self c =
     let was = c.self.invariant in
     let is = c.set_content_of.ensures in
     let size = ap (λ (x : LogEntry). length (encoding x)) is ∙ encoding_with e c.args.place c.args.at like in
-    let framed = ap (λ (x : LogEntry). length (framed_entry x)) is ∙ frame_with e c.args.place c.args.at like in
+    let framed = ap (λ (x : LogEntry). length (entry_frame x)) is ∙ frame_with e c.args.place c.args.at like in
     record {
       encoded = subst IsEntry (sym is) (is_entry_with e c.args.place c.args.at c.requires.encoded was.encoded);
       payload = omega (arith, size, was.payload);
