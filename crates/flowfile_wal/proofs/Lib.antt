@@ -8,3 +8,4 @@ pub mod States
 pub mod Searching
 pub mod Reading
 pub mod Beginnings
+pub mod OneEntry

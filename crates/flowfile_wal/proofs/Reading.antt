@@ -1,21 +1,24 @@
 -- A log as far as it was read.
 use Rattle.std.proofs.Common.{◌≡◌, ◌≢◌, ⊎_elim, ℕ, ◌+◌, ◌<◌, ◌≤◌, cond, Bool, true, false, List, [], ◌∷◌, ◌++◌, length, get_or, drop, refl, sym, ◌∙◌, ap, subst, arith, append_assoc, length-drop}
-use Rattle.std.specs.Prelude.{IsTrue, Option, None, Some, Result, Ok, Err, slice_index}
+use Rattle.std.specs.Prelude.{All, IsTrue, Option, None, Some, Result, Ok, Err, slice_index}
 use Rattle.std.specs.List.{list_all}
 use Rattle.std.proofs.lemmas.Bool.{cases_lt}
 use Rattle.std.proofs.lemmas.List.{append-nil, drop_all, drop_more, drop-drop}
+use Rattle.std.proofs.lemmas.List.Elements.{All-append, All-map}
 use Rattle.disk_trait.specs.Files.{named}
 use Rattle.disk_trait.specs.declared.damage.Damage.{Damage}
 use Rattle.disk_trait.specs.declared.damage.Damage.TheVariants.{Form}
 use Rattle.disk_trait.specs.declared.file_name.FileKind.TheVariants.{Log}
 use Rattle.disk_trait.specs.declared.file_name.FileName.{FileName}
 use Rattle.record_codec.specs.Block.{reading_of}
+use Rattle.record_codec.specs.EntryEncoding.{IsEntry}
 use Rattle.record_codec.specs.Frames.{counts}
 use Rattle.record_codec.specs.LogEntries.{Cause, LogRead, LogDamage, ended, after, belongs, found_in, of_version, entries_at, gated, behind_gate, log_from}
 use Rattle.record_codec.specs.declared.entry.LogEntry.{LogEntry}
 use Rattle.record_codec.specs.declared.entry.LogEntry.TheVariants.{Begin}
 use Rattle.record_codec.specs.declared.log.TheConstants.{OPEN_GATE}
 use Rattle.record_codec.proofs.Logs.{passed_over, shut, last_byte, opened}
+use Rattle.flowfile_wal.specs.Calls.{HaveEncodings}
 use Rattle.flowfile_wal.specs.Current.{CurrentLog, first_found, version_begun, caused, log_read, log_in}
 use Rattle.flowfile_wal.specs.Reads.{named_at, AreEntriesAt, IsDamagedAt, IsLastGate, LogIsReadTo}
 use Rattle.flowfile_wal.proofs.Extents.{found_fits}
@@ -122,6 +125,10 @@ begin_damaged number bytes damage is =
     says_unread number bytes c.cause c.is ∙ ap error c.damage_is
 
 -- ---- the entries behind it
+
+pub gated_encodings : (read : List (ℕ × LogEntry)) (at : ℕ) (entries : List LogEntry) → HaveEncodings read → All IsEntry entries → HaveEncodings (read ++ gated at entries)
+gated_encodings read at entries had have =
+    All-append (λ (e : ℕ × LogEntry). IsEntry e.1) read (gated at entries) had (All-map (λ (e : ℕ × LogEntry). IsEntry e.1) (λ (e : LogEntry). (at, e)) entries have)
 
 after_more : (es more : List (ℕ × LogEntry)) (log : Whole) → after es (after more log) ≡ after (es ++ more) log
 after_more es more (Ok r) = ap (λ (l : List (ℕ × LogEntry)). ok (record { entries = l; end = r.end })) (sym (append_assoc es more r.entries))

@@ -13,7 +13,7 @@ use Rattle.record_codec.specs.declared.entry.LogEntry.{LogEntry}
 use Rattle.record_codec.specs.declared.entry.LogEntry.TheVariants.{Begin}
 use Rattle.record_codec.specs.declared.log.TheConstants.{OPEN_GATE, CLOSED_GATE}
 use Rattle.record_codec.proofs.Blocks.{length-block, reading_of-block}
-use Rattle.record_codec.proofs.BlockEntries.{entry_held}
+use Rattle.record_codec.proofs.BlockContents.{one_held}
 use Rattle.record_codec.proofs.Logs.{entries_more}
 use Rattle.flowfile_wal.specs.Calls.{InEach, RestInEach}
 use Rattle.flowfile_wal.specs.Current.{CurrentLog, current_log, first_found}
@@ -87,7 +87,7 @@ begun_ready version number files is =
     let nine = begin_length version number in
     let long : length last ≡ 46 = omega (arith, length-block (kind_of begin) (encoding begin), nine) in
     let small = omega (arith, nine) in
-    let holds = entry_held begin is.encodes in
+    let holds = one_held begin is.encodes in
     let reads : log_of version bytes ≡ ok (with_more (ended 0) (begin ∷ []) (length last)) =
     ap (log_of version) is.bytes ∙ entries_more version [] (ended 0) (kind_of begin) (encoding begin) (begin ∷ []) refl holds refl small in
     let first : first_found bytes ≡ alone version number (length (encoding begin) + 37) =

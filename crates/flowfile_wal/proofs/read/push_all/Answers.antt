@@ -1,26 +1,15 @@
-use Rattle.std.proofs.Common.{rules, ◌≡◌, ℕ, ◌+◌, ◌<◌, ◌≤◌, ◌++◌, true, [], length, drop, slice_range, vec_capacity, All, IsTrue, IfOk, OnOk, IfSome, IsErrOf, Ok, Err, None, Some, ◌-◌, ◌*◌, ◌/◌, ◌%◌, Bool, false, nat_eq, nat_lt, List, ◌∷◌, slice_index_or, slice_set, bit_and, bit_or, Fits, w8, w32, w64, Bor, MutBor}
-use Rattle.std.specs.List.{list_all}
-use Rattle.disk_trait.specs.Images.{Stays}
-use Rattle.disk_trait.specs.Faults.{CountsFaults}
-use Rattle.disk_trait.specs.declared.damage.Damage.{Damage as TheDamage}
-use Rattle.record_codec.specs.Block.{reading_of}
-use Rattle.record_codec.specs.BlockEntries.{entries_in, entries_take_memory}
-use Rattle.record_codec.specs.EntryEncoding.{IsEntry}
-use Rattle.record_codec.specs.Frames.{counts}
-use Rattle.record_codec.specs.LogEntries.{belongs, found_in, gated}
-use Rattle.flowfile_wal.specs.Calls.{HaveEncodings}
-use Rattle.flowfile_wal.specs.Current.{log_bytes, version_begun, log_in}
-use Rattle.flowfile_wal.specs.Reads.{named_at, BlockTakes, HasFirstBlock, IsDamagedAt, IsNextAt, IsNextWithin, LogIsReadTo}
+use Rattle.std.proofs.Common.{◌≡◌, ℕ, List, [], ◌∷◌, ◌++◌, sym, ap, ◌∙◌, append_assoc}
+use Rattle.std.specs.Vec.Iter.{into_iter_items}
+use Rattle.record_codec.specs.LogEntries.{gated}
+use Rattle.record_codec.specs.declared.entry.LogEntry.{LogEntry}
 use Rattle.flowfile_wal.proofs.read.push_all.Goals as goal
 
--- src/read.rt:255:5
-pub loop-entry-init : goal.loop-entry-init
-loop-entry-init c = ?
-
--- src/read.rt:255:5
 pub loop-entry-preserved : goal.loop-entry-preserved
-loop-entry-preserved c = ?
-
--- src/read.rt:252:1
-pub returns : goal.returns
-returns c = ?
+loop-entry-preserved c =
+    let gate = c.args.gate in
+    let all = c.loop-entry.all.items in
+    let entry = c.in-Some.entry in
+    let later = into_iter_items c.next.new.self in
+    let coming : into_iter_items c.loop-entry.entry-iterator ≡ entry ∷ later = c.in-Some.ensures.steps.0 in
+    ap (λ (l : List (ℕ × LogEntry)). l ++ gated gate later) c.in_default-push.ensures.items ∙ append_assoc all ((gate, entry) ∷ []) (gated gate later)
+    ∙ ap (λ (l : List LogEntry). all ++ gated gate l) (sym coming) ∙ c.loop-entry.invariant

@@ -1,27 +1,31 @@
-use Rattle.std.proofs.Common.{rules, ◌≡◌, ℕ, ◌+◌, ◌<◌, ◌≤◌, ◌++◌, true, [], length, drop, slice_range, vec_capacity, All, IsTrue, IfOk, OnOk, IfSome, IsErrOf, Ok, Err, None, Some, ◌-◌, ◌*◌, ◌/◌, ◌%◌, Bool, false, nat_eq, nat_lt, List, ◌∷◌, slice_index_or, slice_set, bit_and, bit_or, Fits, w8, w32, w64, Bor, MutBor}
-use Rattle.std.specs.List.{list_all}
-use Rattle.disk_trait.specs.Images.{Stays}
-use Rattle.disk_trait.specs.Faults.{CountsFaults}
-use Rattle.disk_trait.specs.declared.damage.Damage.{Damage as TheDamage}
-use Rattle.record_codec.specs.Block.{reading_of}
-use Rattle.record_codec.specs.BlockEntries.{entries_in, entries_take_memory}
-use Rattle.record_codec.specs.EntryEncoding.{IsEntry}
-use Rattle.record_codec.specs.Frames.{counts}
-use Rattle.record_codec.specs.LogEntries.{belongs, found_in, gated}
-use Rattle.flowfile_wal.specs.Calls.{HaveEncodings}
-use Rattle.flowfile_wal.specs.Current.{log_bytes, version_begun, log_in}
-use Rattle.flowfile_wal.specs.Reads.{named_at, BlockTakes, HasFirstBlock, IsDamagedAt, IsNextAt, IsNextWithin, LogIsReadTo}
+use Rattle.std.proofs.Common.{◌≡◌, ℕ, sym, ◌∙◌, ap, subst}
+use Rattle.std.proofs.lemmas.Result.{err_from_is_err_and}
+use Rattle.std.specs.Prelude.{Err, Option}
+use Rattle.disk_trait.specs.Files.{named}
+use Rattle.disk_trait.specs.declared.damage.Damage.TheVariants.{Form}
+use Rattle.disk_trait.specs.declared.file_name.FileKind.TheVariants.{Log}
+use Rattle.flowfile_wal.specs.Reads.{IsNextAt}
+use Rattle.flowfile_wal.specs.declared.error.LogError.TheVariants.{Damaged}
+use Rattle.flowfile_wal.specs.declared.read.FoundBlock.{FoundBlock}
+use Rattle.flowfile_wal.proofs.Reading.{error, read_first, begin_other, begin_damaged}
 use Rattle.flowfile_wal.proofs.read.read_begin.Goals as goal
 
--- src/read.rt:170:23
 pub returns-in_err-found-clause-damaged : goal.returns-in_err-found-clause-damaged
-returns-in_err-found-clause-damaged g c = ?
+returns-in_err-found-clause-damaged g c damage is told =
+    let p = err_from_is_err_and c.from_residual.result c.from_residual.ensures.1 in
+    let same : c.in_err-found.field-0.0 ≡ Damaged damage = cc (p.1, p.2, is) in
+    begin_damaged c.args.number (g.D.Disk.held c.args.disk.now (named Log c.args.number)) damage (c.in_err-found.ensures.damaged damage (ap Err same) told)
 
--- src/read.rt:174:9
 pub returns-in_default-begun_version-clause-damaged :
     goal.returns-in_default-begun_version-clause-damaged
-returns-in_default-begun_version-clause-damaged g c = ?
+returns-in_default-begun_version-clause-damaged g c damage is told =
+    let bytes = g.D.Disk.held c.args.disk.now (named Log c.args.number) in
+    let next = subst (λ (o : Option FoundBlock). IsNextAt 0 bytes o) c.in-Some.is (c.in_ok-found.ensures.next told) in
+    let same : Form (named Log c.args.number) 0 ≡ damage = cc is in
+    begin_other c.args.number bytes c.in-Some.found.entries.items c.in-Some.found.size next (sym c.begun_version.ensures ∙ c.in_default-begun_version.is) ∙ ap error same
 
--- src/read.rt:144:1
 pub returns-clause-begun : goal.returns-clause-begun
-returns-clause-begun g c = ?
+returns-clause-begun g c told =
+    let bytes = g.D.Disk.held c.args.disk.now (named Log c.args.number) in
+    let next = subst (λ (o : Option FoundBlock). IsNextAt 0 bytes o) c.in-Some.is (c.in_ok-found.ensures.next told) in
+    read_first c.args.number bytes c.in-Some.found.entries.items c.in-Some.found.size c.in-Some-version.version next (sym c.begun_version.ensures ∙ c.in-Some-version.is)

@@ -1,82 +1,73 @@
-use Rattle.std.proofs.Common.{rules, ◌≡◌, ℕ, ◌+◌, ◌<◌, ◌≤◌, ◌++◌, true, [], length, drop, slice_range, vec_capacity, All, IsTrue, IfOk, OnOk, IfSome, IsErrOf, Ok, Err, None, Some, ◌-◌, ◌*◌, ◌/◌, ◌%◌, Bool, false, nat_eq, nat_lt, List, ◌∷◌, slice_index_or, slice_set, bit_and, bit_or, Fits, w8, w32, w64, Bor, MutBor}
-use Rattle.std.specs.List.{list_all}
-use Rattle.disk_trait.specs.Images.{Stays}
-use Rattle.disk_trait.specs.Faults.{CountsFaults}
-use Rattle.disk_trait.specs.declared.damage.Damage.{Damage as TheDamage}
-use Rattle.record_codec.specs.Block.{reading_of}
-use Rattle.record_codec.specs.BlockEntries.{entries_in, entries_take_memory}
+use Rattle.std.proofs.Common.{◌≡◌, ℕ, ◌+◌, List, [], ◌∷◌, ◌++◌, refl, sym, ◌∙◌, ap, subst, arith, rules}
+use Rattle.std.proofs.lemmas.Result.{err_from_is_err_and}
+use Rattle.std.specs.Prelude.{All, Err, Option, None, Some}
+use Rattle.disk_trait.specs.Files.{Files, named}
+use Rattle.disk_trait.specs.declared.damage.Damage.TheVariants.{Form}
+use Rattle.disk_trait.specs.declared.file_name.FileKind.TheVariants.{Log}
 use Rattle.record_codec.specs.EntryEncoding.{IsEntry}
-use Rattle.record_codec.specs.Frames.{counts}
-use Rattle.record_codec.specs.LogEntries.{belongs, found_in, gated}
+use Rattle.record_codec.specs.LogEntries.{gated}
+use Rattle.record_codec.specs.declared.entry.LogEntry.{LogEntry}
 use Rattle.flowfile_wal.specs.Calls.{HaveEncodings}
-use Rattle.flowfile_wal.specs.Current.{log_bytes, version_begun, log_in}
-use Rattle.flowfile_wal.specs.Reads.{named_at, BlockTakes, HasFirstBlock, IsDamagedAt, IsNextAt, IsNextWithin, LogIsReadTo}
+use Rattle.flowfile_wal.specs.Reads.{IsNextAt, IsNextWithin, IsDamagedAt, LogIsReadTo}
+use Rattle.flowfile_wal.specs.declared.error.LogError.TheVariants.{Damaged}
+use Rattle.flowfile_wal.specs.declared.read.FoundBlock.{FoundBlock}
+use Rattle.flowfile_wal.proofs.Reading.{error, gated_encodings, read_next, read_done, read_foreign, read_damaged}
 use Rattle.flowfile_wal.proofs.read.read_log.Goals as goal
 
--- src/read.rt:220:5
-pub loop-entries-init : goal.loop-entries-init
-loop-entries-init g c = ?
-
--- src/read.rt:220:29
-pub next_block-requires-clause-within : goal.next_block-requires-clause-within
-next_block-requires-clause-within g c κs within = ?
-
--- src/read.rt:220:29
-pub next_block-requires-clause-size : goal.next_block-requires-clause-size
-next_block-requires-clause-size g c κs within = ?
-
--- src/read.rt:220:29
 pub returns-in_err-found-clause-damaged : goal.returns-in_err-found-clause-damaged
-returns-in_err-found-clause-damaged g c = ?
+returns-in_err-found-clause-damaged g c damage is told =
+    let number = c.args.number in
+    let end = c.loop-entries.end in
+    let inv = c.loop-entries.invariant in
+    let p = err_from_is_err_and c.from_residual-in_err-found.result c.from_residual-in_err-found.ensures.1 in
+    let same : c.in_err-found.field-0.0 ≡ Damaged damage = cc (p.1, p.2, is) in
+    read_damaged number c.loop-entries.version end c.loop-entries.entries.items (g.D.Disk.held c.args.disk.now (named Log number)) (inv.read told) damage
+    (subst (λ (f : Files). IsDamagedAt (named Log number) end (f (named Log number)) damage) inv.stays.files (c.in_err-found.ensures.damaged damage (ap Err same) told))
 
--- src/read.rt:220:29
-pub returns-in_err-found-clause-stays : goal.returns-in_err-found-clause-stays
-returns-in_err-found-clause-stays g c = ?
-
--- src/read.rt:220:29
-pub returns-in_err-found-clause-cause : goal.returns-in_err-found-clause-cause
-returns-in_err-found-clause-cause g c = ?
-
--- src/read.rt:222:13
 pub returns-then-not-all_belong-clause-damaged : goal.returns-then-not-all_belong-clause-damaged
-returns-then-not-all_belong-clause-damaged g c = ?
+returns-then-not-all_belong-clause-damaged g c damage is told =
+    let number = c.args.number in
+    let end = c.loop-entries.end in
+    let inv = c.loop-entries.invariant in
+    let same : Form (named Log number) end ≡ damage = cc is in
+    let next = subst (λ (f : Files). IsNextAt end (f (named Log number)) (Some c.in-Some.found)) inv.stays.files
+    (subst (λ (o : Option FoundBlock). IsNextAt end (g.D.Disk.held c.loop-entries.disk (named Log number)) o) c.in-Some.is (c.in_ok-found.ensures.next told)) in
+    read_foreign number c.loop-entries.version end c.loop-entries.entries.items (g.D.Disk.held c.args.disk.now (named Log number)) (inv.read told) c.in-Some.found.entries.items c.in-Some.found.size next
+    (sym c.all_belong.ensures ∙ c.if-not-all_belong.true) ∙ ap error same
 
--- src/read.rt:222:13
-pub returns-then-not-all_belong-clause-stays : goal.returns-then-not-all_belong-clause-stays
-returns-then-not-all_belong-clause-stays g c = ?
-
--- src/read.rt:222:13
-pub returns-then-not-all_belong-clause-cause : goal.returns-then-not-all_belong-clause-cause
-returns-then-not-all_belong-clause-cause g c = ?
-
--- src/read.rt:224:9
-pub returns-in_err-push_all-clause-stays : goal.returns-in_err-push_all-clause-stays
-returns-in_err-push_all-clause-stays g c = ?
-
--- src/read.rt:224:9
-pub returns-in_err-push_all-clause-cause : goal.returns-in_err-push_all-clause-cause
-returns-in_err-push_all-clause-cause g c = ?
-
--- src/read.rt:220:5
-pub loop-entries-smaller : goal.loop-entries-smaller
-loop-entries-smaller g c = ?
-
--- src/read.rt:220:5
 pub loop-entries-preserved : goal.loop-entries-preserved
-loop-entries-preserved g c = ?
+loop-entries-preserved g c =
+    let number = c.args.number in
+    let end = c.loop-entries.end in
+    let version = c.loop-entries.version in
+    let inv = c.loop-entries.invariant in
+    let found = c.in-Some.found in
+    let items = found.entries.items in
+    let bytes = g.D.Disk.held c.args.disk.now (named Log number) in
+    record {
+      within =
+          let next = subst (λ (o : Option FoundBlock). IsNextWithin end c.args.size o) c.in-Some.is c.in_ok-found.ensures.within in
+          omega (arith, next);
+      stays = search rules;
+      faults = omega arith;
+      encoded =
+          let joins : All IsEntry items = rw c.in-Some.is at c.in_ok-found.ensures.encoded in
+          subst HaveEncodings (sym c.in_ok-push_all.ensures) (gated_encodings c.loop-entries.entries.items end items inv.encoded joins);
+      size = inv.size;
+      read = λ told.
+          let next = subst (λ (f : Files). IsNextAt end (f (named Log number)) (Some found)) inv.stays.files
+          (subst (λ (o : Option FoundBlock). IsNextAt end (g.D.Disk.held c.loop-entries.disk (named Log number)) o) c.in-Some.is (c.in_ok-found.ensures.next told)) in
+          let more = read_next number version end c.loop-entries.entries.items bytes (inv.read told) items found.size next (sym c.all_belong.ensures ∙ c.if-not-all_belong.false) in
+          let gate : end + 1 + found.size ≡ end + (1 + found.size) = omega arith in
+          subst (λ (es : List (ℕ × LogEntry)). LogIsReadTo number version (end + (1 + found.size)) es bytes) (sym c.in_ok-push_all.ensures)
+          (subst (λ (n : ℕ). LogIsReadTo number version n (c.loop-entries.entries.items ++ gated end items) bytes) gate more);
+    }
 
--- src/read.rt:195:1
 pub returns-clause-read : goal.returns-clause-read
-returns-clause-read g c = ?
-
--- src/read.rt:195:1
-pub returns-clause-encoded : goal.returns-clause-encoded
-returns-clause-encoded g c = ?
-
--- src/read.rt:195:1
-pub returns-clause-stays : goal.returns-clause-stays
-returns-clause-stays g c = ?
-
--- src/read.rt:195:1
-pub returns-clause-cause : goal.returns-clause-cause
-returns-clause-cause g c = ?
+returns-clause-read g c told =
+    let number = c.args.number in
+    let end = c.loop-entries.end in
+    let inv = c.loop-entries.invariant in
+    let next = subst (λ (f : Files). IsNextAt end (f (named Log number)) None) inv.stays.files
+    (subst (λ (o : Option FoundBlock). IsNextAt end (g.D.Disk.held c.loop-entries.disk (named Log number)) o) c.in_default.is (c.in_ok-found.ensures.next told)) in
+    read_done number c.loop-entries.version end c.loop-entries.entries.items (g.D.Disk.held c.args.disk.now (named Log number)) (inv.read told) next

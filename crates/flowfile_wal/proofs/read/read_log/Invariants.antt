@@ -1,20 +1,20 @@
-use Rattle.std.proofs.Common.{◌≡◌, ℕ, ◌+◌, ◌<◌, ◌≤◌, ◌++◌, true, [], length, drop, slice_range, vec_capacity, All, IsTrue, IfOk, OnOk, IfSome, IsErrOf, Ok, Err, None, Some, ◌-◌, ◌*◌}
-use Rattle.std.specs.List.{list_all}
+use Rattle.std.proofs.Common.{◌≡◌, ◌≤◌, ◌-◌, length, IsTrue}
+use Rattle.disk_trait.specs.Files.{named}
 use Rattle.disk_trait.specs.Images.{Stays}
-use Rattle.disk_trait.specs.Faults.{CountsFaults}
-use Rattle.disk_trait.specs.declared.damage.Damage.{Damage as TheDamage}
-use Rattle.record_codec.specs.Block.{reading_of}
-use Rattle.record_codec.specs.BlockEntries.{entries_in, entries_take_memory}
-use Rattle.record_codec.specs.EntryEncoding.{IsEntry}
-use Rattle.record_codec.specs.Frames.{counts}
-use Rattle.record_codec.specs.LogEntries.{belongs, found_in, gated}
+use Rattle.disk_trait.specs.declared.file_name.FileKind.TheVariants.{Log}
 use Rattle.flowfile_wal.specs.Calls.{HaveEncodings}
-use Rattle.flowfile_wal.specs.Current.{log_bytes, version_begun, log_in}
-use Rattle.flowfile_wal.specs.Reads.{named_at, BlockTakes, HasFirstBlock, IsDamagedAt, IsNextAt, IsNextWithin, LogIsReadTo}
+use Rattle.flowfile_wal.specs.Reads.{HasFirstBlock, LogIsReadTo}
 use Rattle.flowfile_wal.proofs.read.read_log.Given as goal
 
 abbrev pub invariant-loop-entries : goal.invariant-loop-entries
-invariant-loop-entries g l = ?
+invariant-loop-entries g l = record {
+  within : l.end ≤ l.size;
+  stays : Stays g.D.Disk.held g.D.Disk.moment g.D.Disk.images l.fn.disk l.disk;
+  faults : g.D.Disk.faults l.fn.disk ≤ g.D.Disk.faults l.disk;
+  encoded : HaveEncodings l.entries.items;
+  size : IsTrue g.D.Disk.tells → l.size ≡ length (g.D.Disk.held l.fn.disk (named Log l.number));
+  read : IsTrue g.D.Disk.tells → LogIsReadTo l.number l.version l.end l.entries.items (g.D.Disk.held l.fn.disk (named Log l.number));
+}
 
 abbrev pub decreases-loop-entries : goal.decreases-loop-entries
-decreases-loop-entries g l = ?
+decreases-loop-entries g l = l.size - l.end
