@@ -1,7 +1,6 @@
 //! Cases of encodings: what is read, and what is written.
-use crate::events;
-use crate::groups;
 use crate::json::{item, member, number, text, word};
+use crate::{events, groups};
 use anyhow::{Context, Result, bail};
 use flowfile_record::CodecError;
 use record_codec::{

@@ -4,9 +4,7 @@ ghost use Rattle.record_codec.specs.EntryEncoding.{IsEntry};
 use crate::encodings::{bytes, put_digits};
 use anyhow::{Context, Result, bail};
 use flowfile_record::CodecError;
-use record_codec::{
-    LogEntry, PAYLOAD_MAX, read_entries, read_group, write_entry, write_group,
-};
+use record_codec::{LogEntry, PAYLOAD_MAX, read_entries, read_group, write_entry, write_group};
 use serde_json::Value;
 use std::alloc::{AllocError, Global};
 

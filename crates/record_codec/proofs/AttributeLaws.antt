@@ -20,7 +20,7 @@ use Rattle.flowfile_record.specs.declared.attributes.TheConstants.{ATTRIBUTES_MA
 use Rattle.flowfile_record.specs.declared.fields.fault.FieldError.{FieldError}
 use Rattle.flowfile_record.specs.declared.fields.fault.FieldError.TheVariants as fields
 use Rattle.flowfile_record.proofs.FieldLaws.{bind_ok, ok_is, Takes-then, such_is, text_is, long_is, u16_is}
-use Rattle.record_codec.specs.FileReading.{may_follow, may_hold, pair_at, pairs_at, attributes_at}
+use Rattle.record_codec.specs.FileReading.{may_follow, may_hold, pair_at, attribute_pairs_at, attributes_at}
 use Rattle.record_codec.specs.FileEncoding.{pair, attributes}
 use Rattle.record_codec.proofs.Keys.{Pair, all_before, insert_last, comes_behind}
 use Rattle.record_codec.proofs.Puts.{keeps_rule}
@@ -34,27 +34,27 @@ no_pair = None
 -- ---- a loop over the pairs
 
 pub goes_on : (count i : ℕ) (m : AttributeMap) (bytes : List ℕ) (n : AttributeMap) (after : List ℕ) (total : Result (AttributeMap × List ℕ) ℕ) → i < count → pair_at m bytes ≡ Ok (n, after)
-    → pairs_at (count - i) m bytes ≡ total → pairs_at (count - (i + 1)) n after ≡ total
-unfolding pairs_at
+    → attribute_pairs_at (count - i) m bytes ≡ total → attribute_pairs_at (count - (i + 1)) n after ≡ total
+unfolding attribute_pairs_at
 goes_on count i m bytes n after total lt h so_far =
     let k : count - i ≡ suc (count - (i + 1)) = omega arith in
-    let one : pairs_at (count - i) m bytes ≡ pairs_at (count - (i + 1)) n after = rw (k, h) refl in
+    let one : attribute_pairs_at (count - i) m bytes ≡ attribute_pairs_at (count - (i + 1)) n after = rw (k, h) refl in
     sym one ∙ so_far
 
 pub fails : (e : FieldError) (count i : ℕ) (m : AttributeMap) (bytes : List ℕ) (total : Result (AttributeMap × List ℕ) ℕ) → i < count → Fails e (pair_at m bytes)
-    → pairs_at (count - i) m bytes ≡ total → Fails e total
-unfolding pairs_at
+    → attribute_pairs_at (count - i) m bytes ≡ total → Fails e total
+unfolding attribute_pairs_at
 fails fields.Memory count i m bytes total lt h so_far = tt
 fails (fields.Form left) count i m bytes total lt h so_far =
     let k : count - i ≡ suc (count - (i + 1)) = omega arith in
-    let one : pairs_at (count - i) m bytes ≡ Err left = rw (k, h) refl in
+    let one : attribute_pairs_at (count - i) m bytes ≡ Err left = rw (k, h) refl in
     sym so_far ∙ one
 
-pub is_done : (count i : ℕ) (m : AttributeMap) (bytes : List ℕ) (total : Result (AttributeMap × List ℕ) ℕ) → count ≤ i → pairs_at (count - i) m bytes ≡ total → total ≡ Ok (m, bytes)
-unfolding pairs_at
+pub is_done : (count i : ℕ) (m : AttributeMap) (bytes : List ℕ) (total : Result (AttributeMap × List ℕ) ℕ) → count ≤ i → attribute_pairs_at (count - i) m bytes ≡ total → total ≡ Ok (m, bytes)
+unfolding attribute_pairs_at
 is_done count i m bytes total le so_far =
     let k : count - i ≡ 0 = omega arith in
-    let one : pairs_at (count - i) m bytes ≡ Ok (m, bytes) = rw k refl in
+    let one : attribute_pairs_at (count - i) m bytes ≡ Ok (m, bytes) = rw k refl in
     sym so_far ∙ one
 
 -- ---- sizes
@@ -165,16 +165,16 @@ pair_takes m bytes x fits limits e =
     subst (λ (y : AttributeMap × List ℕ). (p : Pair) × Takes bytes (pair p) y.1 × (entries y.0 ≡ entries m ++ p ∷ []) × IsWithinLimits y.0) same
     ((a.0.0, b.0.0), both, insert_last m a.0.0 b.0.0 (keeps_rule m a.0.0 key.1.1).2, pair_limits m a.0.0 b.0.0 limits key.1.1 key.1.0.1 value.1.0.1 value.1.1)
 
-pairs_take : (n : ℕ) (m : AttributeMap) (bytes : List ℕ) (x : AttributeMap × List ℕ) → IsBytes bytes → IsWithinLimits m → pairs_at n m bytes ≡ Ok x
+pairs_take : (n : ℕ) (m : AttributeMap) (bytes : List ℕ) (x : AttributeMap × List ℕ) → IsBytes bytes → IsWithinLimits m → attribute_pairs_at n m bytes ≡ Ok x
     → (ps : List Pair) × Takes bytes (flat_map pair ps) x.1 × (entries x.0 ≡ entries m ++ ps) × (length ps ≡ n) × IsWithinLimits x.0
-unfolding pairs_at
+unfolding attribute_pairs_at
 pairs_take zero m bytes x fits limits e =
     let same = ok_is (m, bytes) x e in
     let is_m : m ≡ x.0 = ap (λ (y : AttributeMap × List ℕ). y.0) same in
     let is_rest : bytes ≡ x.1 = ap (λ (y : AttributeMap × List ℕ). y.1) same in
     ([], subst (λ (r : List ℕ). Takes bytes [] r) is_rest (record { parts = refl; rest_fits = fits }), ap entries (sym is_m) ∙ sym (append-nil (entries m)), refl, subst IsWithinLimits is_m limits)
 pairs_take (suc n) m bytes x fits limits e =
-    let a = bind_ok (pair_at m bytes) (λ more. pairs_at n more.0 more.1) x e in
+    let a = bind_ok (pair_at m bytes) (λ more. attribute_pairs_at n more.0 more.1) x e in
     let p = pair_takes m bytes a.0 fits limits a.1 in
     let q = pairs_take n a.0.0 a.0.1 x p.1.rest_fits p.3 a.2 in
     let both = Takes-then bytes (pair p.0) a.0.1 (flat_map pair q.0) x.1 p.1 q.1 in (
@@ -219,15 +219,15 @@ pair_again m n p ps rest e limits =
     let regrouped : pair p ++ rest ≡ text p.0 ++ (long p.1 ++ rest) = append_assoc (text p.0) (long p.1) rest in
     (ap (pair_at m) regrouped ∙ rw (key, value) refl, insert_last m p.0 p.1 before)
 
-pairs_again : (ps : List Pair) (m n : AttributeMap) (rest : List ℕ) → entries n ≡ entries m ++ ps → IsWithinLimits n → pairs_at (length ps) m (flat_map pair ps ++ rest) ≡ Ok (n, rest)
-unfolding pairs_at
+pairs_again : (ps : List Pair) (m n : AttributeMap) (rest : List ℕ) → entries n ≡ entries m ++ ps → IsWithinLimits n → attribute_pairs_at (length ps) m (flat_map pair ps ++ rest) ≡ Ok (n, rest)
+unfolding attribute_pairs_at
 pairs_again [] m n rest e limits = ap (λ (k : AttributeMap). Ok (k, rest)) (same_entries_map m n (sym (e ∙ append-nil (entries m))))
 pairs_again (p ∷ ps) m n rest e limits =
     let one = pair_again m n p ps (flat_map pair ps ++ rest) e limits in
     let more = insert m p.0 p.1 in
     let later : entries n ≡ entries more ++ ps = e ∙ sym (append_assoc (entries m) (p ∷ []) ps) ∙ ap (λ (es : List Pair). es ++ ps) (sym one.1) in
     let regrouped : flat_map pair (p ∷ ps) ++ rest ≡ pair p ++ (flat_map pair ps ++ rest) = ap (λ (w : List ℕ). w ++ rest) (flat_map-cons pair p ps) ∙ append_assoc (pair p) (flat_map pair ps) rest in
-    ap (pairs_at (suc (length ps)) m) regrouped ∙ rw one.0 (pairs_again ps more n rest later limits)
+    ap (attribute_pairs_at (suc (length ps)) m) regrouped ∙ rw one.0 (pairs_again ps more n rest later limits)
 
 -- ---- all attributes
 
@@ -252,7 +252,7 @@ pub attributes_is : IsField attributes_at attributes IsWithinLimits
 unfolding attributes_at attributes
 attributes_is = record {
   takes = λ bytes x fits e.
-      let n = bind_ok (uint_at w16 bytes) (λ n. pairs_at n.0 none n.1) x e in
+      let n = bind_ok (uint_at w16 bytes) (λ n. attribute_pairs_at n.0 none n.1) x e in
       let p = u16_is.takes bytes n.0 fits n.1 in
       let q = pairs_take n.0.0 none n.0.1 x p.0.rest_fits none_limits n.2 in
       let all : entries x.0 ≡ q.0 = q.2 ∙ ap (λ (es : List Pair). es ++ q.0) none_entries in
@@ -263,6 +263,6 @@ attributes_is = record {
   again = λ m rest limits.
       let regrouped : attributes m ++ rest ≡ to_be_bytes w16 (len m) ++ (flat_map pair (entries m) ++ rest) = append_assoc (to_be_bytes w16 (len m)) (flat_map pair (entries m)) rest in
       let all : entries m ≡ entries none ++ entries m = ap (λ (es : List Pair). es ++ entries m) (sym none_entries) in
-      let pairs : pairs_at (len m) none (flat_map pair (entries m) ++ rest) ≡ Ok (m, rest) = ap (λ (k : ℕ). pairs_at k none (flat_map pair (entries m) ++ rest)) (len-entries m) ∙ pairs_again (entries m) none m rest all limits in
+      let pairs : attribute_pairs_at (len m) none (flat_map pair (entries m) ++ rest) ≡ Ok (m, rest) = ap (λ (k : ℕ). attribute_pairs_at k none (flat_map pair (entries m) ++ rest)) (len-entries m) ∙ pairs_again (entries m) none m rest all limits in
       ap attributes_at regrouped ∙ rw (u16_is.again (len m) (flat_map pair (entries m) ++ rest) (are_few m limits)) pairs;
 }

@@ -22,7 +22,7 @@ use Rattle.record_codec.specs.declared.entry.LogEntry.{LogEntry}
 use Rattle.record_codec.specs.declared.entry.LogEntry.TheVariants.{Begin, Session, Expire, SwapOut, SwapIn, Age}
 use Rattle.record_codec.proofs.Chains.{regroup8}
 use Rattle.record_codec.proofs.ActiveFiles.{active_file_is}
-use Rattle.record_codec.proofs.Versions.{IsVersion, version_is}
+use Rattle.record_codec.proofs.Versions.{version_is}
 
 -- ---- parts
 

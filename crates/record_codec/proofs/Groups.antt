@@ -1,5 +1,5 @@
 -- Groups: what is read is encoded so, and what is encoded so is read again.
-use Rattle.std.proofs.Common.{◌≡◌, ℕ, ◌<◌, ◌≤◌, ◌^◌, cond, Bool, true, List, [], ◌∷◌, ◌++◌, length, IsTrue, Ok, Err, refl, sym, ap, subst, ◌∙◌, append_assoc, arith}
+use Rattle.std.proofs.Common.{◌≡◌, ℕ, ◌<◌, ◌≤◌, ◌^◌, cond, true, List, [], ◌∷◌, ◌++◌, length, IsTrue, Ok, Err, refl, sym, ap, subst, ◌∙◌, append_assoc, arith}
 use Rattle.std.specs.Prelude.{nat_le, is_ok}
 use Rattle.std.specs.List.{flat_map}
 use Rattle.std.specs.Int.{w32, to_be_bytes}
@@ -12,7 +12,7 @@ use Rattle.flowfile_record.specs.Field.{IsBytes, Takes, IsField}
 use Rattle.flowfile_record.specs.Reading.{◌then◌, byte_at, raw_at, uint_at, items_at, listed_at}
 use Rattle.flowfile_record.proofs.FieldLaws.{bind_ok, ok_is, guard_holds, Takes-then, pair_is, made_is, such_is, byte_is, raw_is, u32_is, listed_is}
 use Rattle.record_codec.specs.Group.{item, group, is_item_kind, IsItem, IsGroup}
-use Rattle.record_codec.specs.GroupReading.{payload_at, kind_at, item_at, several_at, group_at, first_item_at}
+use Rattle.record_codec.specs.GroupReading.{payload_at, item_kind_at, item_at, several_at, group_at, first_item_at}
 use Rattle.record_codec.specs.declared.group.Item.{Item}
 use Rattle.record_codec.proofs.Fronts.{then_ok}
 
@@ -37,8 +37,8 @@ payload_again payload rest lt =
 payload_is : IsField payload_at sized (λ payload. length payload < 2 ^ 32)
 payload_is = record { takes = payload_takes; again = payload_again }
 
-kind_is : IsField kind_at byte (λ kind. (kind < 2 ^ 8) × IsTrue (is_item_kind kind))
-unfolding kind_at
+kind_is : IsField item_kind_at byte (λ kind. (kind < 2 ^ 8) × IsTrue (is_item_kind kind))
+unfolding item_kind_at
 kind_is = such_is is_item_kind byte_at byte (λ kind. kind < 2 ^ 8) byte_is
 
 kind_below : (kind : ℕ) → is_item_kind kind ≡ true → kind < 2 ^ 8
@@ -50,8 +50,8 @@ item_parts i = (i.kind, i.payload)
 pub item_is : IsField item_at item IsItem
 unfolding item_at item item_parts sized
 item_is =
-    made_is (λ i. record { kind = i.0; payload = i.1 }) item_parts (kind_at then payload_at) _ item _ IsItem
-    (pair_is kind_at payload_at byte sized (λ kind. (kind < 2 ^ 8) × IsTrue (is_item_kind kind)) (λ payload. length payload < 2 ^ 32) kind_is payload_is)
+    made_is (λ i. record { kind = i.0; payload = i.1 }) item_parts (item_kind_at then payload_at) _ item _ IsItem
+    (pair_is item_kind_at payload_at byte sized (λ kind. (kind < 2 ^ 8) × IsTrue (is_item_kind kind)) (λ payload. length payload < 2 ^ 32) kind_is payload_is)
     (λ i. refl)
     (λ i. append_assoc (byte i.0) (to_be_bytes w32 (length i.1)) i.1)
     (λ i h. record { kind = h.0.1; payload = h.1 })

@@ -21,11 +21,7 @@ use Rattle.record_codec.specs.EntryEncoding.{generator, counters, session, expir
 use Rattle.record_codec.specs.Group.{item}
 use Rattle.record_codec.specs.Placeless.{placeless, placeless_active, placeless_entry}
 use Rattle.record_codec.specs.Snapshot.{swap_batch}
-use Rattle.record_codec.specs.StoreHead.{head}
-use Rattle.record_codec.specs.Texts.{texts}
-use Rattle.record_codec.specs.declared.TheConstants.{FORMAT_VERSION}
 use Rattle.record_codec.specs.declared.group.Item.{Item}
-use Rattle.record_codec.specs.declared.head.Head.{Head}
 use Rattle.record_codec.specs.declared.entry.SessionEntry.{SessionEntry}
 use Rattle.record_codec.specs.declared.entry.ExpireEntry.{ExpireEntry}
 use Rattle.record_codec.specs.declared.entry.SwapOutEntry.{SwapOutEntry}

@@ -33,16 +33,16 @@ pair_at m bytes = do
   Ok (insert m key.0 value.0, value.1)
 
 -- so many pairs behind these
-unfoldable pub pairs_at : ℕ → AttributeMap → Reading AttributeMap
-pairs_at zero m bytes = Ok (m, bytes)
-pairs_at (suc n) m bytes = do
+unfoldable pub attribute_pairs_at : ℕ → AttributeMap → Reading AttributeMap
+attribute_pairs_at zero m bytes = Ok (m, bytes)
+attribute_pairs_at (suc n) m bytes = do
   more ← pair_at m bytes
-  pairs_at n more.0 more.1
+  attribute_pairs_at n more.0 more.1
 
 unfoldable pub attributes_at : Reading AttributeMap
 attributes_at bytes = do
   count ← uint_at w16 bytes
-  pairs_at count.0 empty count.1
+  attribute_pairs_at count.0 empty count.1
 
 -- the first pair behind the count
 abbrev pub first_pair_at : Reading AttributeMap

@@ -29,5 +29,5 @@ pub record IsGroup (items : List Item) : Type 0 where
   pub each : AreListed IsItem items
 
 -- an entry, as an item of a group
-abbrev pub item_of : LogEntry → Item
-item_of e = record { kind = kind_of e; payload = entry e }
+abbrev pub as_item : LogEntry → Item
+as_item e = record { kind = kind_of e; payload = entry e }

@@ -11,11 +11,11 @@ payload_at bytes = do
   size ← uint_at w32 bytes
   raw_at size.0 size.1
 
-unfoldable pub kind_at : Reading ℕ
-kind_at = such is_item_kind byte_at
+unfoldable pub item_kind_at : Reading ℕ
+item_kind_at = such is_item_kind byte_at
 
 unfoldable pub item_at : Reading Item
-item_at = made (λ i. record { kind = i.0; payload = i.1 }) (kind_at then payload_at)
+item_at = made (λ i. record { kind = i.0; payload = i.1 }) (item_kind_at then payload_at)
 
 -- the count of several items
 unfoldable pub several_at : Reading ℕ

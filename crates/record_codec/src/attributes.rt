@@ -4,7 +4,7 @@ ghost use Rattle.std.specs.Option.{option_map};
 ghost use Rattle.std.specs.FinMap.{empty, entries, len};
 ghost use Rattle.flowfile_record.specs.Attributes.{IsWithinLimits};
 ghost use Rattle.flowfile_record.specs.Reading.{Gives};
-ghost use Rattle.record_codec.specs.FileReading.{may_follow, pair_at, pairs_at, first_pair_at, attributes_at};
+ghost use Rattle.record_codec.specs.FileReading.{may_follow, pair_at, attribute_pairs_at, first_pair_at, attributes_at};
 ghost use Rattle.record_codec.specs.FileEncoding as encoding;
 
 use flowfile_record::fields::{
@@ -26,7 +26,7 @@ pub(crate) fn read_attributes(
 }
 
 fn read_pairs(alloc: Global, count: u16, bytes: &[u8]) -> Result<(Attributes, &[u8]), FieldError>
-    ensures read { Gives (λ x. (x.0, x.1.now)) result (pairs_at count empty bytes.now) }
+    ensures read { Gives (λ x. (x.0, x.1.now)) result (attribute_pairs_at count empty bytes.now) }
     ensures memory { IsErrOf result FieldError.Memory → (0 < count) × IsTrue (is_ok (pair_at empty bytes.now)) }
 {
     let mut attributes = Attributes::new(alloc);

@@ -1,10 +1,10 @@
 //! The entries that a block of a log holds.
 ghost use Rattle.std.specs.Prelude.{◌≡◌, ℕ, ◌<◌, ◌^◌, List, [], ◌∷◌, map, All, IsTrue, IfOk, IfSome, IsErr, Some, vec_len};
 ghost use Rattle.std.specs.Option.{option_map};
-ghost use Rattle.record_codec.specs.BlockEntries.{entry_of, entries_of, entries_in, entries_take_memory};
+ghost use Rattle.record_codec.specs.BlockEntries.{entry_read, entries_of, entries_in, entries_take_memory};
 ghost use Rattle.record_codec.specs.EntryReading.{takes_memory};
 ghost use Rattle.record_codec.specs.EntryEncoding.{entry as encoding, kind_of, IsEntry};
-ghost use Rattle.record_codec.specs.Group.{group, item_of, IsGroup};
+ghost use Rattle.record_codec.specs.Group.{group, as_item, IsGroup};
 ghost use Rattle.record_codec.specs.declared.entry.LogEntry.{LogEntry as Entry};
 
 use crate::entry::{LogEntry, read_entry};
@@ -39,8 +39,8 @@ pub fn read_entries(
 /// The block of an entry holds that entry, and a group of entries holds them in order.
 pub fn blocks_hold_their_entries()
     ensures one { (entry : Entry) → IsEntry entry → entries_in (kind_of entry) (encoding entry) ≡ Some (entry ∷ []) }
-    ensures several { (entries : List Entry) → All IsEntry entries → IsGroup (map item_of entries)
-        → entries_in GROUP_KIND (group (map item_of entries)) ≡ Some entries }
+    ensures several { (entries : List Entry) → All IsEntry entries → IsGroup (map as_item entries)
+        → entries_in GROUP_KIND (group (map as_item entries)) ≡ Some entries }
 {}
 
 fn read_of_group(alloc: Global, bytes: &[u8]) -> Result<Option<Vec<LogEntry>>, AllocError>
@@ -72,7 +72,7 @@ fn read_items(alloc: Global, items: &[Item]) -> Result<Option<Vec<LogEntry>>, Al
 
 // The entry of this kind that the bytes encode, none where they encode none.
 fn read_one(alloc: Global, kind: u8, bytes: &[u8]) -> Result<Option<LogEntry>, AllocError>
-    ensures exact { IfOk result (λ found. found ≡ entry_of kind bytes.now) }
+    ensures exact { IfOk result (λ found. found ≡ entry_read kind bytes.now) }
     ensures encoded { IfOk result (λ found. IfSome found IsEntry) }
     ensures memory { IsErr result → IsTrue (takes_memory kind bytes.now) }
 {

@@ -6,7 +6,7 @@ ghost use Rattle.flowfile_record.specs.Field.{HasOneEncoding};
 ghost use Rattle.flowfile_record.specs.Reading.{Reads, Gives, Answers, answer, whole, items_at};
 ghost use Rattle.record_codec.specs.Group as encoding;
 ghost use Rattle.record_codec.specs.Group.{IsItem, IsGroup};
-ghost use Rattle.record_codec.specs.GroupReading.{payload_at, kind_at, several_at, item_at, group_at, first_item_at};
+ghost use Rattle.record_codec.specs.GroupReading.{payload_at, item_kind_at, several_at, item_at, group_at, first_item_at};
 ghost use Rattle.record_codec.specs.declared.block.TheConstants.{PAYLOAD_MAX};
 ghost use Rattle.record_codec.specs.declared.group.Item.{Item as TheItem};
 
@@ -152,9 +152,9 @@ fn read_item(alloc: Global, bytes: &[u8]) -> Result<(Item, &[u8]), FieldError>
     Ok((Item { kind, payload }, rest))
 }
 
-#[tactic(auto, unfolding(crate::specs::GroupReading::kind_at))]
+#[tactic(auto, unfolding(crate::specs::GroupReading::item_kind_at))]
 fn read_kind(bytes: &[u8]) -> Result<(u8, &[u8]), Unread>
-    ensures { Reads (λ x. (x.0, x.1.now)) result (kind_at bytes.now) }
+    ensures { Reads (λ x. (x.0, x.1.now)) result (item_kind_at bytes.now) }
 {
     let (kind, rest) = read_u8(bytes)?;
     if !matches!(kind, 2..=5 | 7) {

@@ -1,4 +1,4 @@
-use Rattle.std.proofs.Common.{ap, sym, subst, true, ◌≡◌, List, ℕ}
+use Rattle.std.proofs.Common.{sym, subst, true, ◌≡◌, List, ℕ}
 use Rattle.std.specs.Prelude.{is_ok}
 use Rattle.record_codec.specs.GroupReading.{first_item_at}
 use Rattle.record_codec.proofs.Groups.{begins_with_item}
