@@ -10,7 +10,7 @@ use Rattle.record_codec.specs.declared.log.TheConstants.{OPEN_GATE, CLOSED_GATE}
 use Rattle.record_codec.specs.LogEntries.{log_of}
 use Rattle.record_codec.proofs.Logs.{ends_shut, entries_more}
 use Rattle.flowfile_wal.specs.Current.{CurrentLog, log_in}
-use Rattle.flowfile_wal.specs.Steps.{SameLog, EndsClosed, IsClosedLog, IsFrame, MoreEntries, with_entries}
+use Rattle.flowfile_wal.specs.Steps.{SameLog, EndsClosed, IsClosedLog, IsFrame, MoreEntries, with_block}
 use Rattle.flowfile_wal.proofs.Says.{says, same_log, more_log}
 
 -- a closed gate behind so many bytes
@@ -59,7 +59,7 @@ module _ (log : CurrentLog) (bytes : List ℕ) (rest : IsClosedLog log bytes) wh
 
   module _ (entries : List LogEntry) (bs : List ℕ) (is_frame : IsFrame log.version entries bs) where
     -- the gate before the block opens
-    pub opened_gate : (c : List ℕ) → c ≡ front ++ OPEN_GATE ∷ bs → IsClosedLog (with_entries log entries (length bs)) c
+    pub opened_gate : (c : List ℕ) → c ≡ front ++ OPEN_GATE ∷ bs → IsClosedLog (with_block log entries (length bs)) c
     opened_gate c is =
         let last = block is_frame.kind is_frame.payload in
         let tail = OPEN_GATE ∷ (last ++ CLOSED_GATE ∷ []) in
@@ -70,7 +70,7 @@ module _ (log : CurrentLog) (bytes : List ℕ) (rest : IsClosedLog log bytes) wh
         ∙ entries_more log.version bytes read is_frame.kind is_frame.payload entries reads is_frame.says is_frame.belong is_frame.small) in
         record {
           counted = more.0;
-          says = more.1 ∙ ap (λ (n : ℕ). says (with_entries log entries n)) (sym long_frame);
+          says = more.1 ∙ ap (λ (n : ℕ). says (with_block log entries n)) (sym long_frame);
           closed = ends_closed (front ++ OPEN_GATE ∷ last) (log.end + length bs) c
               (opens ∙ sym (append_assoc front (OPEN_GATE ∷ last) (CLOSED_GATE ∷ [])))
               (omega (arith, length-append front (OPEN_GATE ∷ last), long_front, long_frame));
@@ -117,4 +117,4 @@ pub has_more : (log : CurrentLog) (bytes : List ℕ) → IsClosedLog log bytes �
     → MoreEntries log.number entries (length bs) bytes c
 has_more log bytes rest entries bs is_frame c is = λ other numbered at_rest.
     let same : log ≡ other = one_log log.number bytes log other rest.says (subst (λ (n : ℕ). log_in n bytes ≡ says other) numbered at_rest.says) in
-    subst (λ (l : CurrentLog). IsClosedLog (with_entries l entries (length bs)) c) same (opened_gate log bytes rest entries bs is_frame c is)
+    subst (λ (l : CurrentLog). IsClosedLog (with_block l entries (length bs)) c) same (opened_gate log bytes rest entries bs is_frame c is)

@@ -10,7 +10,7 @@ use Rattle.disk_trait.proofs.Search.{greatest_found, greatest_agrees}
 use Rattle.record_codec.specs.Frames.{counts}
 use Rattle.record_codec.specs.declared.entry.LogEntry.{LogEntry}
 use Rattle.flowfile_wal.specs.Current.{CurrentLog, current_number, log_in, of_some, log_of_number, current_log}
-use Rattle.flowfile_wal.specs.Steps.{SameLog, MoreEntries, IsClosedLog, IsClosedIn, with_entries}
+use Rattle.flowfile_wal.specs.Steps.{SameLog, MoreEntries, IsClosedLog, IsClosedIn, with_block}
 use Rattle.flowfile_wal.proofs.Says.{read_of}
 
 abbrev pub Said : Type 0
@@ -100,10 +100,10 @@ pub closed_in : (log : CurrentLog) (files : Files) → current_number files ≡ 
 closed_in log files is rest = record { current = is_current files log log.number is rest.says; closed = rest.closed }
 
 -- where the current log gets the entries of a block, the current log has them
-pub with_more_entries : (log : CurrentLog) (entries : List LogEntry) (size : ℕ) (old new : Files) → IsClosedIn log old → At (named Log log.number) (MoreEntries log.number entries size) old new
-    → IsClosedIn (with_entries log entries size) new
-with_more_entries log entries size old new was changed =
+pub with_one_block : (log : CurrentLog) (entries : List LogEntry) (size : ℕ) (old new : Files) → IsClosedIn log old → At (named Log log.number) (MoreEntries log.number entries size) old new
+    → IsClosedIn (with_block log entries size) new
+with_one_block log entries size old new was changed =
     let of = current_is old log was.current in
     let now = changed.here log refl (at_rest log old was) in
     let number = counts_alike log.number old new (MoreEntries log.number entries size) changed (now.counted ∙ sym of.counted) in
-    closed_in (with_entries log entries size) new (number ∙ of.number) now
+    closed_in (with_block log entries size) new (number ∙ of.number) now

@@ -19,7 +19,7 @@ use Rattle.record_codec.specs.declared.log.TheConstants.{OPEN_GATE}
 use Rattle.record_codec.proofs.Blocks.{reading_of-longer, whole_fits}
 use Rattle.record_codec.proofs.Logs.{opened}
 use Rattle.flowfile_wal.specs.Current.{CurrentLog, first_found, begun_by, version_begun, caused, log_read, log_by, log_begun, log_in}
-use Rattle.flowfile_wal.specs.Steps.{SameLog, with_entries}
+use Rattle.flowfile_wal.specs.Steps.{SameLog, with_block}
 use Rattle.flowfile_wal.proofs.Extents.{extent, found_size, found_some, found_fits}
 
 abbrev pub Found : Type 0
@@ -209,7 +209,7 @@ module _ (number : ℕ) (bytes : List ℕ) (log : CurrentLog) (counted : counts 
   -- a log of which the entries of one block more are read has them
   pub more_log : (new tail : List ℕ) (entries : List LogEntry) (size : ℕ) → new ≡ take log.end bytes ++ tail
       → ((read : LogRead) → log_of log.version bytes ≡ ok read → read.end ≡ log.end → log_of log.version new ≡ ok (with_more read entries size))
-      → (counts new ≡ true) × (log_in number new ≡ says (with_entries log entries (size + 1)))
+      → (counts new ≡ true) × (log_in number new ≡ says (with_block log entries (size + 1)))
   more_log new tail entries size goes more =
       let now = goes_on new tail (ok (with_more r.read entries size)) goes (more r.read r.reads end_is) in
       let put = gated r.read.end entries in
@@ -217,7 +217,7 @@ module _ (number : ℕ) (bytes : List ℕ) (log : CurrentLog) (counted : counts 
       ap (λ (es : List (ℕ × LogEntry)). drop 1 (es ++ put)) f.entries ∙ ap (λ (es : List (ℕ × LogEntry)). drop 1 es ++ put) (sym f.entries) in
       let gate : r.read.end + 1 + size ≡ r.read.end + (size + 1) = omega arith in
       let before : CurrentLog = record { number = number; version = log.version; entries = drop 1 r.read.entries; end = r.read.end } in
-      let whole : log_read number log.version (ok (with_more r.read entries size)) ≡ says (with_entries before entries (size + 1)) =
+      let whole : log_read number log.version (ok (with_more r.read entries size)) ≡ says (with_block before entries (size + 1)) =
       ap (λ (es : List (ℕ × LogEntry)). says (record { number = number; version = log.version; entries = es; end = r.read.end + 1 + size })) behind
       ∙ ap (λ (n : ℕ). says (record { number = number; version = log.version; entries = drop 1 r.read.entries ++ put; end = n })) gate in
-      (now.0, now.1 ∙ whole ∙ ap (λ (l : CurrentLog). says (with_entries l entries (size + 1))) (sym r.is))
+      (now.0, now.1 ∙ whole ∙ ap (λ (l : CurrentLog). says (with_block l entries (size + 1))) (sym r.is))

@@ -17,11 +17,11 @@ use Rattle.record_codec.proofs.BlockContents.{one_held}
 use Rattle.record_codec.proofs.Logs.{entries_more}
 use Rattle.flowfile_wal.specs.Calls.{InEach, RestInEach}
 use Rattle.flowfile_wal.specs.Current.{CurrentLog, current_log, first_found}
-use Rattle.flowfile_wal.specs.Steps.{LogState, IsCurrentIn, IsReadyIn, IsLogAt, IsClosedLog, IsClosedIn, IsBegunIn, RestsAt, MoreEntries, numbered_log, with_entries}
+use Rattle.flowfile_wal.specs.Steps.{LogState, IsCurrentIn, IsReadyIn, IsLogAt, IsClosedLog, IsClosedIn, IsBegunIn, RestsAt, MoreEntries, numbered_log, with_block}
 use Rattle.flowfile_wal.proofs.Says.{ok, alone, says_of}
 use Rattle.flowfile_wal.proofs.Appending.{ends_closed, closed_length}
 use Rattle.flowfile_wal.proofs.Beginnings.{begun_counts}
-use Rattle.flowfile_wal.proofs.Files.{said, current_is, closed_in, at_rest, with_more_entries}
+use Rattle.flowfile_wal.proofs.Files.{said, current_is, closed_in, at_rest, with_one_block}
 
 module _ (state : LogState) (number version gate : ℕ) (has : state.number ≡ Some number) (in_version : state.version ≡ version) (ends : state.end ≡ gate) (files : Files) where
   -- the current log, by what is in memory of it
@@ -67,11 +67,11 @@ ready_more state new number entries size held c has is more same alike longer =
     let both : Some number ≡ Some is.log.number = sym has ∙ is.number in
     let numbers : number ≡ is.log.number = cc in
     record {
-      log = with_entries is.log entries size;
+      log = with_block is.log entries size;
       number = same ∙ is.number;
       version = alike ∙ is.version;
       end = longer ∙ ap (λ (e : ℕ). e + size) is.end;
-      ready = with_more_entries is.log entries size held c is.ready (subst (λ (n : ℕ). At (named Log n) (MoreEntries n entries size) held c) numbers more);
+      ready = with_one_block is.log entries size held c is.ready (subst (λ (n : ℕ). At (named Log n) (MoreEntries n entries size) held c) numbers more);
     }
 
 begin_length : (version number : ℕ) → length (encoding (Begin version number)) ≡ 9

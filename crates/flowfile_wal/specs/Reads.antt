@@ -68,12 +68,12 @@ pub record LogIsReadTo (number version end : ℕ) (entries : List (ℕ × LogEnt
 -- ---- where memory is taken
 
 -- A block is read into a buffer of this capacity: it is whole, and the buffer too small or its entries take memory.
-abbrev pub BlockTakes : ℕ → Reading → Type 0
-BlockTakes capacity (Whole kind payload) =
+abbrev pub EntriesTake : ℕ → Reading → Type 0
+EntriesTake capacity (Whole kind payload) =
     (capacity < length payload + BLOCK_OVERHEAD) ⊎ IsTrue (entries_take_memory kind payload)
-BlockTakes capacity (Cut need have) = ⊥
-BlockTakes capacity (Long size) = ⊥
-BlockTakes capacity (Differs stored found) = ⊥
+EntriesTake capacity (Cut need have) = ⊥
+EntriesTake capacity (Long size) = ⊥
+EntriesTake capacity (Differs stored found) = ⊥
 
 -- the first block of a log stands there whole
 pub record HasFirstBlock (bytes : List ℕ) : Type 0 where

@@ -5,7 +5,7 @@ use Rattle.disk_trait.specs.Files.{Files, At, named}
 use Rattle.disk_trait.specs.declared.file_name.FileKind.TheVariants.{Log}
 use Rattle.record_codec.specs.BlockEntries.{entries_in}
 use Rattle.record_codec.specs.EntryEncoding.{IsEntry}
-use Rattle.record_codec.specs.Frames.{frame, begun_log, counts}
+use Rattle.record_codec.specs.Frames.{frame, entry_frame, begun_log, counts}
 use Rattle.record_codec.specs.LogEntries.{belongs, gated}
 use Rattle.record_codec.specs.Version.{is_known}
 use Rattle.record_codec.specs.declared.block.TheConstants.{PAYLOAD_MAX}
@@ -74,17 +74,21 @@ pub record IsFrame (version : ℕ) (entries : List LogEntry) (bytes : List ℕ) 
   pub belong : IsTrue (list_all (belongs version) entries)
   pub is : bytes ≡ frame kind payload
 
--- a log with the entries of one block more, whose frame has this size
-abbrev pub with_entries : CurrentLog → List LogEntry → (size : ℕ) → CurrentLog
-with_entries log entries size = record log {
+-- a log with one block more, of these entries, whose frame has this size
+abbrev pub with_block : CurrentLog → List LogEntry → (size : ℕ) → CurrentLog
+with_block log entries size = record log {
   entries = log.entries ++ gated log.end entries;
   end = log.end + size;
 }
 
+-- and with the block of one entry
+abbrev pub with_entry : CurrentLog → LogEntry → CurrentLog
+with_entry log entry = with_block log (entry ∷ []) (length (entry_frame entry))
+
 -- a step of a log's file that adds these entries in one frame of this size
 abbrev pub MoreEntries : ℕ → List LogEntry → (size : ℕ) → List ℕ → List ℕ → Type 0
 MoreEntries number entries size old new = (log : CurrentLog) → log.number ≡ number → IsClosedLog log old
-    → IsClosedLog (with_entries log entries size) new
+    → IsClosedLog (with_block log entries size) new
 
 -- ---- all files
 
@@ -95,6 +99,10 @@ KeepsLog number old new = At (named Log number) (SameLog number) old new
 -- a step that adds these entries to the log of this number, in one frame of this size, and leaves each other file
 abbrev pub AddsEntries : ℕ → List LogEntry → (size : ℕ) → Files → Files → Type 0
 AddsEntries number entries size old new = At (named Log number) (MoreEntries number entries size) old new
+
+-- and one that adds this entry alone
+abbrev pub AddsEntry : ℕ → LogEntry → Files → Files → Type 0
+AddsEntry number entry old new = AddsEntries number (entry ∷ []) (length (entry_frame entry)) old new
 
 -- the current log of these files is this one, and a closed gate ends it
 pub record IsClosedIn (log : CurrentLog) (files : Files) : Type 0 where

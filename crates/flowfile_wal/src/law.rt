@@ -7,7 +7,7 @@ ghost use Rattle.record_codec.specs.Version.{is_known};
 ghost use Rattle.record_codec.specs.declared.entry.LogEntry.{LogEntry};
 ghost use Rattle.record_codec.specs.declared.entry.LogEntry.TheVariants.{Begin};
 ghost use Rattle.flowfile_wal.specs.Current.{CurrentLog, current_log, log_bytes};
-ghost use Rattle.flowfile_wal.specs.Steps.{KeepsLog, AddsEntries, IsClosedIn, with_entries, IsBegunIn};
+ghost use Rattle.flowfile_wal.specs.Steps.{KeepsLog, AddsEntries, IsClosedIn, with_block, IsBegunIn};
 
 /// Files that differ in one log, which says the same, have the same current log.
 pub fn logs_that_change_alike()
@@ -15,9 +15,9 @@ pub fn logs_that_change_alike()
 {}
 
 /// Where the current log gets the entries of a block, the current log has them.
-pub fn logs_with_more_entries()
+pub fn logs_with_one_block_more()
     ensures { (log : CurrentLog) (entries : List LogEntry) (size : ℕ) (old new : Files) → IsClosedIn log old
-        → AddsEntries log.number entries size old new → IsClosedIn (with_entries log entries size) new }
+        → AddsEntries log.number entries size old new → IsClosedIn (with_block log entries size) new }
 {}
 
 /// A log that has its Begin alone, of a version that counts, is the current one where each greater log is passed over.

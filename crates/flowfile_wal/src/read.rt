@@ -11,7 +11,7 @@ ghost use Rattle.record_codec.specs.Frames.{counts};
 ghost use Rattle.record_codec.specs.LogEntries.{belongs, found_in, gated};
 ghost use Rattle.flowfile_wal.specs.Calls.{HaveEncodings};
 ghost use Rattle.flowfile_wal.specs.Current.{log_bytes, version_begun, log_in};
-ghost use Rattle.flowfile_wal.specs.Reads.{named_at, BlockTakes, HasFirstBlock, IsDamagedAt, IsNextAt, IsNextWithin, LogIsReadTo};
+ghost use Rattle.flowfile_wal.specs.Reads.{named_at, EntriesTake, HasFirstBlock, IsDamagedAt, IsNextAt, IsNextWithin, LogIsReadTo};
 
 use crate::LogError;
 use crate::current::read_gate;
@@ -60,7 +60,7 @@ fn read_entries_at<D: Disk>(
     ensures damaged { (damage : TheDamage) → IsErrOf result (LogError.Damaged damage) → IsTrue D.tells
         → named_at file at (found_in (reading_of (drop (at + 1) (D.held disk.old file)))) ≡ Err damage }
     ensures memory { IsErrOf result LogError.Memory → IsTrue D.tells
-        → BlockTakes (vec_capacity buffer.old) (reading_of (drop (at + 1) (D.held disk.old file))) }
+        → EntriesTake (vec_capacity buffer.old) (reading_of (drop (at + 1) (D.held disk.old file))) }
     ensures stays { Stays D.held D.moment D.images disk.old disk.new }
     ensures cause { CountsFaults (D.faults disk.old) (D.faults disk.new) (IsErrOf result LogError.Disk) }
 {
@@ -125,7 +125,7 @@ fn next_block<D: Disk>(
     ensures damaged { (damage : TheDamage) → IsErrOf result (LogError.Damaged damage) → IsTrue D.tells
         → IsDamagedAt file at (D.held disk.old file) damage }
     ensures memory { IsErrOf result LogError.Memory → IsTrue D.tells
-        → BlockTakes (vec_capacity buffer.old) (reading_of (drop (at + 1) (D.held disk.old file))) }
+        → EntriesTake (vec_capacity buffer.old) (reading_of (drop (at + 1) (D.held disk.old file))) }
     ensures stays { Stays D.held D.moment D.images disk.old disk.new }
     ensures cause { CountsFaults (D.faults disk.old) (D.faults disk.new) (IsErrOf result LogError.Disk) }
 {

@@ -117,14 +117,14 @@ session_acts k s (Session t) may none same =
       last_event = ap (λ (l : LogEntry). (part_of t l).last_event) same;
       generator = ap (λ (l : LogEntry). (part_of t l).generator) same;
     }
-session_acts k s (Begin log) may none same = absurd cc
+session_acts k s (Begin version log) may none same = absurd cc
 session_acts k s (Expire e) may none same = absurd cc
 session_acts k s (SwapOut e) may none same = absurd cc
 session_acts k s (SwapIn connection batch) may none same = absurd cc
 
 expiry_same : (e : LogEntry) (x : ExpireEntry) → placeless_entry e ≡ Expire x → e ≡ Expire x
 expiry_same (Expire e) x same = same
-expiry_same (Begin log) x same = absurd cc
+expiry_same (Begin version log) x same = absurd cc
 expiry_same (Session e) x same = absurd cc
 expiry_same (SwapOut e) x same = absurd cc
 expiry_same (SwapIn connection batch) x same = absurd cc

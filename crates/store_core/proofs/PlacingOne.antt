@@ -80,7 +80,7 @@ with_at (b ∷ front) back a at = ap (λ (l : List ActiveFile). b ∷ l) (with_a
 
 placed_with : (e : LogEntry) (place : ℕ) (at : ContentRef) → placed_in (entry_with_content e place at) ≡ with_content_at place at (placed_in e)
 placed_with (Session s) place at = refl
-placed_with (Begin log) place at = refl
+placed_with (Begin version log) place at = refl
 placed_with (Expire e) place at = refl
 placed_with (SwapOut s) place at = refl
 placed_with (SwapIn connection batch) place at = refl

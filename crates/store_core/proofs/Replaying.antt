@@ -47,7 +47,7 @@ fitting false one new at is same = absurd cc
 -- ---- what an entry leaves
 
 pub still_plain : (k : Kept) (e : LogEntry) → k.batches ≡ [] → batch_swapped_out e ≡ [] → entry_suits no_files k e ≡ true → (applied no_files k e).batches ≡ []
-still_plain k (Begin log) none out fit = none
+still_plain k (Begin version log) none out fit = none
 still_plain k (Session s) none out fit = none
 still_plain k (Expire e) none out fit = none
 still_plain k (SwapOut s) none out fit = absurd cc
@@ -59,7 +59,7 @@ length-with_count None counts = refl
 length-with_count (Some g) counts = length-set counts g.processor g.count
 
 pub same_flow : (k : Kept) (e : LogEntry) → flow_in (applied no_files k e) ≡ flow_in k
-same_flow k (Begin log) = refl
+same_flow k (Begin version log) = refl
 same_flow k (Session s) = λ i. record { digest = k.flow; connections = k.connections; processors = length-with_count s.generator k.counts i }
 same_flow k (Expire e) = refl
 same_flow k (SwapOut s) = refl
