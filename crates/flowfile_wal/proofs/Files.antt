@@ -1,5 +1,5 @@
 -- What follows of all logs where one log's file changed.
-use Rattle.std.proofs.Common.{◌≡◌, ◌≢◌, ⊎_elim, ℕ, ◌^◌, true, List, refl, sym, ◌∙◌, ap, subst}
+use Rattle.std.proofs.Common.{◌≡◌, ◌≢◌, ⊎_elim, ℕ, ◌^◌, true, List, [], ◌∷◌, length, refl, sym, ◌∙◌, ap, subst}
 use Rattle.std.specs.Prelude.{Option, None, Some, Result, Ok, Err}
 use Rattle.std.proofs.lemmas.Bool.{cases_eq}
 use Rattle.disk_trait.specs.Files.{Files, At, named}
@@ -7,10 +7,10 @@ use Rattle.disk_trait.specs.declared.damage.Damage.{Damage}
 use Rattle.disk_trait.specs.declared.file_name.FileKind.TheVariants.{Log}
 use Rattle.disk_trait.specs.declared.file_name.FileName.{FileName}
 use Rattle.disk_trait.proofs.Search.{greatest_found, greatest_agrees}
-use Rattle.record_codec.specs.Frames.{counts}
+use Rattle.record_codec.specs.Frames.{counts, entry_frame}
 use Rattle.record_codec.specs.declared.entry.LogEntry.{LogEntry}
 use Rattle.flowfile_wal.specs.Current.{CurrentLog, current_number, log_in, of_some, log_of_number, current_log}
-use Rattle.flowfile_wal.specs.Steps.{SameLog, MoreEntries, IsClosedLog, IsClosedIn, with_block}
+use Rattle.flowfile_wal.specs.Steps.{SameLog, MoreEntries, IsClosedLog, IsClosedIn, AddsEntry, with_block, with_entry}
 use Rattle.flowfile_wal.proofs.Says.{read_of}
 
 abbrev pub Said : Type 0
@@ -107,3 +107,6 @@ with_one_block log entries size old new was changed =
     let now = changed.here log refl (at_rest log old was) in
     let number = counts_alike log.number old new (MoreEntries log.number entries size) changed (now.counted ∙ sym of.counted) in
     closed_in (with_block log entries size) new (number ∙ of.number) now
+
+pub with_one_entry : (log : CurrentLog) (entry : LogEntry) (old new : Files) → IsClosedIn log old → AddsEntry log.number entry old new → IsClosedIn (with_entry log entry) new
+with_one_entry log entry old new was changed = with_one_block log (entry ∷ []) (length (entry_frame entry)) old new was changed

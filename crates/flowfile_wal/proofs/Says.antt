@@ -195,9 +195,10 @@ module _ (number : ℕ) (bytes : List ℕ) (log : CurrentLog) (counted : counts 
       let o = opens bytes counted in
       let long : length bytes ≡ 1 + length (drop 1 bytes) = omega (arith, ap length o.0) in
       let again = again_open (drop 1 bytes) tail log.end (Begin log.version number ∷ [], r.size) r.first (omega (arith, f.from, end_is)) (omega (arith, f.to, end_is, long)) in
-      let same : take log.end (OPEN_GATE ∷ drop 1 bytes) ++ tail ≡ new = ap (λ (l : List ℕ). take log.end l ++ tail) (sym o.0) ∙ sym goes in
-      (subst (λ (l : List ℕ). counts l ≡ true) same again.0,
-      says_of number log.version new r.size whole (subst (λ (l : List ℕ). first_found l ≡ alone log.version number r.size) same again.1) r.known reads)
+      let same : take log.end (OPEN_GATE ∷ drop 1 bytes) ++ tail ≡ new = ap (λ (l : List ℕ). take log.end l ++ tail) (sym o.0) ∙ sym goes in (
+        subst (λ (l : List ℕ). counts l ≡ true) same again.0,
+        says_of number log.version new r.size whole (subst (λ (l : List ℕ). first_found l ≡ alone log.version number r.size) same again.1) r.known reads,
+      )
 
   -- a log of which the same is read says the same
   pub same_log : (new tail : List ℕ) → new ≡ take log.end bytes ++ tail → ((read : LogRead) → log_of log.version bytes ≡ ok read → read.end ≡ log.end → log_of log.version new ≡ ok read)

@@ -1,9 +1,10 @@
 -- What the calls of a log ask, and what they leave.
-use Rattle.std.specs.Prelude.{◌≡◌, ◌⊎◌, ℕ, ◌+◌, true, false, List, length, All, Result, Err, OnErr, IsErrOf}
+use Rattle.std.specs.Prelude.{◌≡◌, ◌⊎◌, ℕ, ◌+◌, true, false, List, [], ◌∷◌, length, All, Result, Err, OnErr, IsErrOf}
 use Rattle.disk_trait.specs.Faults.{CountsFaults}
 use Rattle.disk_trait.specs.Files.{Files}
 use Rattle.disk_trait.specs.Images.{After, IsOnly}
 use Rattle.record_codec.specs.EntryEncoding.{IsEntry}
+use Rattle.record_codec.specs.Frames.{entry_frame}
 use Rattle.record_codec.specs.declared.entry.LogEntry.{LogEntry}
 use Rattle.flowfile_wal.specs.Current.{log_bytes}
 use Rattle.flowfile_wal.specs.Steps.{LogState, RestsAt, IsReadyIn, KeepsLog, AddsEntries}
@@ -36,6 +37,11 @@ pub record LeavesReady (state : LogState) (held : Files) (left : Files → Type 
 abbrev pub WithOrWithout : ℕ → List LogEntry → (size : ℕ) → (Files → Type 0) → Files → Files → Type 0
 WithOrWithout number entries size left held c =
     After (KeepsLog number) left c ⊎ AddsEntries number entries size held c
+
+-- and with this entry alone
+abbrev pub WithOrWithoutEntry : ℕ → LogEntry → (Files → Type 0) → Files → Files → Type 0
+WithOrWithoutEntry number entry left held c =
+    WithOrWithout number (entry ∷ []) (length (entry_frame entry)) left held c
 
 -- the log in memory with a frame of these bytes more
 abbrev pub with_frame : LogState → List ℕ → LogState

@@ -11,8 +11,8 @@ ghost use Rattle.flowfile_wal.specs.Steps.{IsFrame, AddsEntries};
 use disk_trait::{Disk, Failed, FileKind, FileName, write_synced};
 use record_codec::OPEN_GATE;
 
-/// Adds the entries of one block to the log of this number, whose last gate stands at `end`. `frame` is the block with a
-/// closed gate behind it.
+/// Adds the entries of one block to the log of this number, whose last gate stands at `end`. `frame` is the block with
+/// a closed gate behind it.
 pub fn append_frame<D: Disk>(
     disk: &mut D,
     number: u64,

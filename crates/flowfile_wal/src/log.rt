@@ -157,7 +157,8 @@ impl Log {
         // A stop within the call leaves the log of before it, or what was held with all these entries.
         ensures images { (number : ℕ) (entries : List Entry) → self.old.number ≡ Some number
             → IsFrame self.old.version entries frame.now → Since D.moment D.images disk.old disk.new
-            (WithOrWithout number entries (length frame.now) (D.images disk.old (D.moment disk.old)) (D.held disk.old)) }
+            (WithOrWithout number entries (length frame.now)
+            (D.images disk.old (D.moment disk.old)) (D.held disk.old)) }
         // Once it has answered Ok, a stop leaves the entries.
         ensures added { OnOk result ((number : ℕ) (entries : List Entry) → self.old.number ≡ Some number
             → IsFrame self.old.version entries frame.now → InEach (D.images disk.new (D.moment disk.new))

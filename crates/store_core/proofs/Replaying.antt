@@ -8,7 +8,7 @@ use Rattle.flowfile_record.specs.Stored.{Kept}
 use Rattle.flowfile_record.specs.declared.stored.Counted.{Counted}
 use Rattle.flowfile_record.specs.declared.stored.SwapBatch.{SwapBatch}
 use Rattle.record_codec.specs.declared.entry.LogEntry.{LogEntry}
-use Rattle.record_codec.specs.declared.entry.LogEntry.TheVariants.{Begin, Session, Expire, SwapOut, SwapIn}
+use Rattle.record_codec.specs.declared.entry.LogEntry.TheVariants.{Begin, Session, Expire, SwapOut, SwapIn, Age}
 use Rattle.kept_state.specs.Applied.{applied, batch_swapped_out}
 use Rattle.flowfile_record.specs.Counts.{with_count}
 use Rattle.kept_state.specs.Changes.{no_files}
@@ -53,6 +53,7 @@ still_plain k (Expire e) none out fit = none
 still_plain k (SwapOut s) none out fit = absurd cc
 still_plain k (SwapIn connection batch) none out fit =
     let never : false ≡ true = ap (list_any (λ (b : SwapBatch). (b.batch == batch) && (b.connection == connection))) (sym none) ∙ fit in absurd cc
+still_plain k (Age line) none out fit = none
 
 length-with_count : (g : Option Counted) (counts : List ℕ) → length (with_count g counts) ≡ length counts
 length-with_count None counts = refl
@@ -64,3 +65,4 @@ same_flow k (Session s) = λ i. record { digest = k.flow; connections = k.connec
 same_flow k (Expire e) = refl
 same_flow k (SwapOut s) = refl
 same_flow k (SwapIn connection batch) = refl
+same_flow k (Age line) = refl
