@@ -1,5 +1,5 @@
 -- What is in memory of a log, and the files that it stands for.
-use Rattle.std.proofs.Common.{◌≡◌, ℕ, ◌+◌, ◌<◌, true, List, [], ◌∷◌, length, refl, sym, ◌∙◌, ap, subst, arith}
+use Rattle.std.proofs.Common.{◌≡◌, ℕ, ◌+◌, ◌<◌, ◌≤◌, true, List, [], ◌∷◌, length, refl, sym, ◌∙◌, ap, subst, arith}
 use Rattle.std.specs.Prelude.{IsTrue, Option, Some, Result, Ok}
 use Rattle.disk_trait.specs.Files.{Files, At, named}
 use Rattle.disk_trait.specs.declared.damage.Damage.{Damage}
@@ -9,6 +9,7 @@ use Rattle.record_codec.specs.EntryEncoding.{entry as encoding, kind_of}
 use Rattle.record_codec.specs.Frames.{begun_log}
 use Rattle.record_codec.specs.LogEntries.{LogRead, ended, told, found_in, with_more, log_of}
 use Rattle.record_codec.specs.BlockEntries.{entries_in}
+use Rattle.record_codec.specs.declared.block.TheConstants.{PAYLOAD_MAX}
 use Rattle.record_codec.specs.declared.entry.LogEntry.{LogEntry}
 use Rattle.record_codec.specs.declared.entry.LogEntry.TheVariants.{Begin}
 use Rattle.record_codec.specs.declared.log.TheConstants.{OPEN_GATE, CLOSED_GATE}
@@ -86,7 +87,7 @@ begun_ready version number files is =
     let bytes = files (named Log number) in
     let nine = begin_length version number in
     let long : length last ≡ 46 = omega (arith, length-block (kind_of begin) (encoding begin), nine) in
-    let small = omega (arith, nine) in
+    let small : length (encoding begin) ≤ PAYLOAD_MAX = omega (arith, nine) in
     let holds = one_held begin is.encodes in
     let reads : log_of version bytes ≡ ok (with_more (ended 0) (begin ∷ []) (length last)) =
     ap (log_of version) is.bytes ∙ entries_more version [] (ended 0) (kind_of begin) (encoding begin) (begin ∷ []) refl holds refl small in

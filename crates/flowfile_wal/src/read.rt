@@ -37,6 +37,7 @@ pub struct ReadLog {
 }
 
 // What a log begins with: the version of its format, and the offset of the gate behind its Begin.
+#[derive(Clone, Copy)]
 struct Begun {
     version: u8,
     end: u64,
@@ -216,16 +217,17 @@ pub fn read_log<D: Disk>(
     };
     let mut buffer = Vec::new(alloc);
     let mut entries = Vec::new(alloc);
-    let Begun { version, mut end } = read_begin(alloc, disk, number, size, &mut buffer)?;
+    let begun = read_begin(alloc, disk, number, size, &mut buffer)?;
+    let mut end = begun.end;
     while let Some(found) = next_block(alloc, disk, file, size, end, &mut buffer)? {
-        if !all_belong(version, found.entries.as_slice()) {
+        if !all_belong(begun.version, found.entries.as_slice()) {
             return Err(LogError::Damaged(Damage::Form { file, at: end }));
         }
         push_all(&mut entries, end, found.entries)?;
         end += 1 + found.size;
     }
     Ok(ReadLog {
-        version,
+        version: begun.version,
         entries,
         end,
     })

@@ -11,5 +11,5 @@ loop-entry-preserved c =
     let entry = c.in-Some.entry in
     let later = into_iter_items c.next.new.self in
     let coming : into_iter_items c.loop-entry.entry-iterator ≡ entry ∷ later = c.in-Some.ensures.steps.0 in
-    ap (λ (l : List (ℕ × LogEntry)). l ++ gated gate later) c.in_default-push.ensures.items ∙ append_assoc all ((gate, entry) ∷ []) (gated gate later)
+    ap (λ (l : List (ℕ × LogEntry)). l ++ gated gate later) c.in_ok-push.ensures.items ∙ append_assoc all ((gate, entry) ∷ []) (gated gate later)
     ∙ ap (λ (l : List LogEntry). all ++ gated gate l) (sym coming) ∙ c.loop-entry.invariant

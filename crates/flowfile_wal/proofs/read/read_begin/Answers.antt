@@ -4,6 +4,7 @@ use Rattle.std.specs.Prelude.{Err, Option}
 use Rattle.disk_trait.specs.Files.{named}
 use Rattle.disk_trait.specs.declared.damage.Damage.TheVariants.{Form}
 use Rattle.disk_trait.specs.declared.file_name.FileKind.TheVariants.{Log}
+use Rattle.flowfile_wal.specs.Current.{version_begun}
 use Rattle.flowfile_wal.specs.Reads.{IsNextAt}
 use Rattle.flowfile_wal.specs.declared.error.LogError.TheVariants.{Damaged}
 use Rattle.flowfile_wal.specs.declared.read.FoundBlock.{FoundBlock}
@@ -22,10 +23,13 @@ returns-in_default-begun_version-clause-damaged g c damage is told =
     let bytes = g.D.Disk.held c.args.disk.now (named Log c.args.number) in
     let next = subst (λ (o : Option FoundBlock). IsNextAt 0 bytes o) c.in-Some.is (c.in_ok-found.ensures.next told) in
     let same : Form (named Log c.args.number) 0 ≡ damage = cc is in
-    begin_other c.args.number bytes c.in-Some.found.entries.items c.in-Some.found.size next (sym c.begun_version.ensures ∙ c.in_default-begun_version.is) ∙ ap error same
+    begin_other c.args.number bytes c.in-Some.found.entries.items c.in-Some.found.size next
+    (ap (version_begun c.args.number) (sym c.as_slice.ensures.value) ∙ sym c.begun_version.ensures ∙ c.in_default-begun_version.is)
+    ∙ ap error same
 
 pub returns-clause-begun : goal.returns-clause-begun
 returns-clause-begun g c told =
     let bytes = g.D.Disk.held c.args.disk.now (named Log c.args.number) in
     let next = subst (λ (o : Option FoundBlock). IsNextAt 0 bytes o) c.in-Some.is (c.in_ok-found.ensures.next told) in
-    read_first c.args.number bytes c.in-Some.found.entries.items c.in-Some.found.size c.in-Some-version.version next (sym c.begun_version.ensures ∙ c.in-Some-version.is)
+    read_first c.args.number bytes c.in-Some.found.entries.items c.in-Some.found.size c.in-Some-begun_version.version next
+    (ap (version_begun c.args.number) (sym c.as_slice.ensures.value) ∙ sym c.begun_version.ensures ∙ c.in-Some-begun_version.is)

@@ -13,7 +13,7 @@ invariant-loop-entries g l = record {
   faults : g.D.Disk.faults l.fn.disk ≤ g.D.Disk.faults l.disk;
   encoded : HaveEncodings l.entries.items;
   size : IsTrue g.D.Disk.tells → l.size ≡ length (g.D.Disk.held l.fn.disk (named Log l.number));
-  read : IsTrue g.D.Disk.tells → LogIsReadTo l.number l.version l.end l.entries.items (g.D.Disk.held l.fn.disk (named Log l.number));
+  read : IsTrue g.D.Disk.tells → LogIsReadTo l.number l.begun.version l.end l.entries.items (g.D.Disk.held l.fn.disk (named Log l.number));
 }
 
 abbrev pub decreases-loop-entries : goal.decreases-loop-entries

@@ -15,6 +15,18 @@ append_frame-requires-clause-there g c lfts out told =
     let has : state.number ≡ Some c.in-Some.number = sym (ap (λ (s : LogState). s.number) c.self.view_is) ∙ c.in-Some.is in
     gate_there state c.in-Some.number state.version c.self.inside.gate has refl ends (g.D.Disk.held old) (c.requires.ready (g.D.Disk.held old) (laws.held_is_left old told))
 
+pub returns-in_default-append_frame-clause-images : goal.returns-in_default-append_frame-clause-images
+returns-in_default-append_frame-clause-images g c number entries is is_frame =
+    let old = c.args.disk.now in
+    let state : LogState = c.args.self.now in
+    let ends = sym (ap (λ (s : LogState). s.end) c.self.view_is) in
+    let has : state.number ≡ Some c.in-Some.number = sym (ap (λ (s : LogState). s.number) c.self.view_is) ∙ c.in-Some.is in
+    let both : Some c.in-Some.number ≡ Some number = sym has ∙ is in
+    let same : c.in-Some.number ≡ number = cc in
+    let rests = rest_in_each state c.in-Some.number state.version c.self.inside.gate has refl ends (g.D.Disk.images old (g.D.Disk.moment old)) c.requires.ready in
+    subst (λ (n : ℕ). Since g.D.Disk.moment g.D.Disk.images old c.append_frame.new.disk (WithOrWithout n entries (length c.args.frame.now) (g.D.Disk.images old (g.D.Disk.moment old)) (g.D.Disk.held old))) same
+    (c.append_frame.ensures.images state.version entries rests is_frame)
+
 pub returns-clause-images : goal.returns-clause-images
 returns-clause-images g c number entries is is_frame =
     let old = c.args.disk.now in

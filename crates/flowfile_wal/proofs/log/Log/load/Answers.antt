@@ -37,7 +37,7 @@ returns-clause-loaded g c told =
     let found : IsCandidate c.in-Some.found files = subst (λ (o : Option Candidate). IsFoundIn files o) c.in-Some.is (c.in_ok-found.ensures.found told) in
     let held = c.find_current.ensures.stays.files in
     is_current files log number found.number (subst (λ (f : Files). log_in number (f (named Log number)) ≡ Ok log) held (c.in_ok-read.ensures.read told))
-    ∙ ap (λ (s : LogState). said (log_with s items)) (sym c.unmended-2.ensures)
+    ∙ ap (λ (s : LogState). said (log_with s items)) (sym c.unmended-log.ensures)
 
 pub returns-in_err-read-clause-memory : goal.returns-in_err-read-clause-memory
 returns-in_err-read-clause-memory g c is told =
