@@ -73,16 +73,16 @@ found_least k entries read first least is_first is_read is =
     ∙ ap (λ (es : List Logged). fold with_least first (flat_map (λ e. batch_swapped_out e.1) es)) (sym is_read)
     ∙ sym is
 
-abbrev pub log_at : (number : ℕ) → List Logged → (end : ℕ) → CurrentLog
-log_at number entries end = record { number = number; entries = entries; end = end }
+abbrev pub log_at : (number version : ℕ) → List Logged → (end : ℕ) → CurrentLog
+log_at number version entries end = record { number = number; version = version; entries = entries; end = end }
 
-pub swapped_damage : (k : Kept) (number : ℕ) (entries : List Logged) (end batch : ℕ) → least_of (batches_that_matter k entries) ≡ Some batch
-    → with_entries (log_at number entries end) k (unless_swapped (least_of (batches_that_matter k entries))) ≡ Err (absent (named Swap batch))
-swapped_damage k number entries end batch is = ap (λ (least : Option ℕ). with_entries (log_at number entries end) k (unless_swapped least)) is
+pub swapped_damage : (k : Kept) (number version : ℕ) (entries : List Logged) (end batch : ℕ) → least_of (batches_that_matter k entries) ≡ Some batch
+    → with_entries (log_at number version entries end) k (unless_swapped (least_of (batches_that_matter k entries))) ≡ Err (absent (named Swap batch))
+swapped_damage k number version entries end batch is = ap (λ (least : Option ℕ). with_entries (log_at number version entries end) k (unless_swapped least)) is
 
-pub entries_alone : (k : Kept) (number : ℕ) (entries : List Logged) (end : ℕ) → least_of (batches_that_matter k entries) ≡ None
-    → with_entries (log_at number entries end) k (unless_swapped (least_of (batches_that_matter k entries))) ≡ fitted number (replayed no_files k entries)
-entries_alone k number entries end is = ap (λ (least : Option ℕ). with_entries (log_at number entries end) k (unless_swapped least)) is
+pub entries_alone : (k : Kept) (number version : ℕ) (entries : List Logged) (end : ℕ) → least_of (batches_that_matter k entries) ≡ None
+    → with_entries (log_at number version entries end) k (unless_swapped (least_of (batches_that_matter k entries))) ≡ fitted number (replayed no_files k entries)
+entries_alone k number version entries end is = ap (λ (least : Option ℕ). with_entries (log_at number version entries end) k (unless_swapped least)) is
 
 -- ---- the snapshot
 
@@ -141,9 +141,9 @@ own_flow flow lot =
 
 -- what is kept, by the current log in memory
 pub found_by : (flow : Flow) (lot : ℕ) (held mid : Files) (state : LogState) (entries : List Logged) (number : Option ℕ) (kept : Result Kept Damage) → mid ≡ held → number ≡ state.number
-    → current_log held ≡ Ok (log_with state entries) → behind_log flow lot mid (Ok (numbered_log number entries state.end)) ≡ kept → kept_in flow lot held ≡ kept
+    → current_log held ≡ Ok (log_with state entries) → behind_log flow lot mid (Ok (numbered_log number state.version entries state.end)) ≡ kept → kept_in flow lot held ≡ kept
 found_by flow lot held mid state entries number kept same is current read =
     by_current flow lot held (log_with state entries) current
-    ∙ ap (λ (n : Option ℕ). behind_log flow lot held (Ok (numbered_log n entries state.end))) (sym is)
-    ∙ ap (λ (files : Files). behind_log flow lot files (Ok (numbered_log number entries state.end))) (sym same)
+    ∙ ap (λ (n : Option ℕ). behind_log flow lot held (Ok (numbered_log n state.version entries state.end))) (sym is)
+    ∙ ap (λ (files : Files). behind_log flow lot files (Ok (numbered_log number state.version entries state.end))) (sym same)
     ∙ read

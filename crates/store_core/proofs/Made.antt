@@ -20,6 +20,7 @@ use Rattle.flowfile_wal.specs.Current.{CurrentLog}
 use Rattle.flowfile_wal.specs.Steps.{IsClosedIn}
 use Rattle.flowfile_wal.proofs.Beginnings.{begun_in}
 use Rattle.flowfile_wal.proofs.States.{begun_ready}
+use Rattle.record_codec.specs.declared.TheConstants.{FORMAT_VERSION}
 use Rattle.store_core.specs.Agreement.{IsUnmade}
 use Rattle.store_core.specs.Flow.{Flow, agrees_with}
 use Rattle.store_core.specs.Kept.{kept_in, snapshot_for, of_flow, least_of, unless_swapped, with_entries, behind_snapshot}
@@ -34,10 +35,10 @@ use Rattle.store_core.proofs.Opening.{stands_whole}
 
 -- the log of a store that was just made
 abbrev pub first_log : CurrentLog
-first_log = record { number = 1; entries = []; end = 47 }
+first_log = record { number = 1; version = FORMAT_VERSION; entries = []; end = 47 }
 
 pub made_current : (k : Kept) (files : Files) → IsNewStore k files → IsClosedIn first_log files
-made_current k files made = begun_ready 1 files (begun_in 1 files (omega arith) made.log.begun made.log.greater)
+made_current k files made = begun_ready FORMAT_VERSION 1 files (begun_in FORMAT_VERSION 1 files refl (refl, omega arith) made.log.begun made.log.greater)
 
 of_agreed : (flow : Flow) (k : Kept) (agrees : Bool) → agrees_with flow k ≡ agrees → agrees ≡ true → of_flow flow (snapshot_file 1) (Ok k) ≡ Ok k
 of_agreed flow k agrees is true_is = ap (λ (b : Bool). cond b (Ok k) (Err (Form (snapshot_file 1) 0))) (is ∙ true_is)

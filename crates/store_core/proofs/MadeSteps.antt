@@ -13,6 +13,7 @@ use Rattle.flowfile_wal.specs.Steps.{IsBegunIn}
 use Rattle.flowfile_wal.proofs.Beginnings.{begun_in}
 use Rattle.checkpoint_store.specs.Begun.{MayBegin, IsBegun, IsBegunOrNot, log_file}
 use Rattle.checkpoint_store.specs.Snapshot.{snapshot, snapshot_file}
+use Rattle.record_codec.specs.declared.TheConstants.{FORMAT_VERSION}
 use Rattle.store_core.specs.Agreement.{IsUnmade}
 use Rattle.store_core.specs.Opened.{IsNewStore}
 use Rattle.store_core.proofs.Reviving.{unmade_log, made_log}
@@ -50,8 +51,8 @@ log_step k old new was staged step = by_here step.here
 whole_step : (k : Kept) (old new : Files) → IsUnmade old → IsStaged k old → At (log_file 1) (λ before now. IsBegunOrNot FORMAT_VERSION 1 now) old new → IsBegun FORMAT_VERSION 1 new → IsNewStore k new
 whole_step k old new was staged step begun = made_log k old new was staged.begin.greater (staged.rest, staged.snapshot) (record { here = begun.begun; others = step.others })
 
-pub begun_files : (files : Files) → IsBegun FORMAT_VERSION 1 files → IsBegunIn 1 files
-begun_files files begun = begun_in 1 files (omega arith) begun.begun begun.greater
+pub begun_files : (files : Files) → IsBegun FORMAT_VERSION 1 files → IsBegunIn FORMAT_VERSION 1 files
+begun_files files begun = begun_in FORMAT_VERSION 1 files refl (refl, omega arith) begun.begun begun.greater
 
 module _ {D : Type 0} (moment : D → ℕ) (images : D → ℕ → Files → Type 0) where
   pub since_unmade : (k : Kept) (old new : D) → Since moment images old new IsUnmade → Since moment images old new (Makes k)

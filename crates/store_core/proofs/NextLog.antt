@@ -10,6 +10,7 @@ use Rattle.disk_trait.proofs.Search.{greatest_found, greatest_is}
 use Rattle.flowfile_record.specs.Encoding.{IsNumber}
 use Rattle.flowfile_record.specs.Stored.{Kept}
 use Rattle.flowfile_record.specs.declared.stored.SwapBatch.{SwapBatch}
+use Rattle.record_codec.specs.declared.TheConstants.{FORMAT_VERSION}
 use Rattle.record_codec.specs.declared.log.TheConstants.{OPEN_GATE}
 use Rattle.record_codec.specs.Frames.{IsPassedOver}
 use Rattle.record_codec.specs.declared.TheConstants.{FORMAT_VERSION}
@@ -112,10 +113,10 @@ module _ (number next : ℕ) (old new : Files) (up : number < next) (step : Touc
 -- ---- the next log, once it has taken over
 
 abbrev pub next_log : ℕ → CurrentLog
-next_log number = record { number = number; entries = []; end = 47 }
+next_log number = record { number = number; version = FORMAT_VERSION; entries = []; end = 47 }
 
 pub taken_current : (number : ℕ) (k : Kept) (files : Files) → IsNumber number → HasTakenOver number k files → IsClosedIn (next_log number) files
-taken_current number k files is taken = begun_ready number files (begun_in number files is taken.log.begun taken.log.greater)
+taken_current number k files is taken = begun_ready FORMAT_VERSION number files (begun_in FORMAT_VERSION number files refl (refl, is) taken.log.begun taken.log.greater)
 
 -- what is kept is of its own flow
 of_its_flow : (k : Kept) → agrees_with (flow_in k) k ≡ true
