@@ -20,7 +20,6 @@ use Rattle.flowfile_wal.specs.Current.{CurrentLog}
 use Rattle.flowfile_wal.specs.Steps.{IsClosedIn}
 use Rattle.flowfile_wal.proofs.Beginnings.{begun_in}
 use Rattle.flowfile_wal.proofs.States.{begun_ready}
-use Rattle.record_codec.specs.declared.TheConstants.{FORMAT_VERSION}
 use Rattle.store_core.specs.Agreement.{IsUnmade}
 use Rattle.store_core.specs.Flow.{Flow, agrees_with}
 use Rattle.store_core.specs.Kept.{kept_in, snapshot_for, of_flow, least_of, unless_swapped, with_entries, behind_snapshot}

@@ -13,7 +13,6 @@ use Rattle.flowfile_wal.specs.Steps.{IsBegunIn}
 use Rattle.flowfile_wal.proofs.Beginnings.{begun_in}
 use Rattle.checkpoint_store.specs.Begun.{MayBegin, IsBegun, IsBegunOrNot, log_file}
 use Rattle.checkpoint_store.specs.Snapshot.{snapshot, snapshot_file}
-use Rattle.record_codec.specs.declared.TheConstants.{FORMAT_VERSION}
 use Rattle.store_core.specs.Agreement.{IsUnmade}
 use Rattle.store_core.specs.Opened.{IsNewStore}
 use Rattle.store_core.proofs.Reviving.{unmade_log, made_log}

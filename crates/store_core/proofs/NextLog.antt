@@ -13,7 +13,6 @@ use Rattle.flowfile_record.specs.declared.stored.SwapBatch.{SwapBatch}
 use Rattle.record_codec.specs.declared.TheConstants.{FORMAT_VERSION}
 use Rattle.record_codec.specs.declared.log.TheConstants.{OPEN_GATE}
 use Rattle.record_codec.specs.Frames.{IsPassedOver}
-use Rattle.record_codec.specs.declared.TheConstants.{FORMAT_VERSION}
 use Rattle.checkpoint_store.specs.Begun.{IsBegunOrNot, MayBegin, log_file}
 use Rattle.checkpoint_store.specs.Consistent.{IsConsistent}
 use Rattle.checkpoint_store.specs.Reading.{snapshot_of}
