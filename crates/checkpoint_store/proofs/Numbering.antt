@@ -1,15 +1,23 @@
 -- What joins items at their end, by its number.
-use Rattle.std.proofs.Common.{◌≡◌, ℕ, suc, ◌+◌, ◌<◌, ◌≤◌, ◌==◌, ◌||◌, ◌&&◌, zero, Bool, true, false, List, [], ◌∷◌, ◌++◌, length, map, All, None, refl, sym, ap, ◌∙◌, arith, length-append}
-use Rattle.std.specs.List.{sum, list_any}
+use Rattle.std.proofs.Common.{◌≡◌, ℕ, suc, ◌+◌, ◌*◌, ◌<◌, ◌≤◌, ◌==◌, ◌||◌, ◌&&◌, zero, Bool, true, false, List, [], ◌∷◌, ◌++◌, length, map, All, None, refl, sym, ap, ◌∙◌, arith, length-append}
+use Rattle.std.specs.List.{sum, list_any, flat_map}
 use Rattle.std.specs.Prelude.{nat_lt}
 use Rattle.std.proofs.lemmas.Bool.{ltb-true}
 use Rattle.std.proofs.lemmas.Bool.Decides.{nat_tests}
 use Rattle.std.proofs.lemmas.List.Sums.{sum_by-cons}
+use Rattle.std.proofs.lemmas.List.Concat.{flat_map-cons}
 use Rattle.std.proofs.lemmas.List.Elements.{All-append}
 use Rattle.flowfile_record.specs.NumberedItems.{item_of, with_item}
 use Rattle.flowfile_record.specs.declared.limits.TheConstants.{NUMBER_LIMIT, LIVE_FILES_MAX}
 use Rattle.flowfile_record.specs.Stored.{Kept}
 use Rattle.flowfile_record.specs.declared.stored.ActiveFile.{ActiveFile}
+use Rattle.record_codec.specs.ActiveFile.{active_file}
+use Rattle.record_codec.specs.Snapshot.{kind_code}
+use Rattle.record_codec.specs.declared.snapshot.SnapshotKind.TheVariants as kinds
+use Rattle.record_codec.proofs.Blocks.{length-block}
+use Rattle.record_codec.proofs.Sizes.{active_size}
+use Rattle.checkpoint_store.specs.Consistent.{record_size}
+use Rattle.checkpoint_store.specs.Snapshot.{file_block}
 use Rattle.checkpoint_store.specs.Reading.{last_number, file_has_place}
 use Rattle.checkpoint_store.specs.SoFar.{AreNumberedTo}
 

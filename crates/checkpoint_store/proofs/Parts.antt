@@ -18,7 +18,7 @@ use Rattle.checkpoint_store.specs.Snapshot.{blocks_in}
 abbrev done : {A : Type 0} → A → Result A CodecError
 done x = Ok x
 
-read_ok : {A : Type 0} (size : ℕ) (x : A) (read : Result A ℕ) → done x ≡ answer size read → read ≡ Ok x
+pub read_ok : {A : Type 0} (size : ℕ) (x : A) (read : Result A ℕ) → done x ≡ answer size read → read ≡ Ok x
 read_ok size x (Ok y) e = cc
 read_ok size x (Err left) e = absurd cc
 

@@ -1,12 +1,14 @@
 -- What the bytes that are read without memory tell of a block.
 use Rattle.std.proofs.Common.{◌≡◌, ◌≢◌, ◌==◌, ◌&&◌, ◌||◌, ℕ, ◌+◌, ◌<◌, ◌≤◌, min, nat_lt, ltb, eqb, cond, Bool, true, false, List, [], ◌∷◌, length, take, drop, Result, Ok, Err, Option, None, Some, get_or, subst, refl, sym, ap, ◌∙◌, inl, inr, arith, is_ok}
 use Rattle.std.specs.Int.{Width, w16, w64, byte_len, from_be_bytes}
-use Rattle.std.proofs.lemmas.Bool.{cases_lt, ltb-false, le-ltb, eqb-true, true≢false}
+use Rattle.std.proofs.lemmas.Bool.{cases_lt, ltb-false, le-ltb, eqb-true, and_parts, true≢false}
 use Rattle.std.proofs.lemmas.Bool.Decides.{nat_tests}
 use Rattle.std.proofs.lemmas.List.{length-drop, length-take, take-take, take_all}
 use Rattle.flowfile_record.specs.Field.{IsBytes}
 use Rattle.flowfile_record.specs.Reading.{Reading, ◌>>=◌, ◌then◌, made, such, whole, byte_at, uint_at, raw_at, number_at, first_at, text_at, numbers_at}
 use Rattle.flowfile_record.specs.Stored.{Kept}
+use Rattle.flowfile_record.specs.declared.error.CodecError.{CodecError}
+use Rattle.flowfile_record.specs.declared.error.CodecError.TheVariants as codec
 use Rattle.flowfile_record.specs.declared.limits.TheConstants.{STORE_LIMIT}
 use Rattle.flowfile_record.specs.declared.stored.SwapBatch.{SwapBatch}
 use Rattle.flowfile_record.proofs.FieldLaws.{bind_ok, guard_fails, guard_holds, ok_is, whole_takes}
@@ -19,6 +21,8 @@ use Rattle.record_codec.proofs.Fronts.{then_ok}
 use Rattle.record_codec.proofs.StoreHeads.{HasFront, front_of_head, head_is}
 use Rattle.record_codec.specs.declared.head.Head.{Head}
 use Rattle.checkpoint_store.specs.Memory.{head_front_at}
+use Rattle.checkpoint_store.specs.Unfit.{unfit_of}
+use Rattle.checkpoint_store.specs.declared.so_far.Unfit.TheVariants as unfit
 use Rattle.checkpoint_store.specs.Reading.{Next, are_distinct_names, has_counters, has_counts, kept_of_head, batch_next, end_next, head_next, first_block_kept, next_in}
 
 -- ---- how many bytes a reading takes
@@ -139,7 +143,7 @@ ok_first (Ok a) s e = refl
 ok_first (Err left) s e = absurd cc
 
 -- what stands before the lists can be read where more can
-abbrev any_front : List ℕ → Result (ℕ × (ℕ × List ℕ) × List ℕ) ℕ
+abbrev any_front : Reading (ℕ × (ℕ × List ℕ))
 any_front = version_at then store_at then raw_at 32
 
 front_first : {A : Type 0} (lists : Reading A) (bytes : List ℕ) → is_ok ((version_at then store_at then raw_at 32 then lists) bytes) ≡ true → is_ok (any_front bytes) ≡ true
@@ -182,9 +186,12 @@ front_of : (version b : ℕ) (rest : List ℕ) → is_ok (head_front_at version 
 unfolding version_at byte_at
 front_of version b rest = twice_guarded (is_version b) version b rest (length (b ∷ rest)) (store_at then raw_at 32)
 
-pub lists_take : (version : ℕ) (bytes : List ℕ) → get_or bytes 0 0 ≡ version → head_takes_memory bytes ≡ true → is_ok (head_front_at version bytes) ≡ true
+none_read : is_ok (any_front []) ≡ false
 unfolding version_at byte_at
-lists_take version [] first takes = absurd (true≢false (sym (lists_take_any [] takes)))
+none_read = refl
+
+pub lists_take : (version : ℕ) (bytes : List ℕ) → get_or bytes 0 0 ≡ version → head_takes_memory bytes ≡ true → is_ok (head_front_at version bytes) ≡ true
+lists_take version [] first takes = absurd (true≢false (sym (lists_take_any [] takes) ∙ none_read))
 lists_take version (b ∷ rest) first takes =
     let asked_for : (b == version) ≡ true = ap (λ (v : ℕ). b == v) (sym first) ∙ same_version b in
     front_of version b rest ∙ rw asked_for refl ∙ sym (any_of b rest) ∙ lists_take_any (b ∷ rest) takes
@@ -319,3 +326,28 @@ first_byte bytes h fits e =
     let is = (whole_takes head_at head IsHead head_is bytes h fits e).1 in
     let at = begins h in
     (omega (arith, ap length is, at.0), ap (λ (l : List ℕ). get_or l 0 0) is ∙ at.1)
+
+abbrev begins_with : ℕ → List ℕ → Bool
+begins_with version bytes = nat_lt 0 (length bytes) && (get_or bytes 0 0 == version)
+
+-- bytes that don't begin with the version, or are none
+pub other_version : (version : ℕ) (bytes : List ℕ) → IsBytes bytes → begins_with version bytes ≡ false → head_next version (whole head_at bytes) ≡ None
+other_version version bytes fits other =
+    head_refused version (whole head_at bytes) (λ h e same.
+    let begin = first_byte bytes h fits e in
+    let some = begin.0 in
+    let is : get_or bytes 0 0 ≡ version = begin.1 ∙ same in
+    let first : nat_lt 0 (length bytes) ≡ true = grind (arith, nat_tests, some) in
+    let second : (get_or bytes 0 0 == version) ≡ true = grind (arith, nat_tests, is) in
+    true≢false (sym (both_hold _ _ first second) ∙ other))
+  where
+    both_hold : (a b : Bool) → a ≡ true → b ≡ true → (a && b) ≡ true
+    both_hold a b p q = rw (p, q) refl
+
+pub this_version : (version : ℕ) (bytes : List ℕ) → begins_with version bytes ≡ true → get_or bytes 0 0 ≡ version
+this_version version bytes is = eqb-true (get_or bytes 0 0) version (and_parts (nat_lt 0 (length bytes)) (get_or bytes 0 0 == version) is).1
+
+-- a refusal for want of memory
+pub memory_only : (error : CodecError) → unfit_of error ≡ unfit.Memory → error ≡ codec.Memory
+memory_only codec.Memory e = refl
+memory_only (codec.Form at) e = absurd cc

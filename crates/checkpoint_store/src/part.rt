@@ -1,5 +1,5 @@
 //! What a block of a snapshot says.
-ghost use Rattle.std.specs.Prelude.{◌≡◌, ◌≤◌, ◌⊎◌, ◌&&◌, true, false, length, is_ok, IsTrue, IfOk, OnOk, IsErrOf, Some, None};
+ghost use Rattle.std.specs.Prelude.{◌≡◌, ◌≤◌, ◌⊎◌, ◌==◌, ◌&&◌, nat_lt, slice_index, true, false, length, is_ok, IsTrue, IfOk, OnOk, IsErrOf, Some, None};
 ghost use Rattle.flowfile_record.specs.Reading.{whole};
 ghost use Rattle.flowfile_record.specs.Stored.{Kept, kept_of};
 ghost use Rattle.record_codec.specs.ActiveFile.{active_file_at, active_front_at};
@@ -14,8 +14,8 @@ ghost use Rattle.checkpoint_store.specs.SoFar.{IsSoFar, next_is};
 use crate::so_far::{SoFar, Unfit};
 use flowfile_record::Text;
 use record_codec::{
-    Head, PAYLOAD_MAX, SECOND_VERSION, SnapshotKind, read_active_file, read_head, read_snapshot_end,
-    read_swap_batch,
+    Head, PAYLOAD_MAX, SECOND_VERSION, SnapshotKind, read_active_file, read_head,
+    read_snapshot_end, read_swap_batch,
 };
 use std::alloc::Global;
 
@@ -47,7 +47,7 @@ fn take_head(alloc: Global, version: u8, payload: &[u8]) -> Result<SoFar, Unfit>
     ensures memory { IsErrOf result Unfit.Memory → IsTrue (is_ok (head_front_at version payload.now)) }
 {
     // Another version is told before memory is taken for the lists.
-    if payload.is_empty() || payload[0] != version {
+    if !is_of_version(version, payload) {
         return Err(Unfit::Form);
     }
     let head = read_head(alloc, payload)?;
@@ -55,6 +55,13 @@ fn take_head(alloc: Global, version: u8, payload: &[u8]) -> Result<SoFar, Unfit>
         return Err(Unfit::Form);
     }
     Ok(SoFar::new(alloc, head))
+}
+
+// Whether a Head is of this version, which its first byte tells.
+fn is_of_version(version: u8, payload: &[u8]) -> bool
+    ensures { result ≡ (nat_lt 0 (length payload.now) && (slice_index payload.now 0 == version)) }
+{
+    !payload.is_empty() && payload[0] == version
 }
 
 // Whether no connection stands twice, the counters are at least 1, and there is a count for each processor.

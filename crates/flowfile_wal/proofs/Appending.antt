@@ -1,17 +1,17 @@
--- What a stop leaves of a log while an entry is added.
-use Rattle.std.proofs.Common.{◌≡◌, ◌≢◌, ◌⊎◌, inl, inr, ℕ, ◌+◌, ◌<◌, List, [], ◌∷◌, ◌++◌, length, get_or, take, drop, sym, ◌∙◌, ap, arith, append_assoc, length-append, length-take, take-append-drop}
+-- What a stop leaves of a log while the entries of a block are added.
+use Rattle.std.proofs.Common.{◌≡◌, ◌≢◌, ◌⊎◌, inl, inr, ℕ, ◌+◌, ◌<◌, List, [], ◌∷◌, ◌++◌, length, get_or, take, drop, sym, ◌∙◌, ap, subst, arith, append_assoc, length-append, length-take, take-append-drop}
 use Rattle.std.proofs.lemmas.List.{append-nil, take_at, drop_at, take_all, drop_all, drop_more}
 use Rattle.std.proofs.lemmas.Bool.{cases_eq}
 use Rattle.disk_trait.specs.Files.{Overwritten, Torn}
 use Rattle.record_codec.specs.Block.{block}
-use Rattle.record_codec.specs.EntryEncoding.{entry as encoding, kind_of}
+use Rattle.record_codec.specs.Frames.{frame}
 use Rattle.record_codec.specs.declared.entry.LogEntry.{LogEntry}
 use Rattle.record_codec.specs.declared.log.TheConstants.{OPEN_GATE, CLOSED_GATE}
 use Rattle.record_codec.specs.LogEntries.{log_of}
-use Rattle.record_codec.proofs.Logs.{ends_shut, one_entry_more}
-use Rattle.flowfile_wal.specs.Current.{CurrentLog}
-use Rattle.flowfile_wal.specs.Steps.{SameLog, EndsClosed, IsClosedLog, IsFrame, OneMore, frame, with_entry}
-use Rattle.flowfile_wal.proofs.Says.{same_log, more_log}
+use Rattle.record_codec.proofs.Logs.{ends_shut, entries_more}
+use Rattle.flowfile_wal.specs.Current.{CurrentLog, log_in}
+use Rattle.flowfile_wal.specs.Steps.{SameLog, EndsClosed, IsClosedLog, IsFrame, MoreEntries, with_block}
+use Rattle.flowfile_wal.proofs.Says.{says, same_log, more_log}
 
 -- a closed gate behind so many bytes
 pub ends_closed : (front : List ℕ) (end : ℕ) (bytes : List ℕ) → bytes ≡ front ++ CLOSED_GATE ∷ [] → length front ≡ end → EndsClosed end bytes
@@ -34,8 +34,8 @@ module _ (log : CurrentLog) (bytes : List ℕ) (rest : IsClosedLog log bytes) wh
   -- a log at rest says the same, whatever stands behind its last gate, unless the gate opens
   behind_shut : (c : List ℕ) (gate : ℕ) (behind : List ℕ) → gate ≢ OPEN_GATE → c ≡ front ++ gate ∷ behind → SameLog log.number bytes c
   behind_shut c gate behind isnt is =
-      same_log log.number bytes log rest.counted rest.says c
-      (λ read reads end. ap log_of is ∙ ap (λ (n : ℕ). log_of (take n bytes ++ gate ∷ behind)) (sym end) ∙ ends_shut bytes read gate behind reads isnt)
+      same_log log.number bytes log rest.counted rest.says c (gate ∷ behind) is
+      (λ read reads end. ap (log_of log.version) is ∙ ap (λ (n : ℕ). log_of log.version (take n bytes ++ gate ∷ behind)) (sym end) ∙ ends_shut log.version bytes read gate behind reads isnt)
 
   pub behind_closed : (c behind : List ℕ) → c ≡ front ++ CLOSED_GATE ∷ behind → SameLog log.number bytes c
   behind_closed c behind is = behind_shut c CLOSED_GATE behind (λ e. absurd cc) is
@@ -57,21 +57,23 @@ module _ (log : CurrentLog) (bytes : List ℕ) (rest : IsClosedLog log bytes) wh
       ∙ ap (λ (l : List ℕ). l ++ bs) rest.closed
       ∙ append_assoc front (CLOSED_GATE ∷ []) bs
 
-  module _ (entry : LogEntry) (bs : List ℕ) (is_frame : IsFrame entry bs) where
+  module _ (entries : List LogEntry) (bs : List ℕ) (is_frame : IsFrame log.version entries bs) where
     -- the gate before the block opens
-    pub opened_gate : (c : List ℕ) → c ≡ front ++ OPEN_GATE ∷ bs → IsClosedLog (with_entry log entry) c
+    pub opened_gate : (c : List ℕ) → c ≡ front ++ OPEN_GATE ∷ bs → IsClosedLog (with_block log entries (length bs)) c
     opened_gate c is =
-        let last = block (kind_of entry) (encoding entry) in
-        let opens : c ≡ front ++ OPEN_GATE ∷ (last ++ CLOSED_GATE ∷ []) = is ∙ ap (λ (l : List ℕ). front ++ OPEN_GATE ∷ l) is_frame.is in
-        let more = more_log log.number bytes log rest.counted rest.says c entry
-        (λ read reads end. ap log_of opens ∙ ap (λ (n : ℕ). log_of (take n bytes ++ OPEN_GATE ∷ (last ++ CLOSED_GATE ∷ []))) (sym end)
-        ∙ one_entry_more bytes read entry reads is_frame.encodes is_frame.small) in
+        let last = block is_frame.kind is_frame.payload in
+        let tail = OPEN_GATE ∷ (last ++ CLOSED_GATE ∷ []) in
+        let opens : c ≡ front ++ tail = is ∙ ap (λ (l : List ℕ). front ++ OPEN_GATE ∷ l) is_frame.is in
+        let long_frame : length bs ≡ length last + 1 = omega (arith, ap length is_frame.is, length-append last (CLOSED_GATE ∷ [])) in
+        let more = more_log log.number bytes log rest.counted rest.says c tail entries (length last) opens
+        (λ read reads end. ap (log_of log.version) opens ∙ ap (λ (n : ℕ). log_of log.version (take n bytes ++ tail)) (sym end)
+        ∙ entries_more log.version bytes read is_frame.kind is_frame.payload entries reads is_frame.says is_frame.belong is_frame.small) in
         record {
           counted = more.0;
-          says = more.1;
-          closed = ends_closed (front ++ OPEN_GATE ∷ last) (log.end + length (frame entry)) c
+          says = more.1 ∙ ap (λ (n : ℕ). says (with_block log entries n)) (sym long_frame);
+          closed = ends_closed (front ++ OPEN_GATE ∷ last) (log.end + length bs) c
               (opens ∙ sym (append_assoc front (OPEN_GATE ∷ last) (CLOSED_GATE ∷ [])))
-              (omega (arith, length-append front (OPEN_GATE ∷ last), length-append last (CLOSED_GATE ∷ []), long_front));
+              (omega (arith, length-append front (OPEN_GATE ∷ last), long_front, long_frame));
         }
 
     abbrev staged : List ℕ
@@ -106,8 +108,13 @@ module _ (log : CurrentLog) (bytes : List ℕ) (rest : IsClosedLog log bytes) wh
         ∙ ap (λ (l : List ℕ). front ++ (OPEN_GATE ∷ []) ++ l) drop_staged
         ∙ append_assoc front (OPEN_GATE ∷ []) bs
 
--- the log with the entry, of whichever log these bytes are
-pub has_one_more : (log : CurrentLog) (bytes : List ℕ) → IsClosedLog log bytes → (number : ℕ) (entry : LogEntry) (bs : List ℕ) → IsFrame entry bs → (c : List ℕ) → c ≡ take log.end bytes ++ OPEN_GATE ∷ bs → OneMore number entry bytes c
-has_one_more log bytes rest number entry bs is_frame c is = λ other numbered at_rest.
-    let end : log.end ≡ other.end = omega (arith, closed_length log.end bytes rest.closed, closed_length other.end bytes at_rest.closed) in
-    opened_gate other bytes at_rest entry bs is_frame c (is ∙ ap (λ (n : ℕ). take n bytes ++ OPEN_GATE ∷ bs) end)
+-- bytes are one log
+one_log : (number : ℕ) (bytes : List ℕ) (a b : CurrentLog) → log_in number bytes ≡ says a → log_in number bytes ≡ says b → a ≡ b
+one_log number bytes a b one other = let same : says a ≡ says b = sym one ∙ other in cc
+
+-- the log with the entries, of whichever log these bytes are
+pub has_more : (log : CurrentLog) (bytes : List ℕ) → IsClosedLog log bytes → (entries : List LogEntry) (bs : List ℕ) → IsFrame log.version entries bs → (c : List ℕ) → c ≡ take log.end bytes ++ OPEN_GATE ∷ bs
+    → MoreEntries log.number entries (length bs) bytes c
+has_more log bytes rest entries bs is_frame c is = λ other numbered at_rest.
+    let same : log ≡ other = one_log log.number bytes log other rest.says (subst (λ (n : ℕ). log_in n bytes ≡ says other) numbered at_rest.says) in
+    subst (λ (l : CurrentLog). IsClosedLog (with_block l entries (length bs)) c) same (opened_gate log bytes rest entries bs is_frame c is)

@@ -1,5 +1,5 @@
 -- What follows of all logs where one log's file changed.
-use Rattle.std.proofs.Common.{◌≡◌, ◌≢◌, ⊎_elim, ℕ, ◌^◌, true, List, refl, sym, ◌∙◌, ap, subst}
+use Rattle.std.proofs.Common.{◌≡◌, ◌≢◌, ⊎_elim, ℕ, ◌^◌, true, List, [], ◌∷◌, length, refl, sym, ◌∙◌, ap, subst}
 use Rattle.std.specs.Prelude.{Option, None, Some, Result, Ok, Err}
 use Rattle.std.proofs.lemmas.Bool.{cases_eq}
 use Rattle.disk_trait.specs.Files.{Files, At, named}
@@ -7,9 +7,10 @@ use Rattle.disk_trait.specs.declared.damage.Damage.{Damage}
 use Rattle.disk_trait.specs.declared.file_name.FileKind.TheVariants.{Log}
 use Rattle.disk_trait.specs.declared.file_name.FileName.{FileName}
 use Rattle.disk_trait.proofs.Search.{greatest_found, greatest_agrees}
+use Rattle.record_codec.specs.Frames.{counts, entry_frame}
 use Rattle.record_codec.specs.declared.entry.LogEntry.{LogEntry}
-use Rattle.flowfile_wal.specs.Current.{CurrentLog, counts, current_number, log_in, of_some, log_of_number, current_log}
-use Rattle.flowfile_wal.specs.Steps.{SameLog, OneMore, IsClosedLog, IsClosedIn, with_entry}
+use Rattle.flowfile_wal.specs.Current.{CurrentLog, current_number, log_in, of_some, log_of_number, current_log}
+use Rattle.flowfile_wal.specs.Steps.{SameLog, MoreEntries, IsClosedLog, IsClosedIn, AddsEntry, with_block, with_entry}
 use Rattle.flowfile_wal.proofs.Says.{read_of}
 
 abbrev pub Said : Type 0
@@ -38,9 +39,6 @@ module _ (number : ℕ) (old new : Files) (step : List ℕ → List ℕ → Type
 
   pub counts_alike : counts (new (named Log number)) ≡ counts (old (named Log number)) → current_number new ≡ current_number old
   counts_alike same = same_number old new (each_log (λ k l n. counts n ≡ counts l) same (λ m l. refl))
-
-abbrev same_step : ℕ → List ℕ → List ℕ → Type 0
-same_step number = SameLog number
 
 by_number : (old new : Files) → ((m : ℕ) → log_in m (new (named Log m)) ≡ log_in m (old (named Log m))) → (n : Option ℕ) → log_of_number new n ≡ log_of_number old n
 by_number old new alike None = refl
@@ -101,10 +99,14 @@ at_rest log files is = let of = current_is files log is.current in record { coun
 pub closed_in : (log : CurrentLog) (files : Files) → current_number files ≡ Some log.number → IsClosedLog log (files (named Log log.number)) → IsClosedIn log files
 closed_in log files is rest = record { current = is_current files log log.number is rest.says; closed = rest.closed }
 
--- where the current log gets an entry, the current log has it
-pub with_one_more : (log : CurrentLog) (entry : LogEntry) (old new : Files) → IsClosedIn log old → At (named Log log.number) (OneMore log.number entry) old new → IsClosedIn (with_entry log entry) new
-with_one_more log entry old new was changed =
+-- where the current log gets the entries of a block, the current log has them
+pub with_one_block : (log : CurrentLog) (entries : List LogEntry) (size : ℕ) (old new : Files) → IsClosedIn log old → At (named Log log.number) (MoreEntries log.number entries size) old new
+    → IsClosedIn (with_block log entries size) new
+with_one_block log entries size old new was changed =
     let of = current_is old log was.current in
     let now = changed.here log refl (at_rest log old was) in
-    let number = counts_alike log.number old new (OneMore log.number entry) changed (now.counted ∙ sym of.counted) in
-    closed_in (with_entry log entry) new (number ∙ of.number) now
+    let number = counts_alike log.number old new (MoreEntries log.number entries size) changed (now.counted ∙ sym of.counted) in
+    closed_in (with_block log entries size) new (number ∙ of.number) now
+
+pub with_one_entry : (log : CurrentLog) (entry : LogEntry) (old new : Files) → IsClosedIn log old → AddsEntry log.number entry old new → IsClosedIn (with_entry log entry) new
+with_one_entry log entry old new was changed = with_one_block log (entry ∷ []) (length (entry_frame entry)) old new was changed

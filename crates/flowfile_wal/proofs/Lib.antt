@@ -1,3 +1,4 @@
+pub mod Extents
 pub mod Says
 pub mod Appending
 pub mod Files
@@ -7,3 +8,4 @@ pub mod States
 pub mod Searching
 pub mod Reading
 pub mod Beginnings
+pub mod OneEntry

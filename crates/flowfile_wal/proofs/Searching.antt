@@ -10,7 +10,8 @@ use Rattle.disk_trait.specs.Files.{Files, named}
 use Rattle.disk_trait.specs.declared.file_name.FileKind.TheVariants.{Log}
 use Rattle.disk_trait.proofs.Search.{greatest_is, greatest_none}
 use Rattle.record_codec.specs.declared.log.TheConstants.{OPEN_GATE}
-use Rattle.flowfile_wal.specs.Current.{counts, current_number}
+use Rattle.record_codec.specs.Frames.{counts}
+use Rattle.flowfile_wal.specs.Current.{current_number}
 
 abbrev pub Rises : List ℕ → Type 0
 Rises xs = AllPairs (λ x y. x < y) xs

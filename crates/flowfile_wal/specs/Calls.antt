@@ -1,17 +1,23 @@
 -- What the calls of a log ask, and what they leave.
-use Rattle.std.specs.Prelude.{◌≡◌, ◌⊎◌, ℕ, ◌+◌, true, false, List, length, All, Result, Err, OnErr, IsErrOf}
+use Rattle.std.specs.Prelude.{◌≡◌, ◌⊎◌, ℕ, ◌+◌, true, false, List, [], ◌∷◌, length, All, Result, Err, OnErr, IsErrOf}
 use Rattle.disk_trait.specs.Faults.{CountsFaults}
 use Rattle.disk_trait.specs.Files.{Files}
 use Rattle.disk_trait.specs.Images.{After, IsOnly}
 use Rattle.record_codec.specs.EntryEncoding.{IsEntry}
+use Rattle.record_codec.specs.Frames.{entry_frame}
 use Rattle.record_codec.specs.declared.entry.LogEntry.{LogEntry}
-use Rattle.flowfile_wal.specs.Steps.{LogState, IsReadyIn, KeepsLog, AddsEntry}
+use Rattle.flowfile_wal.specs.Current.{log_bytes}
+use Rattle.flowfile_wal.specs.Steps.{LogState, RestsAt, IsReadyIn, KeepsLog, AddsEntries}
 use Rattle.flowfile_wal.specs.declared.error.LogError.{LogError}
 use Rattle.flowfile_wal.specs.declared.error.LogError.TheVariants.{Disk}
 
 -- all files that a stop may leave are so
 abbrev pub InEach : (Files → Type 0) → (Files → Type 0) → Type 0
 InEach left P = (c : Files) → left c → P c
+
+-- in all files that a stop may leave, the log of this number and version is at rest, with its last gate at this offset
+abbrev pub RestInEach : (number version end : ℕ) → (Files → Type 0) → Type 0
+RestInEach number version end left = InEach left (λ c. RestsAt number version end (log_bytes c number))
 
 -- each of these entries, which stand behind their gates' offsets, has an encoding
 abbrev pub HaveEncodings : List (ℕ × LogEntry) → Type 0
@@ -27,9 +33,15 @@ pub record LeavesReady (state : LogState) (held : Files) (left : Files → Type 
   pub ready : InEach left (IsReadyIn state)
   pub synced : IsOnly held left
 
--- one of these files, whose log says what it said; or those that were held, with this entry more in their log
-abbrev pub WithOrWithout : ℕ → LogEntry → (Files → Type 0) → Files → Files → Type 0
-WithOrWithout number entry left held c = After (KeepsLog number) left c ⊎ AddsEntry number entry held c
+-- one of these files, whose log says what it said; or those that were held, with these entries more in their log
+abbrev pub WithOrWithout : ℕ → List LogEntry → (size : ℕ) → (Files → Type 0) → Files → Files → Type 0
+WithOrWithout number entries size left held c =
+    After (KeepsLog number) left c ⊎ AddsEntries number entries size held c
+
+-- and with this entry alone
+abbrev pub WithOrWithoutEntry : ℕ → LogEntry → (Files → Type 0) → Files → Files → Type 0
+WithOrWithoutEntry number entry left held c =
+    WithOrWithout number (entry ∷ []) (length (entry_frame entry)) left held c
 
 -- the log in memory with a frame of these bytes more
 abbrev pub with_frame : LogState → List ℕ → LogState

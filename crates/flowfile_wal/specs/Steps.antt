@@ -1,30 +1,36 @@
 -- What a log holds in memory, and what calls leave of its file.
-use Rattle.std.specs.Prelude.{◌≡◌, ◌≢◌, ◌⊎◌, ℕ, ◌+◌, ◌<◌, ◌≤◌, slice_index, Bool, true, List, [], ◌∷◌, ◌++◌, length, take, Option, None, Some, Ok}
+use Rattle.std.specs.Prelude.{◌≡◌, ◌≢◌, ℕ, ◌+◌, ◌<◌, ◌≤◌, slice_index, Bool, true, IsTrue, List, [], ◌∷◌, ◌++◌, length, take, Option, None, Some, Ok}
+use Rattle.std.specs.List.{list_all}
 use Rattle.disk_trait.specs.Files.{Files, At, named}
 use Rattle.disk_trait.specs.declared.file_name.FileKind.TheVariants.{Log}
-use Rattle.record_codec.specs.Block.{block}
-use Rattle.record_codec.specs.EntryEncoding.{entry as encoding, kind_of, IsEntry}
+use Rattle.record_codec.specs.BlockEntries.{entries_in}
+use Rattle.record_codec.specs.EntryEncoding.{IsEntry}
+use Rattle.record_codec.specs.Frames.{frame, entry_frame, begun_log, counts}
+use Rattle.record_codec.specs.LogEntries.{belongs, gated}
+use Rattle.record_codec.specs.Version.{is_known}
 use Rattle.record_codec.specs.declared.block.TheConstants.{PAYLOAD_MAX}
 use Rattle.record_codec.specs.declared.entry.LogEntry.{LogEntry}
 use Rattle.record_codec.specs.declared.entry.LogEntry.TheVariants.{Begin}
-use Rattle.record_codec.specs.declared.log.TheConstants.{OPEN_GATE, CLOSED_GATE}
-use Rattle.flowfile_wal.specs.Current.{CurrentLog, log_bytes, counts, log_in, current_number, current_log}
+use Rattle.record_codec.specs.declared.log.TheConstants.{CLOSED_GATE}
+use Rattle.flowfile_wal.specs.Current.{CurrentLog, log_bytes, log_in, current_number, current_log}
 
--- what is in memory of a log: the number of the current one, the offset of its last gate, whether its end was mended,
--- and whether a call met a failure of the disk
+-- what is in memory of a log: the number of the current one, the version of its format, the offset of its last gate,
+-- whether its end was mended, and whether a call met a failure of the disk
 pub record LogState : Type 0 where
   pub number : Option ℕ
+  pub version : ℕ
   pub end : ℕ
   pub mended : Bool
   pub failed : Bool
 
 -- the current log with these entries, by what is in memory of it
-abbrev pub numbered_log : Option ℕ → List (ℕ × LogEntry) → ℕ → Option CurrentLog
-numbered_log None entries end = None
-numbered_log (Some number) entries end = Some (record { number = number; entries = entries; end = end })
+abbrev pub numbered_log : Option ℕ → (version : ℕ) → List (ℕ × LogEntry) → ℕ → Option CurrentLog
+numbered_log None version entries end = None
+numbered_log (Some number) version entries end =
+    Some (record { number = number; version = version; entries = entries; end = end })
 
 abbrev pub log_with : LogState → List (ℕ × LogEntry) → Option CurrentLog
-log_with state entries = numbered_log state.number entries state.end
+log_with state entries = numbered_log state.number state.version entries state.end
 
 -- ---- the log's file
 
@@ -34,9 +40,10 @@ SameLog number old new = (counts new ≡ counts old) × (log_in number new ≡ l
 
 -- these bytes are a log of this number, whose last gate stands at this offset
 pub record IsLogAt (number end : ℕ) (bytes : List ℕ) : Type 0 where
+  pub version : ℕ
   pub entries : List (ℕ × LogEntry)
   pub counted : counts bytes ≡ true
-  pub says : log_in number bytes ≡ Ok (record { number = number; entries = entries; end = end })
+  pub says : log_in number bytes ≡ Ok (record { number = number; version = version; entries = entries; end = end })
 
 -- the last byte is a closed gate, at this offset
 abbrev pub EndsClosed : ℕ → List ℕ → Type 0
@@ -52,41 +59,36 @@ pub record IsClosedLog (log : CurrentLog) (bytes : List ℕ) : Type 0 where
   pub says : log_in log.number bytes ≡ Ok log
   pub closed : EndsClosed log.end bytes
 
--- these bytes are a log of this number at rest, whose last gate stands at this offset
-abbrev pub RestsAt : ℕ → ℕ → List ℕ → Type 0
-RestsAt number end bytes = (log : CurrentLog) × (log.number ≡ number) × (log.end ≡ end) × IsClosedLog log bytes
+-- these bytes are a log of this number and version at rest, whose last gate stands at this offset
+pub record RestsAt (number version end : ℕ) (bytes : List ℕ) : Type 0 where
+  pub entries : List (ℕ × LogEntry)
+  pub rests : IsClosedLog (record { number = number; version = version; entries = entries; end = end }) bytes
 
--- the block of an entry with a closed gate behind it
-abbrev pub frame : LogEntry → List ℕ
-frame entry = block (kind_of entry) (encoding entry) ++ CLOSED_GATE ∷ []
+-- these bytes are the frame of a block with these entries, which may stand behind the Begin of a log of this version
+pub record IsFrame (version : ℕ) (entries : List LogEntry) (bytes : List ℕ) : Type 0 where
+  pub kind : ℕ
+  pub payload : List ℕ
+  pub small : length payload ≤ PAYLOAD_MAX
+  pub says : entries_in kind payload ≡ Some entries
+  pub later : kind ≢ 1
+  pub belong : IsTrue (list_all (belongs version) entries)
+  pub is : bytes ≡ frame kind payload
 
--- these bytes are the block of this entry, which may stand behind a log's Begin, with a closed gate behind it
-pub record IsFrame (entry : LogEntry) (bytes : List ℕ) : Type 0 where
-  pub encodes : IsEntry entry
-  pub small : length (encoding entry) ≤ PAYLOAD_MAX
-  pub later : kind_of entry ≢ 1
-  pub is : bytes ≡ frame entry
-
--- a log with one entry more
-abbrev pub with_entry : CurrentLog → LogEntry → CurrentLog
-with_entry log entry = record {
-  number = log.number;
-  entries = log.entries ++ (log.end, entry) ∷ [];
-  end = log.end + length (frame entry);
+-- a log with one block more, of these entries, whose frame has this size
+abbrev pub with_block : CurrentLog → List LogEntry → (size : ℕ) → CurrentLog
+with_block log entries size = record log {
+  entries = log.entries ++ gated log.end entries;
+  end = log.end + size;
 }
 
--- a step of a log's file that adds this entry
-abbrev pub OneMore : ℕ → LogEntry → List ℕ → List ℕ → Type 0
-OneMore number entry old new =
-    (log : CurrentLog) → log.number ≡ number → IsClosedLog log old → IsClosedLog (with_entry log entry) new
+-- and with the block of one entry
+abbrev pub with_entry : CurrentLog → LogEntry → CurrentLog
+with_entry log entry = with_block log (entry ∷ []) (length (entry_frame entry))
 
--- a log that has its Begin alone, and a closed gate behind it
-abbrev pub only_begun : ℕ → List ℕ
-only_begun number = OPEN_GATE ∷ frame (Begin number)
-
--- a log that is passed over where the current one is looked for: it has at most a byte, or its first gate isn't open
-abbrev pub IsPassedOver : List ℕ → Type 0
-IsPassedOver bytes = (length bytes ≤ 1) ⊎ (slice_index bytes 0 ≢ OPEN_GATE)
+-- a step of a log's file that adds these entries in one frame of this size
+abbrev pub MoreEntries : ℕ → List LogEntry → (size : ℕ) → List ℕ → List ℕ → Type 0
+MoreEntries number entries size old new = (log : CurrentLog) → log.number ≡ number → IsClosedLog log old
+    → IsClosedLog (with_block log entries size) new
 
 -- ---- all files
 
@@ -94,9 +96,13 @@ IsPassedOver bytes = (length bytes ≤ 1) ⊎ (slice_index bytes 0 ≢ OPEN_GATE
 abbrev pub KeepsLog : ℕ → Files → Files → Type 0
 KeepsLog number old new = At (named Log number) (SameLog number) old new
 
--- a step that adds this entry to the log of this number, and leaves each other file
+-- a step that adds these entries to the log of this number, in one frame of this size, and leaves each other file
+abbrev pub AddsEntries : ℕ → List LogEntry → (size : ℕ) → Files → Files → Type 0
+AddsEntries number entries size old new = At (named Log number) (MoreEntries number entries size) old new
+
+-- and one that adds this entry alone
 abbrev pub AddsEntry : ℕ → LogEntry → Files → Files → Type 0
-AddsEntry number entry old new = At (named Log number) (OneMore number entry) old new
+AddsEntry number entry old new = AddsEntries number (entry ∷ []) (length (entry_frame entry)) old new
 
 -- the current log of these files is this one, and a closed gate ends it
 pub record IsClosedIn (log : CurrentLog) (files : Files) : Type 0 where
@@ -112,11 +118,13 @@ pub record IsCurrentIn (state : LogState) (files : Files) : Type 0 where
 pub record IsReadyIn (state : LogState) (files : Files) : Type 0 where
   pub log : CurrentLog
   pub number : state.number ≡ Some log.number
+  pub version : state.version ≡ log.version
   pub end : state.end ≡ log.end
   pub ready : IsClosedIn log files
 
--- the current log of these files has this number and its Begin alone
-pub record IsBegunIn (number : ℕ) (files : Files) : Type 0 where
+-- the current log of these files has this number and version, and its Begin alone
+pub record IsBegunIn (version number : ℕ) (files : Files) : Type 0 where
   pub current : current_number files ≡ Some number
-  pub encodes : IsEntry (Begin number)
-  pub bytes : log_bytes files number ≡ only_begun number
+  pub known : IsTrue (is_known version)
+  pub encodes : IsEntry (Begin version number)
+  pub bytes : log_bytes files number ≡ begun_log version number

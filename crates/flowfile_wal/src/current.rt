@@ -3,7 +3,7 @@ ghost use Rattle.std.specs.Prelude.{◌≡◌, ◌<◌, length, slice_index, IsT
 ghost use Rattle.disk_trait.specs.Images.{Stays};
 ghost use Rattle.disk_trait.specs.Faults.{CountsFaults};
 ghost use Rattle.disk_trait.specs.declared.damage.Damage.{Damage as TheDamage};
-ghost use Rattle.flowfile_wal.specs.Current.{counts};
+ghost use Rattle.record_codec.specs.Frames.{counts};
 ghost use Rattle.flowfile_wal.specs.Reads.{IsFoundIn};
 
 use crate::LogError;

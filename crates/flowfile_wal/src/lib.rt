@@ -10,8 +10,5 @@ mod mend;
 mod read;
 
 pub use error::LogError;
-pub use law::{logs_that_change_alike, logs_that_were_begun, logs_with_one_entry_more};
+pub use law::{logs_that_change_alike, logs_that_were_begun, logs_with_one_block_more};
 pub use log::{BEGUN_END, Log, LogEntries};
-
-#[cfg(test)]
-mod tests;

@@ -1,5 +1,5 @@
 //! The current log: loaded, mended, begun and appended to.
-ghost use Rattle.std.specs.Prelude.{◌≡◌, ℕ, true, false, [], IsTrue, IfOk, OnOk, IsErrOf, Ok, Err, None, Some};
+ghost use Rattle.std.specs.Prelude.{◌≡◌, ℕ, true, false, List, [], length, IsTrue, IfOk, OnOk, IsErrOf, Ok, Err, None, Some};
 ghost use Rattle.disk_trait.specs.Images.{After, Since, IsOnly, Stays, calls_later};
 ghost use Rattle.disk_trait.specs.Faults.{CountsFaults};
 ghost use Rattle.disk_trait.specs.declared.damage.Damage.{Damage as TheDamage};
@@ -7,7 +7,7 @@ ghost use Rattle.record_codec.specs.declared.entry.LogEntry.{LogEntry as Entry};
 ghost use Rattle.flowfile_wal.specs.Calls.{HaveEncodings, InEach, IsWorkingLog, LeavesReady, WithOrWithout, with_frame, LogRefusesOnFault};
 ghost use Rattle.flowfile_wal.specs.Current.{current_log};
 ghost use Rattle.flowfile_wal.specs.Reads.{IsBegunWhole};
-ghost use Rattle.flowfile_wal.specs.Steps.{IsFrame, KeepsLog, AddsEntry, IsCurrentIn, IsReadyIn, IsBegunIn, log_with};
+ghost use Rattle.flowfile_wal.specs.Steps.{IsFrame, KeepsLog, AddsEntries, IsCurrentIn, IsReadyIn, IsBegunIn, log_with};
 
 use crate::LogError;
 use crate::append::append_frame;
@@ -15,7 +15,7 @@ use crate::current::find_current;
 use crate::mend::mend_log;
 use crate::read::read_log;
 use disk_trait::Disk;
-use record_codec::{BLOCK_OVERHEAD, LogEntry};
+use record_codec::{BLOCK_OVERHEAD, FORMAT_VERSION, LogEntry};
 use std::alloc::Global;
 use std::marker::Model;
 
@@ -32,6 +32,7 @@ pub const BEGUN_END: u64 = 1 + BLOCK_OVERHEAD + BEGIN_SIZE;
 #[derive(Debug, Drop)]
 pub struct Log {
     current: Option<u64>,
+    version: u8,
     gate: u64,
     is_mended: bool,
     has_failed: bool,
@@ -46,6 +47,7 @@ impl Model for Log {
 
     ghost view = { λ log. record {
       number = log.current;
+      version = log.version;
       end = log.gate;
       mended = log.is_mended;
       failed = log.has_failed;
@@ -75,17 +77,20 @@ impl Log {
         ensures cause { CountsFaults (D.faults disk.old) (D.faults disk.new) (IsErrOf result LogError.Disk) }
     {
         let Some(found) = find_current(alloc, disk)? else {
-            return Ok((Log::unmended(None, 0), Vec::new(alloc)));
+            return Ok((Log::unmended(None, FORMAT_VERSION, 0), Vec::new(alloc)));
         };
-        let (entries, gate) = read_log(alloc, disk, found.number, found.size)?;
-        Ok((Log::unmended(Some(found.number), gate), entries))
+        let read = read_log(alloc, disk, found.number, found.size)?;
+        let log = Log::unmended(Some(found.number), read.version, read.end);
+        Ok((log, read.entries))
     }
 
-    fn unmended(current: Option<u64>, gate: u64) -> Log
-        ensures { result ≡ record { number = current; end = gate; mended = false; failed = false } }
+    fn unmended(current: Option<u64>, version: u8, gate: u64) -> Log
+        ensures { result
+            ≡ record { number = current; version = version; end = gate; mended = false; failed = false } }
     {
         Log {
             current,
+            version,
             gate,
             is_mended: false,
             has_failed: false,
@@ -124,35 +129,43 @@ impl Log {
         Ok(())
     }
 
-    /// The log that was begun on the disk, which has its Begin alone, is the current one from now on.
-    pub fn begun<D: Disk>(&mut self, disk: &D, number: u64)
-        requires { InEach (D.images disk.now (D.moment disk.now)) (IsBegunIn number) }
-        ensures state { self.new
-            ≡ record { number = Some number; end = BEGUN_END; mended = true; failed = self.old.failed } }
+    /// The log that was begun on the disk in this version, which has its Begin alone, is the current one from now on.
+    pub fn begun<D: Disk>(&mut self, disk: &D, version: u8, number: u64)
+        requires { InEach (D.images disk.now (D.moment disk.now)) (IsBegunIn version number) }
+        ensures state { self.new ≡ record {
+          number = Some number;
+          version = version;
+          end = BEGUN_END;
+          mended = true;
+          failed = self.old.failed;
+        } }
         ensures ready { InEach (D.images disk.now (D.moment disk.now)) (IsReadyIn self.new) }
     {
         self.current = Some(number);
+        self.version = version;
         self.gate = BEGUN_END;
         self.is_mended = true;
     }
 
-    /// Adds an entry. `block` is its block with a closed gate behind it. Answers the disk's moment at which the entry
-    /// was acknowledged. It makes four calls of the disk, takes no memory, and its one error is `Disk`.
-    pub fn append<D: Disk>(&mut self, disk: &mut D, block: &[u8]) -> Result<u64, LogError>
+    /// Adds the entries of one block, one or more. `frame` is the block with a closed gate behind it. Answers the
+    /// disk's moment at which the entries were acknowledged. It makes four calls of the disk, takes no memory, and its
+    /// one error is `Disk`.
+    pub fn append<D: Disk>(&mut self, disk: &mut D, frame: &[u8]) -> Result<u64, LogError>
         requires works { IsWorkingLog self.old }
-        requires block { (entry : Entry) × IsFrame entry block.now }
+        requires frame { (entries : List Entry) × IsFrame self.old.version entries frame.now }
         requires ready { InEach (D.images disk.old (D.moment disk.old)) (IsReadyIn self.old) }
-        // A stop within the call leaves the log of before it, or what was held with the entry.
-        ensures images { (number : ℕ) (entry : Entry) → self.old.number ≡ Some number → IsFrame entry block.now
-            → Since D.moment D.images disk.old disk.new
-            (WithOrWithout number entry (D.images disk.old (D.moment disk.old)) (D.held disk.old)) }
-        // Once it has answered Ok, a stop leaves the entry.
-        ensures added { OnOk result ((number : ℕ) (entry : Entry) → self.old.number ≡ Some number
-            → IsFrame entry block.now
-            → InEach (D.images disk.new (D.moment disk.new)) (AddsEntry number entry (D.held disk.old))) }
+        // A stop within the call leaves the log of before it, or what was held with all these entries.
+        ensures images { (number : ℕ) (entries : List Entry) → self.old.number ≡ Some number
+            → IsFrame self.old.version entries frame.now → Since D.moment D.images disk.old disk.new
+            (WithOrWithout number entries (length frame.now)
+            (D.images disk.old (D.moment disk.old)) (D.held disk.old)) }
+        // Once it has answered Ok, a stop leaves the entries.
+        ensures added { OnOk result ((number : ℕ) (entries : List Entry) → self.old.number ≡ Some number
+            → IsFrame self.old.version entries frame.now → InEach (D.images disk.new (D.moment disk.new))
+            (AddsEntries number entries (length frame.now) (D.held disk.old))) }
         ensures ready { OnOk result (LeavesReady self.new (D.held disk.new) (D.images disk.new (D.moment disk.new))) }
         ensures acknowledged { IfOk result (λ moment.
-            (moment ≡ D.moment disk.new) × (self.new ≡ with_frame self.old block.now)) }
+            (moment ≡ D.moment disk.new) × (self.new ≡ with_frame self.old frame.now)) }
         // There are two writes, each with its sync.
         ensures calls { OnOk result (D.moment disk.new ≡ calls_later 4 (D.moment disk.old)) }
         ensures refusal { LogRefusesOnFault result self.old self.new (D.faults disk.old) (D.faults disk.new) }
@@ -161,11 +174,11 @@ impl Log {
             self.has_failed = true;
             return Err(LogError::Disk);
         };
-        let Ok(()) = append_frame(disk, number, self.gate, block) else {
+        let Ok(()) = append_frame(disk, number, self.gate, frame) else {
             self.has_failed = true;
             return Err(LogError::Disk);
         };
-        self.gate += block.len() as u64;
+        self.gate += frame.len() as u64;
         Ok(disk.moment())
     }
 }

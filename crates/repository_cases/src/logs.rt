@@ -12,7 +12,7 @@ use checkpoint_store::begin;
 use disk_trait::{Disk, MemoryDisk};
 use flowfile_record::NUMBER_LIMIT;
 use flowfile_wal::{Log, logs_that_were_begun};
-use record_codec::{CLOSED_GATE, LogEntry, append_block, write_entry};
+use record_codec::{CLOSED_GATE, FORMAT_VERSION, LogEntry, append_block, write_entry};
 use serde_json::Value;
 use std::alloc::{AllocError, Global};
 
@@ -76,7 +76,7 @@ fn begun_and_appended<D: Disk>(
         return Err("load");
     };
     let (mut log, _entries) = loaded;
-    let Ok(()) = begin(disk, 1) else {
+    let Ok(()) = begin(disk, 1, FORMAT_VERSION) else {
         return Err("begin");
     };
     logs_that_were_begun();

@@ -5,6 +5,7 @@
 mod contents;
 mod disks;
 mod json;
+mod loads;
 mod logs;
 mod snapshots;
 
@@ -35,6 +36,9 @@ fn put_answer(out: &mut String, alloc: Global, case: &Value) -> Result<()> {
     }
     if let Some(batch) = case.get("log") {
         return logs::put_log(out, alloc, batch, case);
+    }
+    if let Some(bytes) = case.get("loads") {
+        return loads::put_loads(out, alloc, bytes, case);
     }
     if let Some(text) = case.get("content") {
         return contents::put_content(out, alloc, text, case);

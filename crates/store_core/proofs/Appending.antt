@@ -10,7 +10,7 @@ use Rattle.record_codec.specs.declared.entry.LogEntry.{LogEntry}
 use Rattle.content_repo.specs.Claims.{claim}
 use Rattle.content_repo.specs.Slots.{size_of}
 use Rattle.content_repo.specs.declared.slot.Slot.{Slot}
-use Rattle.flowfile_wal.specs.Calls.{WithOrWithout}
+use Rattle.flowfile_wal.specs.Calls.{WithOrWithoutEntry}
 use Rattle.flowfile_wal.specs.Steps.{AddsEntry}
 use Rattle.prov_store.specs.State.{EventsState}
 use Rattle.store_core.specs.Placing.{GrowsAhead}
@@ -52,15 +52,15 @@ module _ {D : Type 0} (moment : D → ℕ) (images : D → ℕ → Files → Typ
         let before = at_the_end moment images old mid (GrowingClaims slots old) claims_ahead d image in
         (before.0, before.1, grown_and_same slots before.0 d c before.2 (beside_log number d c others))
 
-    pub claims_logged : (number : ℕ) (e : LogEntry) (end : D) → Since moment images mid end (WithOrWithout number e (images mid (moment mid)) (held mid))
+    pub claims_logged : (number : ℕ) (e : LogEntry) (end : D) → Since moment images mid end (WithOrWithoutEntry number e (images mid (moment mid)) (held mid))
         → (tells : Bool) → ((k : ℕ) (c : Files) → images end k c → IsTrue tells) → (IsTrue tells → images mid (moment mid) (held mid)) → Since moment images old end (GrowingClaims slots old)
     claims_logged number e end second tells told left =
         wider_where_left moment images old end (λ c. GrowingClaims slots old c ⊎ AddsEntry number e (held mid) c) (GrowingClaims slots old)
-        (one_after_another moment images old mid end (GrowingClaims slots old) (WithOrWithout number e (images mid (moment mid)) (held mid)) (λ c. GrowingClaims slots old c ⊎ AddsEntry number e (held mid) c) claims_ahead second
+        (one_after_another moment images old mid end (GrowingClaims slots old) (WithOrWithoutEntry number e (images mid (moment mid)) (held mid)) (λ c. GrowingClaims slots old c ⊎ AddsEntry number e (held mid) c) claims_ahead second
         (λ c after. inl after) by_log)
         by_end
       where
-        by_log : (c : Files) → WithOrWithout number e (images mid (moment mid)) (held mid) c → GrowingClaims slots old c ⊎ AddsEntry number e (held mid) c
+        by_log : (c : Files) → WithOrWithoutEntry number e (images mid (moment mid)) (held mid) c → GrowingClaims slots old c ⊎ AddsEntry number e (held mid) c
         by_log c (inl after) = inl (from_mid number after.0 c after.1 after.2.others)
         by_log c (inr added) = inr added
 

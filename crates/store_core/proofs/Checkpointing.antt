@@ -17,6 +17,7 @@ use Rattle.flowfile_wal.specs.Steps.{LogState}
 use Rattle.machine_model.specs.State.{State}
 use Rattle.prov_store.specs.Events.{events_file}
 use Rattle.prov_store.specs.State.{IsTrimmed}
+use Rattle.record_codec.specs.declared.TheConstants.{FORMAT_VERSION}
 use Rattle.store_core.specs.Agreement.{SameContent, SameEventFiles}
 use Rattle.store_core.specs.Checkpoint.{IsOfNumber, ArePassedOver, HasTakenOver, TakesOver, Drops, Checkpoints}
 use Rattle.store_core.specs.Flow.{flow_in}
@@ -160,7 +161,7 @@ module _ (s : StoreState) (number : ℕ) (may : MayCheckpoint s number) where
 
 -- the log in memory that was just begun
 abbrev pub begun_state : ℕ → LogState → LogState
-begun_state number log = record { number = Some number; end = 47; mended = true; failed = log.failed }
+begun_state number log = record { number = Some number; version = FORMAT_VERSION; end = 47; mended = true; failed = log.failed }
 
 abbrev pub renewed : StoreState → ℕ → StoreState
 renewed s number = record s { log = begun_state (number + 1) s.log; entries = 0 }
@@ -172,7 +173,7 @@ has_next_log : (s : StoreState) (number : ℕ) (files : Files) → MayCheckpoint
 has_next_log s number files may taken =
     let closed = taken_current (number + 1) (kept_by s) files may.next taken in
     record {
-      ready = record { log = next_log (number + 1); number = refl; end = refl; ready = closed };
+      ready = record { log = next_log (number + 1); number = refl; version = refl; end = refl; ready = closed };
       entries = λ l is.
           let both : logged (Some l) ≡ logged (Some (next_log (number + 1))) = sym is ∙ closed.current in
           let same : l ≡ next_log (number + 1) = cc in

@@ -21,15 +21,18 @@ use Rattle.flowfile_record.specs.declared.stored.Fresh.TheVariants.{No, Bytes, S
 use Rattle.flowfile_record.specs.declared.stored.Placed.{Placed}
 use Rattle.record_codec.specs.Placeless.{placeless_active, placeless_entry}
 use Rattle.record_codec.specs.declared.entry.LogEntry.{LogEntry}
-use Rattle.record_codec.specs.declared.entry.LogEntry.TheVariants.{Begin, Session, Expire, SwapOut, SwapIn}
+use Rattle.record_codec.specs.declared.entry.LogEntry.TheVariants.{Begin, Session, Expire, SwapOut, SwapIn, Age}
 use Rattle.record_codec.specs.declared.entry.ExpireEntry.{ExpireEntry}
 use Rattle.record_codec.specs.declared.entry.SessionEntry.{SessionEntry}
 use Rattle.checkpoint_store.specs.Consistent.{IsConsistent}
 use Rattle.content_repo.specs.Claims.{claim, content_in, HasSizes}
 use Rattle.content_repo.specs.Slots.{count_of, size_of, held_in, references_to, end_of, IsNamed}
 use Rattle.content_repo.specs.declared.slot.Slot.{Slot}
-use Rattle.flowfile_wal.specs.Steps.{AddsEntry, IsFrame, frame}
+use Rattle.flowfile_wal.specs.Steps.{AddsEntry, IsFrame}
+use Rattle.flowfile_wal.proofs.OneEntry.{one_framed}
 use Rattle.record_codec.specs.EntryEncoding.{entry as encoding, kind_of, IsEntry}
+use Rattle.record_codec.specs.Frames.{entry_frame}
+use Rattle.record_codec.specs.LogEntries.{belongs}
 use Rattle.record_codec.specs.declared.block.TheConstants.{PAYLOAD_MAX}
 use Rattle.record_codec.proofs.Sizes.{placeless_entry_size}
 use Rattle.kept_state.specs.Applied.{left_after, session_applied, applied, batch_swapped_out}
@@ -69,6 +72,7 @@ pub record ActsAs (k : Kept) (e : LogEntry) (t : SessionEntry) : Type 0 where
   pub puts : placed_in e ≡ session.placed
   pub alone : batch_swapped_out e ≡ []
   pub later : kind_of e ≡ 1 → ⊥
+  pub belongs_always : (version : ℕ) → belongs version e ≡ true
   pub fit : entry_suits no_files k e ≡ true
   pub suits : session_suits no_files k session ≡ true
   pub small : length (encoding e) ≤ PAYLOAD_MAX
@@ -100,6 +104,7 @@ session_acts k s (Session t) may none same =
       puts = refl;
       alone = refl;
       later = λ (one : kind_of (Session t) ≡ 1). omega (arith, one);
+      belongs_always = λ version. refl;
       fit = fit;
       suits = (session_parts k t fit).0;
       small =
@@ -117,17 +122,19 @@ session_acts k s (Session t) may none same =
       last_event = ap (λ (l : LogEntry). (part_of t l).last_event) same;
       generator = ap (λ (l : LogEntry). (part_of t l).generator) same;
     }
-session_acts k s (Begin log) may none same = absurd cc
+session_acts k s (Begin version log) may none same = absurd cc
 session_acts k s (Expire e) may none same = absurd cc
 session_acts k s (SwapOut e) may none same = absurd cc
 session_acts k s (SwapIn connection batch) may none same = absurd cc
+session_acts k s (Age line) may none same = absurd cc
 
 expiry_same : (e : LogEntry) (x : ExpireEntry) → placeless_entry e ≡ Expire x → e ≡ Expire x
 expiry_same (Expire e) x same = same
-expiry_same (Begin log) x same = absurd cc
+expiry_same (Begin version log) x same = absurd cc
 expiry_same (Session e) x same = absurd cc
 expiry_same (SwapOut e) x same = absurd cc
 expiry_same (SwapIn connection batch) x same = absurd cc
+expiry_same (Age line) x same = absurd cc
 
 expiry_acts : (k : Kept) (connection : ℕ) (s : Settled) (e : LogEntry) → IsConsistent k → MaySettleAs k s → MayExpireAs k connection s → e ≡ expiry_entry k connection s → ActsAs k e (entry_of_session k s)
 expiry_acts k connection s e was settles may is = record {
@@ -136,6 +143,7 @@ expiry_acts k connection s e was settles may is = record {
   puts = ap placed_in is ∙ sym (ap (λ (t : Settled). map record_of t.placed) may.as_session);
   alone = ap batch_swapped_out is;
   later = λ (one : kind_of e ≡ 1). let other : kind_of (expiry_entry k connection s) ≡ 1 = ap kind_of (sym is) ∙ one in omega (arith, other);
+  belongs_always = λ version. ap (belongs version) is;
   fit = ap (entry_suits no_files k) is ∙ may.fits;
   suits = settles.suits;
   small = omega (arith, expiry_payload k connection s was may, ap {B = ℕ} (λ (l : LogEntry). length (encoding l)) is);
@@ -359,8 +367,7 @@ recorded_first s p prepared = by prepared.entry
     by (inr expiry) = ap placed_in expiry.is ∙ sym (ap (λ (t : Settled). map record_of t.placed) expiry.may.as_session)
 
 -- the block of the entry of a prepared change may be appended
-pub entry_frame : (s : StoreState) (p : PreparedChange) (e : LogEntry) (bytes : List ℕ) → IsConsistent (kept_by s) → IsPreparedChange s p → placeless_entry e ≡ placeless_entry p.entry → IsEntry e → bytes ≡ frame e
-    → IsFrame e bytes
-entry_frame s p e bytes was prepared same encodes is =
-    let acts = entry_acts s p e was prepared same in
-    record { encodes = encodes; small = acts.small; later = acts.later; is = is }
+pub framed_alone : (s : StoreState) (p : PreparedChange) (e : LogEntry) (version : ℕ) (bytes : List ℕ) → IsConsistent (kept_by s) → IsPreparedChange s p → placeless_entry e ≡ placeless_entry p.entry → IsEntry e → bytes ≡ entry_frame e
+    → IsFrame version (e ∷ []) bytes
+framed_alone s p e version bytes was prepared same encodes is =
+    let acts = entry_acts s p e was prepared same in one_framed version e bytes encodes acts.small acts.later (acts.belongs_always version) is

@@ -14,7 +14,7 @@ use Rattle.record_codec.specs.declared.entry.LogEntry.{LogEntry}
 use Rattle.checkpoint_store.specs.Snapshot.{snapshot_file}
 use Rattle.flowfile_wal.specs.Current.{CurrentLog}
 use Rattle.flowfile_wal.specs.Steps.{AddsEntry, IsClosedIn, with_entry}
-use Rattle.flowfile_wal.proofs.Files.{with_one_more}
+use Rattle.flowfile_wal.proofs.Files.{with_one_entry}
 use Rattle.kept_state.specs.Applied.{applied, batch_swapped_out, batches_that_matter}
 use Rattle.kept_state.specs.Changes.{no_files}
 use Rattle.kept_state.specs.Fits.{entry_suits, replayed}
@@ -77,7 +77,7 @@ snapshot_more files log k e (Ok k0) none fit is =
 pub kept_with_entry : (flow : Flow) (lot : ℕ) (old new : Files) (log : CurrentLog) (k : Kept) (e : LogEntry) → IsClosedIn log old → AddsEntry log.number e old new
     → batch_swapped_out e ≡ [] → entry_suits no_files k e ≡ true → kept_in flow lot old ≡ kept_is k → kept_in flow lot new ≡ kept_is (applied no_files k e)
 kept_with_entry flow lot old new log k e was added none fit is =
-    let now = with_one_more log e old new was added in
+    let now = with_one_entry log e old new was added in
     let snapshot : new (snapshot_file log.number) ≡ old (snapshot_file log.number) =
     added.others (snapshot_file log.number) (λ (same : snapshot_file log.number ≡ named Log log.number).
     let kinds : Snapshot ≡ Log = ap (λ (f : FileName). f.kind) same in absurd cc) in

@@ -13,6 +13,7 @@ use Rattle.disk_trait.specs.declared.damage.Damage.TheVariants.{Form}
 use Rattle.disk_trait.specs.declared.file_name.FileName.{FileName}
 use Rattle.flowfile_record.specs.Stored.{Kept}
 use Rattle.flowfile_record.specs.declared.stored.SwapBatch.{SwapBatch}
+use Rattle.record_codec.specs.declared.TheConstants.{FORMAT_VERSION}
 use Rattle.checkpoint_store.specs.Reading.{snapshot_of}
 use Rattle.flowfile_wal.specs.Current.{CurrentLog, current_log}
 use Rattle.flowfile_wal.specs.Steps.{LogState, numbered_log, log_with}
@@ -72,16 +73,16 @@ found_least k entries read first least is_first is_read is =
     ∙ ap (λ (es : List Logged). fold with_least first (flat_map (λ e. batch_swapped_out e.1) es)) (sym is_read)
     ∙ sym is
 
-abbrev pub log_at : (number : ℕ) → List Logged → (end : ℕ) → CurrentLog
-log_at number entries end = record { number = number; entries = entries; end = end }
+abbrev pub log_at : (number version : ℕ) → List Logged → (end : ℕ) → CurrentLog
+log_at number version entries end = record { number = number; version = version; entries = entries; end = end }
 
-pub swapped_damage : (k : Kept) (number : ℕ) (entries : List Logged) (end batch : ℕ) → least_of (batches_that_matter k entries) ≡ Some batch
-    → with_entries (log_at number entries end) k (unless_swapped (least_of (batches_that_matter k entries))) ≡ Err (absent (named Swap batch))
-swapped_damage k number entries end batch is = ap (λ (least : Option ℕ). with_entries (log_at number entries end) k (unless_swapped least)) is
+pub swapped_damage : (k : Kept) (number version : ℕ) (entries : List Logged) (end batch : ℕ) → least_of (batches_that_matter k entries) ≡ Some batch
+    → with_entries (log_at number version entries end) k (unless_swapped (least_of (batches_that_matter k entries))) ≡ Err (absent (named Swap batch))
+swapped_damage k number version entries end batch is = ap (λ (least : Option ℕ). with_entries (log_at number version entries end) k (unless_swapped least)) is
 
-pub entries_alone : (k : Kept) (number : ℕ) (entries : List Logged) (end : ℕ) → least_of (batches_that_matter k entries) ≡ None
-    → with_entries (log_at number entries end) k (unless_swapped (least_of (batches_that_matter k entries))) ≡ fitted number (replayed no_files k entries)
-entries_alone k number entries end is = ap (λ (least : Option ℕ). with_entries (log_at number entries end) k (unless_swapped least)) is
+pub entries_alone : (k : Kept) (number version : ℕ) (entries : List Logged) (end : ℕ) → least_of (batches_that_matter k entries) ≡ None
+    → with_entries (log_at number version entries end) k (unless_swapped (least_of (batches_that_matter k entries))) ≡ fitted number (replayed no_files k entries)
+entries_alone k number version entries end is = ap (λ (least : Option ℕ). with_entries (log_at number version entries end) k (unless_swapped least)) is
 
 -- ---- the snapshot
 
@@ -93,15 +94,15 @@ not_by_test : (agrees : Bool) (file : FileName) (k : Kept) → agrees ≡ false 
 not_by_test true file k is = absurd cc
 not_by_test false file k is = refl
 
-pub agreed_snapshot : (flow : Flow) (file : FileName) (bytes : List ℕ) (k : Kept) → snapshot_of file bytes ≡ Ok k → agrees_with flow k ≡ true → snapshot_for flow file bytes ≡ Ok k
+pub agreed_snapshot : (flow : Flow) (file : FileName) (bytes : List ℕ) (k : Kept) → snapshot_of FORMAT_VERSION file bytes ≡ Ok k → agrees_with flow k ≡ true → snapshot_for flow file bytes ≡ Ok k
 unfolding snapshot_for
 agreed_snapshot flow file bytes k is agrees = ap (of_flow flow file) is ∙ by_test (agrees_with flow k) file k agrees
 
-pub other_snapshot : (flow : Flow) (file : FileName) (bytes : List ℕ) (k : Kept) → snapshot_of file bytes ≡ Ok k → agrees_with flow k ≡ false → snapshot_for flow file bytes ≡ Err (Form file 0)
+pub other_snapshot : (flow : Flow) (file : FileName) (bytes : List ℕ) (k : Kept) → snapshot_of FORMAT_VERSION file bytes ≡ Ok k → agrees_with flow k ≡ false → snapshot_for flow file bytes ≡ Err (Form file 0)
 unfolding snapshot_for
 other_snapshot flow file bytes k is other = ap (of_flow flow file) is ∙ not_by_test (agrees_with flow k) file k other
 
-pub damaged_snapshot : (flow : Flow) (file : FileName) (bytes : List ℕ) (damage : Damage) → snapshot_of file bytes ≡ Err damage → snapshot_for flow file bytes ≡ Err damage
+pub damaged_snapshot : (flow : Flow) (file : FileName) (bytes : List ℕ) (damage : Damage) → snapshot_of FORMAT_VERSION file bytes ≡ Err damage → snapshot_for flow file bytes ≡ Err damage
 unfolding snapshot_for
 damaged_snapshot flow file bytes damage is = ap (of_flow flow file) is
 
@@ -140,9 +141,9 @@ own_flow flow lot =
 
 -- what is kept, by the current log in memory
 pub found_by : (flow : Flow) (lot : ℕ) (held mid : Files) (state : LogState) (entries : List Logged) (number : Option ℕ) (kept : Result Kept Damage) → mid ≡ held → number ≡ state.number
-    → current_log held ≡ Ok (log_with state entries) → behind_log flow lot mid (Ok (numbered_log number entries state.end)) ≡ kept → kept_in flow lot held ≡ kept
+    → current_log held ≡ Ok (log_with state entries) → behind_log flow lot mid (Ok (numbered_log number state.version entries state.end)) ≡ kept → kept_in flow lot held ≡ kept
 found_by flow lot held mid state entries number kept same is current read =
     by_current flow lot held (log_with state entries) current
-    ∙ ap (λ (n : Option ℕ). behind_log flow lot held (Ok (numbered_log n entries state.end))) (sym is)
-    ∙ ap (λ (files : Files). behind_log flow lot files (Ok (numbered_log number entries state.end))) (sym same)
+    ∙ ap (λ (n : Option ℕ). behind_log flow lot held (Ok (numbered_log n state.version entries state.end))) (sym is)
+    ∙ ap (λ (files : Files). behind_log flow lot files (Ok (numbered_log number state.version entries state.end))) (sym same)
     ∙ read

@@ -10,6 +10,7 @@ use Rattle.disk_trait.specs.declared.damage.Damage.TheVariants.{Form}
 use Rattle.flowfile_record.specs.Stored.{Kept}
 use Rattle.flowfile_record.specs.declared.stored.SwapBatch.{SwapBatch}
 use Rattle.flowfile_record.specs.declared.content.ContentRef.{ContentRef}
+use Rattle.record_codec.specs.declared.TheConstants.{FORMAT_VERSION}
 use Rattle.checkpoint_store.specs.Consistent.{IsConsistent}
 use Rattle.checkpoint_store.specs.Reading.{snapshot_of}
 use Rattle.checkpoint_store.specs.Snapshot.{snapshot_file}
@@ -33,10 +34,10 @@ use Rattle.store_core.proofs.Opening.{stands_whole}
 
 -- the log of a store that was just made
 abbrev pub first_log : CurrentLog
-first_log = record { number = 1; entries = []; end = 47 }
+first_log = record { number = 1; version = FORMAT_VERSION; entries = []; end = 47 }
 
 pub made_current : (k : Kept) (files : Files) → IsNewStore k files → IsClosedIn first_log files
-made_current k files made = begun_ready 1 files (begun_in 1 files (omega arith) made.log.begun made.log.greater)
+made_current k files made = begun_ready FORMAT_VERSION 1 files (begun_in FORMAT_VERSION 1 files refl (refl, omega arith) made.log.begun made.log.greater)
 
 of_agreed : (flow : Flow) (k : Kept) (agrees : Bool) → agrees_with flow k ≡ agrees → agrees ≡ true → of_flow flow (snapshot_file 1) (Ok k) ≡ Ok k
 of_agreed flow k agrees is true_is = ap (λ (b : Bool). cond b (Ok k) (Err (Form (snapshot_file 1) 0))) (is ∙ true_is)
@@ -45,8 +46,8 @@ pub made_kept : (flow : Flow) (lot : ℕ) (k : Kept) (files : Files) → IsNewSt
 unfolding snapshot_for
 made_kept flow lot k files made consistent none agrees =
     kept_by_log flow lot files first_log (made_current k files made).current
-    ∙ ap (λ (bytes : List ℕ). behind_snapshot files first_log (of_flow flow (snapshot_file 1) (snapshot_of (snapshot_file 1) bytes))) made.snapshot.1
-    ∙ ap (λ (read : Result Kept Damage). behind_snapshot files first_log (of_flow flow (snapshot_file 1) read)) (read_back (snapshot_file 1) k made.snapshot.0 consistent)
+    ∙ ap (λ (bytes : List ℕ). behind_snapshot files first_log (of_flow flow (snapshot_file 1) (snapshot_of FORMAT_VERSION (snapshot_file 1) bytes))) made.snapshot.1
+    ∙ ap (λ (read : Result Kept Damage). behind_snapshot files first_log (of_flow flow (snapshot_file 1) read)) (read_back FORMAT_VERSION (snapshot_file 1) k made.snapshot.0 consistent)
     ∙ ap (behind_snapshot files first_log) (of_agreed flow k true agrees refl)
     ∙ ap (λ (batches : List SwapBatch). with_entries first_log k (unless_swapped (least_of (map (λ b. b.batch) batches ++ [])))) none
 

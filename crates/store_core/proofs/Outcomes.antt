@@ -17,7 +17,7 @@ use Rattle.checkpoint_store.specs.Consistent.{IsConsistent}
 use Rattle.content_repo.specs.Claims.{content_in, HasSizes}
 use Rattle.content_repo.specs.Slots.{count_of, size_of, held_in, references_to}
 use Rattle.content_repo.specs.declared.slot.Slot.{Slot}
-use Rattle.flowfile_wal.specs.Calls.{InEach, WithOrWithout}
+use Rattle.flowfile_wal.specs.Calls.{InEach, WithOrWithoutEntry}
 use Rattle.flowfile_wal.specs.Steps.{AddsEntry, IsReadyIn}
 use Rattle.kept_state.specs.Applied.{applied, session_applied}
 use Rattle.kept_state.specs.Changes.{no_files, placed_in}
@@ -127,7 +127,7 @@ pub record HasLogged {D : Type 0} (tells : Bool) (held : D → Files) (moment : 
   pub events : AppendsEvents tells p.events.events s.events new.events (held old) (held mid)
   pub kept : kept_by new ≡ applied no_files (kept_by s) e
   pub lot : new.lot ≡ s.lot
-  pub logged : Since moment images mid end (WithOrWithout number e (images mid (moment mid)) (held mid))
+  pub logged : Since moment images mid end (WithOrWithoutEntry number e (images mid (moment mid)) (held mid))
   pub told : (disk : D) (k : ℕ) (c : Files) → images disk k c → IsTrue tells
   pub left : (disk : D) → IsTrue tells → images disk (moment disk) (held disk)
 
@@ -138,7 +138,7 @@ numbered_of None some = absurd cc
 pub has_logged : {D : Type 0} (tells : Bool) (held : D → Files) (moment : D → ℕ) (images : D → ℕ → Files → Type 0) (inside s new : StoreState) (change p : PreparedChange) (e e2 : LogEntry)
     (old mid end : D) (number : ℕ) (slots : List Slot)
     → inside ≡ s → change ≡ p → inside.log.number ≡ Some number → PlacesAll tells (held mid) change.settled.placed inside.slots slots e → (IsTrue tells → HasSizes slots (held mid)) → AppendsEvents tells change.events.events inside.events new.events (held old) (held mid)
-    → e2 ≡ e → kept_by new ≡ applied no_files (kept_by inside) e2 → new.lot ≡ inside.lot → Since moment images mid end (WithOrWithout number e (images mid (moment mid)) (held mid))
+    → e2 ≡ e → kept_by new ≡ applied no_files (kept_by inside) e2 → new.lot ≡ inside.lot → Since moment images mid end (WithOrWithoutEntry number e (images mid (moment mid)) (held mid))
     → ((disk : D) (k : ℕ) (c : Files) → images disk k c → IsTrue tells) → ((disk : D) → IsTrue tells → images disk (moment disk) (held disk))
     → HasLogged tells held moment images s new p e old mid end number slots
 has_logged tells held moment images inside s new change p e e2 old mid end number slots view p_view numbered placed sizes events is kept lot logged told left = record {

@@ -15,7 +15,7 @@ use Rattle.record_codec.specs.ActiveFile.{active}
 use Rattle.record_codec.specs.FileEncoding.{IsContentRef}
 use Rattle.record_codec.specs.Placeless.{placeless}
 use Rattle.record_codec.specs.declared.entry.LogEntry.{LogEntry}
-use Rattle.record_codec.specs.declared.entry.LogEntry.TheVariants.{Begin, Session, Expire, SwapOut, SwapIn}
+use Rattle.record_codec.specs.declared.entry.LogEntry.TheVariants.{Begin, Session, Expire, SwapOut, SwapIn, Age}
 use Rattle.content_repo.specs.Append.{IsAppended, MayAppend}
 use Rattle.content_repo.specs.Claims.{content_in}
 use Rattle.content_repo.specs.Slots.{count_of, size_of, held_in, end_of, slot_with_count, taken, next_slot, SlotsHaveRoom}
@@ -80,10 +80,11 @@ with_at (b ∷ front) back a at = ap (λ (l : List ActiveFile). b ∷ l) (with_a
 
 placed_with : (e : LogEntry) (place : ℕ) (at : ContentRef) → placed_in (entry_with_content e place at) ≡ with_content_at place at (placed_in e)
 placed_with (Session s) place at = refl
-placed_with (Begin log) place at = refl
+placed_with (Begin version log) place at = refl
 placed_with (Expire e) place at = refl
 placed_with (SwapOut s) place at = refl
 placed_with (SwapIn connection batch) place at = refl
+placed_with (Age line) place at = refl
 
 at_record : (p : Placed) (at : ContentRef) → at_content at (record_of p) ≡ at_content at (active p.connection p.file)
 at_record p at = by (is_stored p.fresh)

@@ -8,7 +8,7 @@ use Rattle.flowfile_record.specs.Stored.{Kept}
 use Rattle.flowfile_record.specs.declared.stored.Counted.{Counted}
 use Rattle.flowfile_record.specs.declared.stored.SwapBatch.{SwapBatch}
 use Rattle.record_codec.specs.declared.entry.LogEntry.{LogEntry}
-use Rattle.record_codec.specs.declared.entry.LogEntry.TheVariants.{Begin, Session, Expire, SwapOut, SwapIn}
+use Rattle.record_codec.specs.declared.entry.LogEntry.TheVariants.{Begin, Session, Expire, SwapOut, SwapIn, Age}
 use Rattle.kept_state.specs.Applied.{applied, batch_swapped_out}
 use Rattle.flowfile_record.specs.Counts.{with_count}
 use Rattle.kept_state.specs.Changes.{no_files}
@@ -47,20 +47,22 @@ fitting false one new at is same = absurd cc
 -- ---- what an entry leaves
 
 pub still_plain : (k : Kept) (e : LogEntry) → k.batches ≡ [] → batch_swapped_out e ≡ [] → entry_suits no_files k e ≡ true → (applied no_files k e).batches ≡ []
-still_plain k (Begin log) none out fit = none
+still_plain k (Begin version log) none out fit = none
 still_plain k (Session s) none out fit = none
 still_plain k (Expire e) none out fit = none
 still_plain k (SwapOut s) none out fit = absurd cc
 still_plain k (SwapIn connection batch) none out fit =
     let never : false ≡ true = ap (list_any (λ (b : SwapBatch). (b.batch == batch) && (b.connection == connection))) (sym none) ∙ fit in absurd cc
+still_plain k (Age line) none out fit = none
 
 length-with_count : (g : Option Counted) (counts : List ℕ) → length (with_count g counts) ≡ length counts
 length-with_count None counts = refl
 length-with_count (Some g) counts = length-set counts g.processor g.count
 
 pub same_flow : (k : Kept) (e : LogEntry) → flow_in (applied no_files k e) ≡ flow_in k
-same_flow k (Begin log) = refl
+same_flow k (Begin version log) = refl
 same_flow k (Session s) = λ i. record { digest = k.flow; connections = k.connections; processors = length-with_count s.generator k.counts i }
 same_flow k (Expire e) = refl
 same_flow k (SwapOut s) = refl
 same_flow k (SwapIn connection batch) = refl
+same_flow k (Age line) = refl

@@ -250,10 +250,10 @@ module _ {D : Type 0} (tells : Bool) (holds : D → Files) (moment : D → ℕ) 
   Still c = StillKeep (flow_in found.state.kept) lot found.state.kept (holds start) c
 
   abbrev log_of : (number : ℕ) → IsTrue tells → CurrentLog
-  log_of number t = record { number = number; entries = (whole.told t).entries; end = found.log.end }
+  log_of number t = record { number = number; version = found.log.version; entries = (whole.told t).entries; end = found.log.end }
 
   current_of : (number : ℕ) → found.log.number ≡ Some number → (t : IsTrue tells) → current_log held ≡ of_log (Some (log_of number t))
-  current_of number is t = (whole.told t).current ∙ ap (λ (o : Option ℕ). of_log (numbered_log o (whole.told t).entries found.log.end)) is
+  current_of number is t = (whole.told t).current ∙ ap (λ (o : Option ℕ). of_log (numbered_log o found.log.version (whole.told t).entries found.log.end)) is
 
   agreed : (number : ℕ) (c : Files) → After (Agrees (plain_needs number keep)) (images start (moment start)) c → Agrees (plain_needs number keep) held c
   agreed number c after = subst (λ (d : Files). Agrees (plain_needs number keep) d c) (only after.0 after.1) after.2

@@ -142,9 +142,9 @@ pub number_read : (state : LogState) (entries : List (ℕ × LogEntry)) (files :
 number_read state entries files is = by_number state.number refl
   where
     by_number : (o : Option ℕ) → state.number ≡ o → current_number files ≡ state.number
-    by_number None none = no_number files (is ∙ ap (λ (o : Option ℕ). of_log (numbered_log o entries state.end)) none) ∙ sym none
+    by_number None none = no_number files (is ∙ ap (λ (o : Option ℕ). of_log (numbered_log o state.version entries state.end)) none) ∙ sym none
     by_number (Some n) some =
-        (current_is files (record { number = n; entries = entries; end = state.end }) (is ∙ ap (λ (o : Option ℕ). of_log (numbered_log o entries state.end)) some)).number ∙ sym some
+        (current_is files (record { number = n; version = state.version; entries = entries; end = state.end }) (is ∙ ap (λ (o : Option ℕ). of_log (numbered_log o state.version entries state.end)) some)).number ∙ sym some
 
 pub number_found : (flow : Flow) (lot : ℕ) (files : Files) (found : Found) → StoreIsFoundIn flow lot files found → current_number files ≡ found.log.number
 number_found flow lot files found is = number_read found.log is.entries files is.current

@@ -11,10 +11,10 @@ use Rattle.record_codec.specs.declared.entry.LogEntry.{LogEntry}
 use Rattle.record_codec.specs.declared.entry.SessionEntry.{SessionEntry}
 use Rattle.content_repo.specs.Claims.{claim, content_in}
 use Rattle.content_repo.specs.declared.slot.Slot.{Slot}
-use Rattle.flowfile_wal.specs.Calls.{InEach, WithOrWithout}
+use Rattle.flowfile_wal.specs.Calls.{InEach, WithOrWithoutEntry}
 use Rattle.flowfile_wal.specs.Current.{CurrentLog, current_log}
 use Rattle.flowfile_wal.specs.Steps.{AddsEntry, EndsClosed, IsClosedIn, IsReadyIn, with_entry}
-use Rattle.flowfile_wal.proofs.Files.{with_one_more}
+use Rattle.flowfile_wal.proofs.Files.{with_one_entry}
 use Rattle.checkpoint_store.specs.Consistent.{IsConsistent}
 use Rattle.kept_state.specs.Applied.{applied, session_applied, batch_swapped_out}
 use Rattle.kept_state.specs.Changes.{no_files}
@@ -79,13 +79,13 @@ module _ {D : Type 0} (moment : D → ℕ) (images : D → ℕ → Files → Typ
   Either c = After (Follows s) (images old (moment old)) c ⊎ AddsEntry number e (held mid) c
 
   pub since_either : IsWorking s → InEach (images old (moment old)) (FilesHold s) → Since moment images old mid (After (GrowsAhead s.slots s.events) (images old (moment old)))
-      → Since moment images mid end (WithOrWithout number e (images mid (moment mid)) (held mid)) → Since moment images old end Either
+      → Since moment images mid end (WithOrWithoutEntry number e (images mid (moment mid)) (held mid)) → Since moment images old end Either
   since_either works holds first second =
-      one_after_another moment images old mid end (After (GrowsAhead s.slots s.events) (images old (moment old))) (WithOrWithout number e (images mid (moment mid)) (held mid)) Either first second
+      one_after_another moment images old mid end (After (GrowsAhead s.slots s.events) (images old (moment old))) (WithOrWithoutEntry number e (images mid (moment mid)) (held mid)) Either first second
       (λ c after. inl (after.0, after.1, follows_ahead s after.0 c works (holds after.0 after.1).events after.2))
       by_log
     where
-      by_log : (c : Files) → WithOrWithout number e (images mid (moment mid)) (held mid) c → Either c
+      by_log : (c : Files) → WithOrWithoutEntry number e (images mid (moment mid)) (held mid) c → Either c
       by_log c (inl after) =
           let before = at_the_end moment images old mid (After (GrowsAhead s.slots s.events) (images old (moment old))) first after.0 after.1 in
           inl (before.0, before.1, follows_in_turn s before.0 after.0 c (follows_ahead s before.0 after.0 works (holds before.0 before.1).events before.2) (follows_kept_log s number after.0 c after.2))
@@ -102,7 +102,7 @@ module _ {D : Type 0} (moment : D → ℕ) (images : D → ℕ → Files → Typ
         holds_added s new number e is.session (held mid) c has_mid holds_mid numbered is.act is.alone is.fit added is.contents is.kept is.lot is.events
 
     pub since_holds : (tells : Bool) → ((k : ℕ) (c : Files) → images end k c → IsTrue tells) → (IsTrue tells → images mid (moment mid) (held mid)) → (IsTrue tells → IsAdded s new e (held mid))
-        → Since moment images mid end (WithOrWithout number e (images mid (moment mid)) (held mid)) → Since moment images old end (HoldsEither s new)
+        → Since moment images mid end (WithOrWithoutEntry number e (images mid (moment mid)) (held mid)) → Since moment images old end (HoldsEither s new)
     since_holds tells told left is second =
         wider_where_left moment images old end Either (HoldsEither s new) (since_either works holds first second) by_end
       where
@@ -133,11 +133,11 @@ module _ {D : Type 0} (moment : D → ℕ) (images : D → ℕ → Files → Typ
       wider moment images old mid (After (GrowsAhead slots events) (images old (moment old))) Touching since (λ c after. (after.0, after.1, touches_ahead log slots events after.0 c after.2))
 
   pub since_touches : log ≡ Some number → Since moment images old mid (After (GrowsAhead slots events) (images old (moment old)))
-      → Since moment images mid end (WithOrWithout number e (images mid (moment mid)) (held mid))
+      → Since moment images mid end (WithOrWithoutEntry number e (images mid (moment mid)) (held mid))
       → (tells : Bool) → ((k : ℕ) (c : Files) → images end k c → IsTrue tells) → (IsTrue tells → images mid (moment mid) (held mid)) → Since moment images old end Touching
   since_touches numbered first second tells told left =
       wider_where_left moment images old end (λ c. Touching c ⊎ AddsEntry number e (held mid) c) Touching
-      (one_after_another moment images old mid end (After (GrowsAhead slots events) (images old (moment old))) (WithOrWithout number e (images mid (moment mid)) (held mid)) (λ c. Touching c ⊎ AddsEntry number e (held mid) c) first second
+      (one_after_another moment images old mid end (After (GrowsAhead slots events) (images old (moment old))) (WithOrWithoutEntry number e (images mid (moment mid)) (held mid)) (λ c. Touching c ⊎ AddsEntry number e (held mid) c) first second
       (λ c after. inl (after.0, after.1, touches_ahead log slots events after.0 c after.2)) by_log)
       by_end
     where
@@ -146,7 +146,7 @@ module _ {D : Type 0} (moment : D → ℕ) (images : D → ℕ → Files → Typ
           let before = at_the_end moment images old mid (After (GrowsAhead slots events) (images old (moment old))) first d image in
           (before.0, before.1, λ f other. others f (not_log log number f numbered other) ∙ touches_ahead log slots events before.0 d before.2 f other)
 
-      by_log : (c : Files) → WithOrWithout number e (images mid (moment mid)) (held mid) c → Touching c ⊎ AddsEntry number e (held mid) c
+      by_log : (c : Files) → WithOrWithoutEntry number e (images mid (moment mid)) (held mid) c → Touching c ⊎ AddsEntry number e (held mid) c
       by_log c (inl after) = inl (from_mid after.0 c after.1 after.2.others)
       by_log c (inr added) = inr added
 
@@ -191,7 +191,7 @@ entries_more s new e old files number has numbered added more l is =
     let log = has.ready.log in
     let both : Some number ≡ Some log.number = sym numbered ∙ has.ready.number in
     let same : number ≡ log.number = cc in
-    let now = with_one_more log e old files has.ready.ready (subst (λ (n : ℕ). AddsEntry n e old files) same added) in
+    let now = with_one_entry log e old files has.ready.ready (subst (λ (n : ℕ). AddsEntry n e old files) same added) in
     let whole : read_as (Some l) ≡ read_as (Some (with_entry log e)) = sym is ∙ now.current in
     let last : l ≡ with_entry log e = cc in
     let long : length l.entries ≡ length log.entries + 1 = ap (λ (m : CurrentLog). length m.entries) last ∙ length-append log.entries ((log.end, e) ∷ []) in
@@ -213,7 +213,7 @@ logs_entry s prepared e old mid new number has numbered still added same =
       entry = e;
       same = same;
       was = has.ready.ready.current;
-      now = (with_one_more log e mid new closed (subst (λ (n : ℕ). AddsEntry n e mid new) numbers added)).current;
+      now = (with_one_entry log e mid new closed (subst (λ (n : ℕ). AddsEntry n e mid new) numbers added)).current;
     }
 
 claims_added : (number : ℕ) (e : LogEntry) (slots more : List Slot) (old new : Files) → AddsEntry number e old new → HasSizes slots old → ((k : ℕ) → size_of more k ≡ size_of slots k) → HasSizes more new

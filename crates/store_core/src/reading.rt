@@ -25,12 +25,13 @@ ghost use Rattle.store_core.specs.Refusing.{RefusesBy};
 ghost use Rattle.store_core.specs.State.{contents_damage, live_contents};
 
 use crate::{FlowIdentity, StoreError};
+use checkpoint_store::Snapshot;
 use content_repo::read_content;
 use disk_trait::{Damage, Disk, FileKind, FileName};
 use flowfile_record::{ContentRef, STORE_LIMIT, Stored, TextList};
 use flowfile_wal::{Log, LogEntries};
 use kept_state::{KeptState, Replay, ReplayError, replays_go_on};
-use record_codec::{HEADER_SIZE, LogEntry};
+use record_codec::{FORMAT_VERSION, HEADER_SIZE, LogEntry};
 use std::alloc::{AllocError, Global};
 
 /// What was read: the current log, how many entries it has, and what is kept.
@@ -82,10 +83,12 @@ fn read_behind<D: Disk>(
 ) -> Result<KeptState, StoreError>
     requires flow { IsConsistent (kept_anew flow.now lot) }
     requires encoded { HaveEncodings entries.items }
-    ensures kept { IfOk result (λ state. IsTrue D.tells → (end : ℕ)
-        → behind_log flow.now lot (D.held disk.old) (Ok (numbered_log current entries.items end)) ≡ Ok state.kept) }
-    ensures damaged { (damage : TheDamage) → IsErrOf result (StoreError.Damaged damage) → IsTrue D.tells → (end : ℕ)
-        → behind_log flow.now lot (D.held disk.old) (Ok (numbered_log current entries.items end)) ≡ Err damage }
+    ensures kept { IfOk result (λ state. IsTrue D.tells → (version end : ℕ)
+        → behind_log flow.now lot (D.held disk.old) (Ok (numbered_log current version entries.items end))
+        ≡ Ok state.kept) }
+    ensures damaged { (damage : TheDamage) → IsErrOf result (StoreError.Damaged damage) → IsTrue D.tells
+        → (version end : ℕ) → behind_log flow.now lot (D.held disk.old)
+        (Ok (numbered_log current version entries.items end)) ≡ Err damage }
     ensures flow { IfOk result (λ state. agrees_with flow.now state.kept ≡ true) }
     ensures anew { IfOk result (λ state. current ≡ None → state.kept ≡ kept_anew flow.now lot) }
     ensures refusal { IfErr result IsDiskMemoryOrDamage }
@@ -208,18 +211,20 @@ fn read_state<D: Disk>(
     entries: LogEntries,
 ) -> Result<KeptState, StoreError>
     requires { HaveEncodings entries.items }
-    ensures kept { IfOk result (λ state. IsTrue D.tells → (end : ℕ)
-        → behind_snapshot (D.held disk.old) (record { number = number; entries = entries.items; end = end })
+    ensures kept { IfOk result (λ state. IsTrue D.tells → (version end : ℕ)
+        → behind_snapshot (D.held disk.old)
+        (record { number = number; version = version; entries = entries.items; end = end })
         (snapshot_for flow.now (snapshot_file number) (D.held disk.old (snapshot_file number))) ≡ Ok state.kept) }
-    ensures damaged { (damage : TheDamage) → IsErrOf result (StoreError.Damaged damage) → IsTrue D.tells → (end : ℕ)
-        → behind_snapshot (D.held disk.old) (record { number = number; entries = entries.items; end = end })
+    ensures damaged { (damage : TheDamage) → IsErrOf result (StoreError.Damaged damage) → IsTrue D.tells
+        → (version end : ℕ) → behind_snapshot (D.held disk.old)
+        (record { number = number; version = version; entries = entries.items; end = end })
         (snapshot_for flow.now (snapshot_file number) (D.held disk.old (snapshot_file number))) ≡ Err damage }
     ensures flow { IfOk result (λ state. agrees_with flow.now state.kept ≡ true) }
     ensures refusal { IfErr result IsDiskMemoryOrDamage }
     ensures stays { Stays D.held D.moment D.images disk.old disk.new }
     ensures cause { CountsFaults (D.faults disk.old) (D.faults disk.new) (IsErrOf result StoreError.Disk) }
 {
-    let stored = checkpoint_store::read(alloc, disk, number)?;
+    let Snapshot { stored, .. } = checkpoint_store::read(alloc, disk, number, FORMAT_VERSION)?;
     if !agrees(flow, &stored) {
         let file = FileName {
             kind: FileKind::Snapshot,
@@ -248,11 +253,13 @@ pub(crate) fn apply_entries(
 ) -> Result<KeptState, StoreError>
     requires encoded { HaveEncodings entries.items }
     requires consistent { (kept_of stored).batches ≡ [] → IsConsistent (kept_of stored) }
-    ensures kept { IfOk result (λ state. (end : ℕ)
-        → with_entries (record { number = number; entries = entries.items; end = end }) (kept_of stored)
+    ensures kept { IfOk result (λ state. (version end : ℕ)
+        → with_entries
+        (record { number = number; version = version; entries = entries.items; end = end }) (kept_of stored)
         (unless_swapped (least_of (batches_that_matter (kept_of stored) entries.items))) ≡ Ok state.kept) }
-    ensures damaged { (damage : TheDamage) → IsErrOf result (StoreError.Damaged damage) → (end : ℕ)
-        → with_entries (record { number = number; entries = entries.items; end = end }) (kept_of stored)
+    ensures damaged { (damage : TheDamage) → IsErrOf result (StoreError.Damaged damage) → (version end : ℕ)
+        → with_entries
+        (record { number = number; version = version; entries = entries.items; end = end }) (kept_of stored)
         (unless_swapped (least_of (batches_that_matter (kept_of stored) entries.items))) ≡ Err damage }
     ensures flow { IfOk result (λ state. flow_in state.kept ≡ flow_in (kept_of stored)) }
     ensures refusal { IfErr result IsDiskMemoryOrDamage }

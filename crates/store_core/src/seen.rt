@@ -21,12 +21,14 @@ ghost use Rattle.store_core.specs.State.{state_of, stands_for};
 
 use crate::StoreError;
 use crate::reading::{apply_entries, read_contents, refuse_stray};
+use checkpoint_store::Snapshot;
 use content_repo::read_content;
 use disk_trait::Disk;
 use flowfile_record::{ActiveFile, DIGEST_SIZE, Event, EventCounts, Stored};
 use flowfile_wal::{Log, LogEntries};
 use kept_state::KeptState;
 use prov_store::Events;
+use record_codec::FORMAT_VERSION;
 use std::alloc::Global;
 use std::marker::Model;
 
@@ -93,12 +95,13 @@ fn see_behind<D: Disk>(
     entries: LogEntries,
 ) -> Result<Option<KeptState>, StoreError>
     requires { HaveEncodings entries.items }
-    ensures kept { IfOk result (λ state. IsTrue D.tells → (end : ℕ)
-        → behind_log no_flow 0 (D.held disk.old) (Ok (numbered_log current entries.items end))
+    ensures kept { IfOk result (λ state. IsTrue D.tells → (version end : ℕ)
+        → behind_log no_flow 0 (D.held disk.old) (Ok (numbered_log current version entries.items end))
         ≡ Ok (or_anew (option_map (λ m. m.kept) state))) }
     ensures made { IfOk result (λ state. (state ≡ None) ↔ (current ≡ None)) }
-    ensures damaged { (damage : TheDamage) → IsErrOf result (StoreError.Damaged damage) → IsTrue D.tells → (end : ℕ)
-        → behind_log no_flow 0 (D.held disk.old) (Ok (numbered_log current entries.items end)) ≡ Err damage }
+    ensures damaged { (damage : TheDamage) → IsErrOf result (StoreError.Damaged damage) → IsTrue D.tells
+        → (version end : ℕ) → behind_log no_flow 0 (D.held disk.old)
+        (Ok (numbered_log current version entries.items end)) ≡ Err damage }
     ensures refusal { IfErr result IsDiskMemoryOrDamage }
     ensures stays { Stays D.held D.moment D.images disk.old disk.new }
     ensures cause { CountsFaults (D.faults disk.old) (D.faults disk.new) (IsErrOf result StoreError.Disk) }
@@ -123,17 +126,19 @@ fn see_state<D: Disk>(
     entries: LogEntries,
 ) -> Result<KeptState, StoreError>
     requires { HaveEncodings entries.items }
-    ensures kept { IfOk result (λ state. IsTrue D.tells → (end : ℕ)
-        → behind_snapshot (D.held disk.old) (record { number = number; entries = entries.items; end = end })
+    ensures kept { IfOk result (λ state. IsTrue D.tells → (version end : ℕ)
+        → behind_snapshot (D.held disk.old)
+        (record { number = number; version = version; entries = entries.items; end = end })
         (snapshot_for no_flow (snapshot_file number) (D.held disk.old (snapshot_file number))) ≡ Ok state.kept) }
-    ensures damaged { (damage : TheDamage) → IsErrOf result (StoreError.Damaged damage) → IsTrue D.tells → (end : ℕ)
-        → behind_snapshot (D.held disk.old) (record { number = number; entries = entries.items; end = end })
+    ensures damaged { (damage : TheDamage) → IsErrOf result (StoreError.Damaged damage) → IsTrue D.tells
+        → (version end : ℕ) → behind_snapshot (D.held disk.old)
+        (record { number = number; version = version; entries = entries.items; end = end })
         (snapshot_for no_flow (snapshot_file number) (D.held disk.old (snapshot_file number))) ≡ Err damage }
     ensures refusal { IfErr result IsDiskMemoryOrDamage }
     ensures stays { Stays D.held D.moment D.images disk.old disk.new }
     ensures cause { CountsFaults (D.faults disk.old) (D.faults disk.new) (IsErrOf result StoreError.Disk) }
 {
-    let stored = checkpoint_store::read(alloc, disk, number)?;
+    let Snapshot { stored, .. } = checkpoint_store::read(alloc, disk, number, FORMAT_VERSION)?;
     has_bytes(stored.flow);
     apply_entries(alloc, stored, number, entries)
 }

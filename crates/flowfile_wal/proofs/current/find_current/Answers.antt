@@ -2,7 +2,7 @@ use Rattle.std.proofs.Common.{◌≡◌, ◌++◌, ◌∷◌, [], true, length, 
 use Rattle.std.proofs.lemmas.List.Kept.{AllPairs-from_increasing}
 use Rattle.disk_trait.specs.Files.{Files, named}
 use Rattle.disk_trait.specs.declared.file_name.FileKind.TheVariants.{Log}
-use Rattle.flowfile_wal.specs.Current.{counts}
+use Rattle.record_codec.specs.Frames.{counts}
 use Rattle.flowfile_wal.proofs.Searching.{Rises, AllCounted, rises_front, counted_some, found_last, none_left, passed_last}
 use Rattle.flowfile_wal.proofs.current.find_current.Goals as goal
 

@@ -3,7 +3,7 @@ use Rattle.std.specs.List.{AllPairs, Contains}
 use Rattle.disk_trait.specs.Files.{named}
 use Rattle.disk_trait.specs.Images.{Stays}
 use Rattle.disk_trait.specs.declared.file_name.FileKind.TheVariants.{Log}
-use Rattle.flowfile_wal.specs.Current.{counts}
+use Rattle.record_codec.specs.Frames.{counts}
 use Rattle.flowfile_wal.proofs.current.find_current.Given as goal
 
 abbrev pub invariant-loop-number : goal.invariant-loop-number

@@ -3,7 +3,7 @@ use Rattle.disk_trait.specs.Files.{named}
 use Rattle.disk_trait.specs.Images.{Stays}
 use Rattle.disk_trait.specs.declared.file_name.FileKind.TheVariants.{Log}
 use Rattle.flowfile_wal.specs.Calls.{HaveEncodings}
-use Rattle.flowfile_wal.specs.Reads.{LogIsReadTo}
+use Rattle.flowfile_wal.specs.Reads.{HasFirstBlock, LogIsReadTo}
 use Rattle.flowfile_wal.proofs.read.read_log.Given as goal
 
 abbrev pub invariant-loop-entries : goal.invariant-loop-entries
@@ -13,7 +13,7 @@ invariant-loop-entries g l = record {
   faults : g.D.Disk.faults l.fn.disk ≤ g.D.Disk.faults l.disk;
   encoded : HaveEncodings l.entries.items;
   size : IsTrue g.D.Disk.tells → l.size ≡ length (g.D.Disk.held l.fn.disk (named Log l.number));
-  read : IsTrue g.D.Disk.tells → LogIsReadTo l.number l.end l.entries.items (g.D.Disk.held l.fn.disk (named Log l.number));
+  read : IsTrue g.D.Disk.tells → LogIsReadTo l.number l.begun.version l.end l.entries.items (g.D.Disk.held l.fn.disk (named Log l.number));
 }
 
 abbrev pub decreases-loop-entries : goal.decreases-loop-entries

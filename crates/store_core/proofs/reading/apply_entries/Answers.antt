@@ -12,12 +12,12 @@ use Rattle.store_core.proofs.KeptRead.{none_matters, found_least, log_at, swappe
 use Rattle.store_core.proofs.reading.apply_entries.Goals as goal
 
 pub returns-in-Some-clause-damaged : goal.returns-in-Some-clause-damaged
-returns-in-Some-clause-damaged c damage is end =
+returns-in-Some-clause-damaged c damage is version end =
     let same : absent (named Swap c.in-Some.batch) ≡ damage = cc is in
     let k = kept_of c.args.stored in
     let entries = c.args.entries.items in
     let least = found_least k entries c.as_slice.result.now c.least_batch.result c.least_swapped-least.result c.least_batch.ensures c.as_slice.ensures.value c.least_swapped-least.ensures in
-    swapped_damage k c.args.number entries end c.in-Some.batch (least ∙ c.in-Some.is)
+    swapped_damage k c.args.number version entries end c.in-Some.batch (least ∙ c.in-Some.is)
     ∙ ap Err same
 
 pub replay_entries-requires-clause-unswapped : goal.replay_entries-requires-clause-unswapped
@@ -44,12 +44,12 @@ returns-in-None-clause-kept c =
     let entries = c.args.entries.items in
     let least = found_least k entries c.as_slice.result.now c.least_batch.result c.least_swapped-least.result c.least_batch.ensures c.as_slice.ensures.value c.least_swapped-least.ensures in
     if_ok c.replay_entries.result (λ state. replayed no_files k entries ≡ Ok state.kept)
-    (λ state. (end : ℕ) → with_entries (log_at c.args.number entries end) k (unless_swapped (least_of (batches_that_matter k entries))) ≡ Ok state.kept)
-    (λ state is end. entries_alone k c.args.number entries end (least ∙ c.in-None.is) ∙ ap (fitted c.args.number) is) c.replay_entries.ensures.kept
+    (λ state. (version end : ℕ) → with_entries (log_at c.args.number version entries end) k (unless_swapped (least_of (batches_that_matter k entries))) ≡ Ok state.kept)
+    (λ state is version end. entries_alone k c.args.number version entries end (least ∙ c.in-None.is) ∙ ap (fitted c.args.number) is) c.replay_entries.ensures.kept
 
 pub returns-in-None-clause-damaged : goal.returns-in-None-clause-damaged
-returns-in-None-clause-damaged c damage is end =
+returns-in-None-clause-damaged c damage is version end =
     let k = kept_of c.args.stored in
     let entries = c.args.entries.items in
     let least = found_least k entries c.as_slice.result.now c.least_batch.result c.least_swapped-least.result c.least_batch.ensures c.as_slice.ensures.value c.least_swapped-least.ensures in
-    entries_alone k c.args.number entries end (least ∙ c.in-None.is) ∙ c.replay_entries.ensures.damaged damage is
+    entries_alone k c.args.number version entries end (least ∙ c.in-None.is) ∙ c.replay_entries.ensures.damaged damage is

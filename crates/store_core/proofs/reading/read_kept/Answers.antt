@@ -20,7 +20,7 @@ returns-in_err-state-clause-damaged g c damage is told =
     let p = err_from_is_err_and c.from_residual-in_err-state.result c.from_residual-in_err-state.ensures.1 in
     let same : c.in_err-state.field-0.0 ≡ Damaged damage = cc (p.1, p.2, is) in
     found_by c.args.flow.now c.args.lot (g.D.Disk.held c.args.disk.now) (g.D.Disk.held c.load.new.disk) c.in_ok-log.log c.in_ok-log.entries.items c.number.result (Err damage)
-    c.load.ensures.stays.files c.number.ensures (c.in_ok-log.ensures.loaded told) (c.in_err-state.ensures.damaged damage (ap Err same) told c.in_ok-log.log.end)
+    c.load.ensures.stays.files c.number.ensures (c.in_ok-log.ensures.loaded told) (c.in_err-state.ensures.damaged damage (ap Err same) told c.in_ok-log.log.version c.in_ok-log.log.end)
 
 pub returns-clause-found : goal.returns-clause-found
 returns-clause-found g c told = record {
@@ -29,5 +29,5 @@ returns-clause-found g c told = record {
   count = grind (arith, common_steps);
   kept =
       found_by c.args.flow.now c.args.lot (g.D.Disk.held c.args.disk.now) (g.D.Disk.held c.load.new.disk) c.in_ok-log.log c.in_ok-log.entries.items c.number.result (Ok c.in_ok-state.state.kept)
-      c.load.ensures.stays.files c.number.ensures (c.in_ok-log.ensures.loaded told) (c.in_ok-state.ensures.kept told c.in_ok-log.log.end);
+      c.load.ensures.stays.files c.number.ensures (c.in_ok-log.ensures.loaded told) (c.in_ok-state.ensures.kept told c.in_ok-log.log.version c.in_ok-log.log.end);
 }

@@ -26,7 +26,7 @@ returns-clause-kept g c =
     (λ (state : Option InMemory). IsTrue g.D.Disk.tells → kept_in no_flow 0 (g.D.Disk.held c.args.disk.now) ≡ Ok (or_anew (option_map (λ m. m.kept) state)))
     (λ state is told.
     found_by no_flow 0 (g.D.Disk.held c.args.disk.now) (g.D.Disk.held c.load.new.disk) c.in_ok-log.log c.in_ok-log.entries.items c.number.result (Ok (or_anew (option_map (λ m. m.kept) state)))
-    c.load.ensures.stays.files c.number.ensures (c.in_ok-log.ensures.loaded told) (is told c.in_ok-log.log.end))
+    c.load.ensures.stays.files c.number.ensures (c.in_ok-log.ensures.loaded told) (is told c.in_ok-log.log.version c.in_ok-log.log.end))
     c.see_behind.ensures.kept
 
 pub returns-clause-made : goal.returns-clause-made
@@ -41,4 +41,4 @@ returns-clause-made g c =
 pub returns-clause-damaged : goal.returns-clause-damaged
 returns-clause-damaged g c damage is told =
     found_by no_flow 0 (g.D.Disk.held c.args.disk.now) (g.D.Disk.held c.load.new.disk) c.in_ok-log.log c.in_ok-log.entries.items c.number.result (Err damage)
-    c.load.ensures.stays.files c.number.ensures (c.in_ok-log.ensures.loaded told) (c.see_behind.ensures.damaged damage is told c.in_ok-log.log.end)
+    c.load.ensures.stays.files c.number.ensures (c.in_ok-log.ensures.loaded told) (c.see_behind.ensures.damaged damage is told c.in_ok-log.log.version c.in_ok-log.log.end)

@@ -12,7 +12,7 @@ use Rattle.flowfile_wal.proofs.log.Log.mend.Goals as goal
 pub mend_log-requires-clause-log : goal.mend_log-requires-clause-log
 mend_log-requires-clause-log g c lfts out told =
     let has : c.args.self.now.number ≡ Some c.in-Some.number = sym (ap (λ (s : LogState). s.number) c.self.view_is) ∙ c.in-Some.is in
-    log_at c.args.self.now c.in-Some.number c.self.inside.gate has (sym (ap (λ (s : LogState). s.end) c.self.view_is)) (g.D.Disk.held c.args.disk.now) (c.requires.current told)
+    log_at c.args.self.now c.in-Some.number c.args.self.now.version c.self.inside.gate has refl (sym (ap (λ (s : LogState). s.end) c.self.view_is)) (g.D.Disk.held c.args.disk.now) (c.requires.current told)
 
 pub returns-clause-ready : goal.returns-clause-ready
 returns-clause-ready g c =
@@ -28,12 +28,13 @@ returns-clause-ready g c =
       ready = λ c' left.
           let told = laws.left_is_told new (g.D.Disk.moment new) c' left in
           let is = c.requires.current told in
-          let log : CurrentLog = record { number = number; entries = is.entries; end = gate } in
+          let log : CurrentLog = record { number = number; version = state.version; entries = is.entries; end = gate } in
           let after = at_the_end g.D.Disk.moment g.D.Disk.images old new _ c.in-Ok.ensures.images c' left in
-          let was = current_by state number gate has ends (g.D.Disk.held old) is in
+          let was = current_by state number state.version gate has refl ends (g.D.Disk.held old) is in
           record {
             log = log;
             number = c.in-Some.is;
+            version = ap (λ (s : LogState). s.version) c.self.view_is;
             end = refl;
             ready = record {
               current = alike number after.0 c' after.2 ∙ ap current_log (c.requires.synced after.0 after.1) ∙ was;

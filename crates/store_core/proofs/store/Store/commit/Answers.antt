@@ -1,4 +1,4 @@
-use Rattle.std.proofs.Common.{◌≡◌, ℕ, ◌+◌, ◌-◌, ◌^◌, ◌≤◌, true, List, length, map, refl, ap, sym, subst, ◌∙◌, arith, IsTrue}
+use Rattle.std.proofs.Common.{◌≡◌, ℕ, ◌+◌, ◌-◌, ◌^◌, ◌≤◌, true, List, [], ◌∷◌, length, map, refl, ap, sym, subst, ◌∙◌, arith, IsTrue}
 use Rattle.std.specs.List.{AllZip}
 use Rattle.std.specs.Prelude.{is_some, min}
 use Rattle.flowfile_record.specs.Stored.{Kept}
@@ -6,11 +6,13 @@ use Rattle.flowfile_record.specs.declared.content.ContentRef.{ContentRef}
 use Rattle.flowfile_record.specs.declared.limits.TheConstants.{LIVE_FILES_MAX}
 use Rattle.flowfile_record.specs.declared.stored.ActiveFile.{ActiveFile}
 use Rattle.flowfile_record.specs.declared.stored.Placed.{Placed}
+use Rattle.record_codec.specs.Frames.{entry_frame}
 use Rattle.record_codec.specs.declared.entry.LogEntry.{LogEntry}
 use Rattle.checkpoint_store.specs.Consistent.{IsConsistent}
 use Rattle.content_repo.specs.Claims.{content_in}
 use Rattle.content_repo.specs.Slots.{count_of, held_in, references_to}
 use Rattle.flowfile_wal.specs.Steps.{LogState, IsFrame, IsReadyIn}
+use Rattle.flowfile_wal.proofs.OneEntry.{one_or_none, one_added}
 use Rattle.kept_state.specs.Changes.{no_files, placed_in, record_of}
 use Rattle.kept_state.specs.Fits.{entry_suits}
 use Rattle.machine_model.specs.Changing.{state_after}
@@ -20,7 +22,7 @@ use Rattle.store_core.specs.Placing.{contents_of, MayPlace, PlacesAll, StaysStor
 use Rattle.store_core.specs.State.{stands_for}
 use Rattle.store_core.specs.Store.{StoreState, store_in, kept_by, IsWorking}
 use Rattle.store_core.proofs.Agreeing.{of_state}
-use Rattle.store_core.proofs.Commits.{may_place, recorded_first, entry_acts, entry_room, entry_frame}
+use Rattle.store_core.proofs.Commits.{may_place, recorded_first, entry_acts, entry_room, framed_alone}
 use Rattle.store_core.proofs.Outcomes.{has_placed, has_change, placed_images, placed_states, placed_alone, placed_claims, numbered_of, has_logged, may_give_up, logged_images, logged_alone, logged_claims, logged_states, acknowledged_state as state_of_acknowledged, acknowledged_entry, acknowledged_kept, acknowledged_claims, acknowledged_works, claims_grown, events_counted, kept_shared, called}
 use Rattle.store_core.proofs.Whole.{ready_ahead}
 use Rattle.store_core.proofs.store.Store.commit.Goals as goal
@@ -153,8 +155,8 @@ give_up-requires g c =
     (subst (λ (t : StoreState). PlacesAll tells (held mid) change.settled.placed t.slots slots e) view placed) in
     λ k. subst (λ (refs : List ContentRef). references_to k refs ≤ count_of slots k) (sym given) (may_give_up tells held moment images now p e old mid slots has places k)
 
-pub append-requires-clause-block : goal.append-requires-clause-block
-append-requires-clause-block g c κs within =
+pub append-requires-clause-frame : goal.append-requires-clause-frame
+append-requires-clause-frame g c κs within =
     let i = c.self.inside in
     let s = store_in i.state i.log i.entries i.contents i.opened.items i.events i.lot i.has_failed in
     let now = c.args.self.now in
@@ -170,8 +172,9 @@ append-requires-clause-block g c κs within =
     let held = g.D.Disk.held in
     let tells = g.D.Disk.tells in
     let has = has_placed tells held moment images s now change p e old mid view p_view (c.self.invariant.works c.if-self.false) c.if-self.false c.stored-stored.ensures.consistent c.stored-stored.ensures.no_batches c.requires.kept c.requires.prepared c.requires.contents c.requires.digests c.write_ahead.ensures.entry.same c.write_ahead.ensures.grows.left c.write_ahead.ensures.grows.files in
-    let framed : IsFrame e c.as_slice-3.result.now = entry_frame now p e c.as_slice-3.result.now has.consistent has.prepared has.same c.into_frame-entry-2.ensures.encoded (c.as_slice-3.ensures.value ∙ c.into_frame-entry-2.ensures.frame) in
-    (e, framed)
+    let is_frame : c.as_slice-3.result.now ≡ entry_frame e = c.as_slice-3.ensures.value ∙ c.into_frame-entry-2.ensures.frame in
+    let framed : IsFrame i.log.version (e ∷ []) c.as_slice-3.result.now = framed_alone now p e i.log.version c.as_slice-3.result.now has.consistent has.prepared has.same c.into_frame-entry-2.ensures.encoded is_frame in
+    (e ∷ [], framed)
 
 pub append-requires-clause-ready : goal.append-requires-clause-ready
 append-requires-clause-ready g c κs within =
@@ -211,12 +214,13 @@ invariant_of-self-2 g c =
     let has = has_placed tells held moment images s now change p e old mid view p_view (c.self.invariant.works c.if-self.false) c.if-self.false c.stored-stored.ensures.consistent c.stored-stored.ensures.no_batches c.requires.kept c.requires.prepared c.requires.contents c.requires.digests c.write_ahead.ensures.entry.same c.write_ahead.ensures.grows.left c.write_ahead.ensures.grows.files in
     let slots = c.write_ahead.new.contents in
     let placed : PlacesAll tells (held mid) change.settled.placed s.slots slots e = subst (λ (l : List Placed). PlacesAll tells (held mid) l s.slots slots e) c.as_slice.ensures c.in-Ok.ensures.placed in
-    let framed : IsFrame e c.as_slice-3.result.now = entry_frame now p e c.as_slice-3.result.now has.consistent has.prepared has.same c.into_frame-entry-2.ensures.encoded (c.as_slice-3.ensures.value ∙ c.into_frame-entry-2.ensures.frame) in
+    let is_frame : c.as_slice-3.result.now ≡ entry_frame e = c.as_slice-3.ensures.value ∙ c.into_frame-entry-2.ensures.frame in
+    let framed : IsFrame i.log.version (e ∷ []) c.as_slice-3.result.now = framed_alone now p e i.log.version c.as_slice-3.result.now has.consistent has.prepared has.same c.into_frame-entry-2.ensures.encoded is_frame in
     let new = store_in c.apply-2.new.self c.append.new.self c.saturating_add-self-inside.result c.give_up.new.contents i.opened.items c.write_ahead.new.events i.lot i.has_failed in
     let end = c.append.new.disk in
     let laws = g.met.D.Disk g.world.𝓛 g.world.𝓜 g.world.𝓡 ((λ s x. x), (λ x. x), (λ x. x), λ x. x) in
     let number = numbered_of i.log.number c.self.invariant.current in
-    let logged = has_logged tells held moment images s now new change p e c.into_frame-entry-2.result.0 old mid end number.0 slots view p_view number.1 placed c.in-Ok.ensures.written.sizes c.in-Ok.ensures.events c.into_frame-entry-2.ensures.entry c.apply-2.ensures.kept refl (c.append.ensures.images number.0 e number.1 framed) (λ disk k c' image. laws.left_is_told disk k c' image) (λ disk told. laws.held_is_left disk told) in
+    let logged = has_logged tells held moment images s now new change p e c.into_frame-entry-2.result.0 old mid end number.0 slots view p_view number.1 placed c.in-Ok.ensures.written.sizes c.in-Ok.ensures.events c.into_frame-entry-2.ensures.entry c.apply-2.ensures.kept refl (one_or_none moment images mid end (held mid) number.0 e c.as_slice-3.result.now is_frame (c.append.ensures.images number.0 (e ∷ []) number.1 framed)) (λ disk k c' image. laws.left_is_told disk k c' image) (λ disk told. laws.held_is_left disk told) in
     let files : c.stored.result.now.files.items ≡ (kept_by now).files = ap (λ (k : Kept). k.files) c.stored.ensures.kept ∙ ap (λ (t : StoreState). (kept_by t).files) view in
     let gone : c.as_slice-2.result.now ≡ p.settled.gone = c.as_slice-2.ensures ∙ ap (λ (r : PreparedChange). r.settled.gone) p_view in
     let given : contents_of c.stored.result.now.files.items c.as_slice-2.result.now ≡ contents_of (kept_by now).files p.settled.gone =
@@ -295,12 +299,13 @@ returns-in_default-append-clause-changed g c works =
     let has = has_placed tells held moment images s now change p e old mid view p_view (c.self.invariant.works c.if-self.false) c.if-self.false c.stored-stored.ensures.consistent c.stored-stored.ensures.no_batches c.requires.kept c.requires.prepared c.requires.contents c.requires.digests c.write_ahead.ensures.entry.same c.write_ahead.ensures.grows.left c.write_ahead.ensures.grows.files in
     let slots = c.write_ahead.new.contents in
     let placed : PlacesAll tells (held mid) change.settled.placed s.slots slots e = subst (λ (l : List Placed). PlacesAll tells (held mid) l s.slots slots e) c.as_slice.ensures c.in-Ok.ensures.placed in
-    let framed : IsFrame e c.as_slice-3.result.now = entry_frame now p e c.as_slice-3.result.now has.consistent has.prepared has.same c.into_frame-entry-2.ensures.encoded (c.as_slice-3.ensures.value ∙ c.into_frame-entry-2.ensures.frame) in
+    let is_frame : c.as_slice-3.result.now ≡ entry_frame e = c.as_slice-3.ensures.value ∙ c.into_frame-entry-2.ensures.frame in
+    let framed : IsFrame i.log.version (e ∷ []) c.as_slice-3.result.now = framed_alone now p e i.log.version c.as_slice-3.result.now has.consistent has.prepared has.same c.into_frame-entry-2.ensures.encoded is_frame in
     let new = store_in c.apply-2.new.self c.append.new.self i.entries c.give_up.new.contents i.opened.items c.write_ahead.new.events i.lot true in
     let end = c.append.new.disk in
     let laws = g.met.D.Disk g.world.𝓛 g.world.𝓜 g.world.𝓡 ((λ s x. x), (λ x. x), (λ x. x), λ x. x) in
     let number = numbered_of i.log.number c.self.invariant.current in
-    let logged = has_logged tells held moment images s now new change p e c.into_frame-entry-2.result.0 old mid end number.0 slots view p_view number.1 placed c.in-Ok.ensures.written.sizes c.in-Ok.ensures.events c.into_frame-entry-2.ensures.entry c.apply-2.ensures.kept refl (c.append.ensures.images number.0 e number.1 framed) (λ disk k c' image. laws.left_is_told disk k c' image) (λ disk told. laws.held_is_left disk told) in
+    let logged = has_logged tells held moment images s now new change p e c.into_frame-entry-2.result.0 old mid end number.0 slots view p_view number.1 placed c.in-Ok.ensures.written.sizes c.in-Ok.ensures.events c.into_frame-entry-2.ensures.entry c.apply-2.ensures.kept refl (one_or_none moment images mid end (held mid) number.0 e c.as_slice-3.result.now is_frame (c.append.ensures.images number.0 (e ∷ []) number.1 framed)) (λ disk k c' image. laws.left_is_told disk k c' image) (λ disk told. laws.held_is_left disk told) in
     record {
       change = has_change s now new change p c.write_ahead.new.entry c.into_frame-entry-2.result.0 view p_view c.write_ahead.ensures.entry.same (subst (λ (l : List Placed). AllZip StaysStored l (placed_in e)) c.as_slice.ensures c.write_ahead.ensures.entry.stays) c.into_frame-entry-2.ensures.entry c.apply-2.ensures.kept refl refl (ap (λ (l : LogState). l.number) c.in_default-append.ensures.refusal.shown);
       holds = logged_images tells held moment images now new p e old mid end number.0 slots has logged;
@@ -326,12 +331,13 @@ returns-in_default-append-clause-touched g c =
     let has = has_placed tells held moment images s now change p e old mid view p_view (c.self.invariant.works c.if-self.false) c.if-self.false c.stored-stored.ensures.consistent c.stored-stored.ensures.no_batches c.requires.kept c.requires.prepared c.requires.contents c.requires.digests c.write_ahead.ensures.entry.same c.write_ahead.ensures.grows.left c.write_ahead.ensures.grows.files in
     let slots = c.write_ahead.new.contents in
     let placed : PlacesAll tells (held mid) change.settled.placed s.slots slots e = subst (λ (l : List Placed). PlacesAll tells (held mid) l s.slots slots e) c.as_slice.ensures c.in-Ok.ensures.placed in
-    let framed : IsFrame e c.as_slice-3.result.now = entry_frame now p e c.as_slice-3.result.now has.consistent has.prepared has.same c.into_frame-entry-2.ensures.encoded (c.as_slice-3.ensures.value ∙ c.into_frame-entry-2.ensures.frame) in
+    let is_frame : c.as_slice-3.result.now ≡ entry_frame e = c.as_slice-3.ensures.value ∙ c.into_frame-entry-2.ensures.frame in
+    let framed : IsFrame i.log.version (e ∷ []) c.as_slice-3.result.now = framed_alone now p e i.log.version c.as_slice-3.result.now has.consistent has.prepared has.same c.into_frame-entry-2.ensures.encoded is_frame in
     let new = store_in c.apply-2.new.self c.append.new.self i.entries c.give_up.new.contents i.opened.items c.write_ahead.new.events i.lot true in
     let end = c.append.new.disk in
     let laws = g.met.D.Disk g.world.𝓛 g.world.𝓜 g.world.𝓡 ((λ s x. x), (λ x. x), (λ x. x), λ x. x) in
     let number = numbered_of i.log.number c.self.invariant.current in
-    let logged = has_logged tells held moment images s now new change p e c.into_frame-entry-2.result.0 old mid end number.0 slots view p_view number.1 placed c.in-Ok.ensures.written.sizes c.in-Ok.ensures.events c.into_frame-entry-2.ensures.entry c.apply-2.ensures.kept refl (c.append.ensures.images number.0 e number.1 framed) (λ disk k c' image. laws.left_is_told disk k c' image) (λ disk told. laws.held_is_left disk told) in
+    let logged = has_logged tells held moment images s now new change p e c.into_frame-entry-2.result.0 old mid end number.0 slots view p_view number.1 placed c.in-Ok.ensures.written.sizes c.in-Ok.ensures.events c.into_frame-entry-2.ensures.entry c.apply-2.ensures.kept refl (one_or_none moment images mid end (held mid) number.0 e c.as_slice-3.result.now is_frame (c.append.ensures.images number.0 (e ∷ []) number.1 framed)) (λ disk k c' image. laws.left_is_told disk k c' image) (λ disk told. laws.held_is_left disk told) in
     record { alone = logged_alone tells held moment images now new p e old mid end number.0 slots has logged; claims = logged_claims tells held moment images now new p e old mid end number.0 slots has logged; acknowledged = tt }
 
 pub returns-clause-changed : goal.returns-clause-changed
@@ -353,12 +359,13 @@ returns-clause-changed g c works =
     let has = has_placed tells held moment images s now change p e old mid view p_view (c.self.invariant.works c.if-self.false) c.if-self.false c.stored-stored.ensures.consistent c.stored-stored.ensures.no_batches c.requires.kept c.requires.prepared c.requires.contents c.requires.digests c.write_ahead.ensures.entry.same c.write_ahead.ensures.grows.left c.write_ahead.ensures.grows.files in
     let slots = c.write_ahead.new.contents in
     let placed : PlacesAll tells (held mid) change.settled.placed s.slots slots e = subst (λ (l : List Placed). PlacesAll tells (held mid) l s.slots slots e) c.as_slice.ensures c.in-Ok.ensures.placed in
-    let framed : IsFrame e c.as_slice-3.result.now = entry_frame now p e c.as_slice-3.result.now has.consistent has.prepared has.same c.into_frame-entry-2.ensures.encoded (c.as_slice-3.ensures.value ∙ c.into_frame-entry-2.ensures.frame) in
+    let is_frame : c.as_slice-3.result.now ≡ entry_frame e = c.as_slice-3.ensures.value ∙ c.into_frame-entry-2.ensures.frame in
+    let framed : IsFrame i.log.version (e ∷ []) c.as_slice-3.result.now = framed_alone now p e i.log.version c.as_slice-3.result.now has.consistent has.prepared has.same c.into_frame-entry-2.ensures.encoded is_frame in
     let new = store_in c.apply-2.new.self c.append.new.self c.saturating_add-self-inside.result c.give_up.new.contents i.opened.items c.write_ahead.new.events i.lot i.has_failed in
     let end = c.append.new.disk in
     let laws = g.met.D.Disk g.world.𝓛 g.world.𝓜 g.world.𝓡 ((λ s x. x), (λ x. x), (λ x. x), λ x. x) in
     let number = numbered_of i.log.number c.self.invariant.current in
-    let logged = has_logged tells held moment images s now new change p e c.into_frame-entry-2.result.0 old mid end number.0 slots view p_view number.1 placed c.in-Ok.ensures.written.sizes c.in-Ok.ensures.events c.into_frame-entry-2.ensures.entry c.apply-2.ensures.kept refl (c.append.ensures.images number.0 e number.1 framed) (λ disk k c' image. laws.left_is_told disk k c' image) (λ disk told. laws.held_is_left disk told) in
+    let logged = has_logged tells held moment images s now new change p e c.into_frame-entry-2.result.0 old mid end number.0 slots view p_view number.1 placed c.in-Ok.ensures.written.sizes c.in-Ok.ensures.events c.into_frame-entry-2.ensures.entry c.apply-2.ensures.kept refl (one_or_none moment images mid end (held mid) number.0 e c.as_slice-3.result.now is_frame (c.append.ensures.images number.0 (e ∷ []) number.1 framed)) (λ disk k c' image. laws.left_is_told disk k c' image) (λ disk told. laws.held_is_left disk told) in
     record {
       change = has_change s now new change p c.write_ahead.new.entry c.into_frame-entry-2.result.0 view p_view c.write_ahead.ensures.entry.same (subst (λ (l : List Placed). AllZip StaysStored l (placed_in e)) c.as_slice.ensures c.write_ahead.ensures.entry.stays) c.into_frame-entry-2.ensures.entry c.apply-2.ensures.kept refl refl (ap (λ (l : LogState). l.number) c.in-Ok-append.ensures.acknowledged.1);
       holds = logged_images tells held moment images now new p e old mid end number.0 slots has logged;
@@ -384,16 +391,17 @@ returns-clause-touched g c =
     let has = has_placed tells held moment images s now change p e old mid view p_view (c.self.invariant.works c.if-self.false) c.if-self.false c.stored-stored.ensures.consistent c.stored-stored.ensures.no_batches c.requires.kept c.requires.prepared c.requires.contents c.requires.digests c.write_ahead.ensures.entry.same c.write_ahead.ensures.grows.left c.write_ahead.ensures.grows.files in
     let slots = c.write_ahead.new.contents in
     let placed : PlacesAll tells (held mid) change.settled.placed s.slots slots e = subst (λ (l : List Placed). PlacesAll tells (held mid) l s.slots slots e) c.as_slice.ensures c.in-Ok.ensures.placed in
-    let framed : IsFrame e c.as_slice-3.result.now = entry_frame now p e c.as_slice-3.result.now has.consistent has.prepared has.same c.into_frame-entry-2.ensures.encoded (c.as_slice-3.ensures.value ∙ c.into_frame-entry-2.ensures.frame) in
+    let is_frame : c.as_slice-3.result.now ≡ entry_frame e = c.as_slice-3.ensures.value ∙ c.into_frame-entry-2.ensures.frame in
+    let framed : IsFrame i.log.version (e ∷ []) c.as_slice-3.result.now = framed_alone now p e i.log.version c.as_slice-3.result.now has.consistent has.prepared has.same c.into_frame-entry-2.ensures.encoded is_frame in
     let new = store_in c.apply-2.new.self c.append.new.self c.saturating_add-self-inside.result c.give_up.new.contents i.opened.items c.write_ahead.new.events i.lot i.has_failed in
     let end = c.append.new.disk in
     let laws = g.met.D.Disk g.world.𝓛 g.world.𝓜 g.world.𝓡 ((λ s x. x), (λ x. x), (λ x. x), λ x. x) in
     let number = numbered_of i.log.number c.self.invariant.current in
-    let logged = has_logged tells held moment images s now new change p e c.into_frame-entry-2.result.0 old mid end number.0 slots view p_view number.1 placed c.in-Ok.ensures.written.sizes c.in-Ok.ensures.events c.into_frame-entry-2.ensures.entry c.apply-2.ensures.kept refl (c.append.ensures.images number.0 e number.1 framed) (λ disk k c' image. laws.left_is_told disk k c' image) (λ disk told. laws.held_is_left disk told) in
+    let logged = has_logged tells held moment images s now new change p e c.into_frame-entry-2.result.0 old mid end number.0 slots view p_view number.1 placed c.in-Ok.ensures.written.sizes c.in-Ok.ensures.events c.into_frame-entry-2.ensures.entry c.apply-2.ensures.kept refl (one_or_none moment images mid end (held mid) number.0 e c.as_slice-3.result.now is_frame (c.append.ensures.images number.0 (e ∷ []) number.1 framed)) (λ disk k c' image. laws.left_is_told disk k c' image) (λ disk told. laws.held_is_left disk told) in
     record {
       alone = logged_alone tells held moment images now new p e old mid end number.0 slots has logged;
       claims = logged_claims tells held moment images now new p e old mid end number.0 slots has logged;
-      acknowledged = acknowledged_claims tells held moment images now new p e old mid end number.0 slots has logged (c.in-Ok-append.ensures.added number.0 e number.1 framed);
+      acknowledged = acknowledged_claims tells held moment images now new p e old mid end number.0 slots has logged (one_added (images end (moment end)) (held mid) number.0 e c.as_slice-3.result.now is_frame (c.in-Ok-append.ensures.added number.0 (e ∷ []) number.1 framed));
     }
 
 pub returns-clause-kept : goal.returns-clause-kept
@@ -415,14 +423,15 @@ returns-clause-kept g c =
     let has = has_placed tells held moment images s now change p e old mid view p_view (c.self.invariant.works c.if-self.false) c.if-self.false c.stored-stored.ensures.consistent c.stored-stored.ensures.no_batches c.requires.kept c.requires.prepared c.requires.contents c.requires.digests c.write_ahead.ensures.entry.same c.write_ahead.ensures.grows.left c.write_ahead.ensures.grows.files in
     let slots = c.write_ahead.new.contents in
     let placed : PlacesAll tells (held mid) change.settled.placed s.slots slots e = subst (λ (l : List Placed). PlacesAll tells (held mid) l s.slots slots e) c.as_slice.ensures c.in-Ok.ensures.placed in
-    let framed : IsFrame e c.as_slice-3.result.now = entry_frame now p e c.as_slice-3.result.now has.consistent has.prepared has.same c.into_frame-entry-2.ensures.encoded (c.as_slice-3.ensures.value ∙ c.into_frame-entry-2.ensures.frame) in
+    let is_frame : c.as_slice-3.result.now ≡ entry_frame e = c.as_slice-3.ensures.value ∙ c.into_frame-entry-2.ensures.frame in
+    let framed : IsFrame i.log.version (e ∷ []) c.as_slice-3.result.now = framed_alone now p e i.log.version c.as_slice-3.result.now has.consistent has.prepared has.same c.into_frame-entry-2.ensures.encoded is_frame in
     let new = store_in c.apply-2.new.self c.append.new.self c.saturating_add-self-inside.result c.give_up.new.contents i.opened.items c.write_ahead.new.events i.lot i.has_failed in
     let end = c.append.new.disk in
     let laws = g.met.D.Disk g.world.𝓛 g.world.𝓜 g.world.𝓡 ((λ s x. x), (λ x. x), (λ x. x), λ x. x) in
     let number = numbered_of i.log.number c.self.invariant.current in
-    let logged = has_logged tells held moment images s now new change p e c.into_frame-entry-2.result.0 old mid end number.0 slots view p_view number.1 placed c.in-Ok.ensures.written.sizes c.in-Ok.ensures.events c.into_frame-entry-2.ensures.entry c.apply-2.ensures.kept refl (c.append.ensures.images number.0 e number.1 framed) (λ disk k c' image. laws.left_is_told disk k c' image) (λ disk told. laws.held_is_left disk told) in
+    let logged = has_logged tells held moment images s now new change p e c.into_frame-entry-2.result.0 old mid end number.0 slots view p_view number.1 placed c.in-Ok.ensures.written.sizes c.in-Ok.ensures.events c.into_frame-entry-2.ensures.entry c.apply-2.ensures.kept refl (one_or_none moment images mid end (held mid) number.0 e c.as_slice-3.result.now is_frame (c.append.ensures.images number.0 (e ∷ []) number.1 framed)) (λ disk k c' image. laws.left_is_told disk k c' image) (λ disk told. laws.held_is_left disk told) in
     let more : new.entries ≡ min (i.entries + 1) (2 ^ 64 - 1) = omega (arith, c.saturating_add-self-inside.ensures) in
-    acknowledged_kept tells held moment images now new p e old mid end number.0 slots has logged (c.in-Ok-append.ensures.added number.0 e number.1 framed) c.in-Ok-append.ensures.ready.ready (more ∙ ap (λ (t : StoreState). min (t.entries + 1) (2 ^ 64 - 1)) view) c.give_up.ensures.sizes
+    acknowledged_kept tells held moment images now new p e old mid end number.0 slots has logged (one_added (images end (moment end)) (held mid) number.0 e c.as_slice-3.result.now is_frame (c.in-Ok-append.ensures.added number.0 (e ∷ []) number.1 framed)) c.in-Ok-append.ensures.ready.ready (more ∙ ap (λ (t : StoreState). min (t.entries + 1) (2 ^ 64 - 1)) view) c.give_up.ensures.sizes
 
 pub returns-clause-acknowledged : goal.returns-clause-acknowledged
 returns-clause-acknowledged g c =
@@ -443,12 +452,13 @@ returns-clause-acknowledged g c =
     let has = has_placed tells held moment images s now change p e old mid view p_view (c.self.invariant.works c.if-self.false) c.if-self.false c.stored-stored.ensures.consistent c.stored-stored.ensures.no_batches c.requires.kept c.requires.prepared c.requires.contents c.requires.digests c.write_ahead.ensures.entry.same c.write_ahead.ensures.grows.left c.write_ahead.ensures.grows.files in
     let slots = c.write_ahead.new.contents in
     let placed : PlacesAll tells (held mid) change.settled.placed s.slots slots e = subst (λ (l : List Placed). PlacesAll tells (held mid) l s.slots slots e) c.as_slice.ensures c.in-Ok.ensures.placed in
-    let framed : IsFrame e c.as_slice-3.result.now = entry_frame now p e c.as_slice-3.result.now has.consistent has.prepared has.same c.into_frame-entry-2.ensures.encoded (c.as_slice-3.ensures.value ∙ c.into_frame-entry-2.ensures.frame) in
+    let is_frame : c.as_slice-3.result.now ≡ entry_frame e = c.as_slice-3.ensures.value ∙ c.into_frame-entry-2.ensures.frame in
+    let framed : IsFrame i.log.version (e ∷ []) c.as_slice-3.result.now = framed_alone now p e i.log.version c.as_slice-3.result.now has.consistent has.prepared has.same c.into_frame-entry-2.ensures.encoded is_frame in
     let new = store_in c.apply-2.new.self c.append.new.self c.saturating_add-self-inside.result c.give_up.new.contents i.opened.items c.write_ahead.new.events i.lot i.has_failed in
     let end = c.append.new.disk in
     let laws = g.met.D.Disk g.world.𝓛 g.world.𝓜 g.world.𝓡 ((λ s x. x), (λ x. x), (λ x. x), λ x. x) in
     let number = numbered_of i.log.number c.self.invariant.current in
-    let logged = has_logged tells held moment images s now new change p e c.into_frame-entry-2.result.0 old mid end number.0 slots view p_view number.1 placed c.in-Ok.ensures.written.sizes c.in-Ok.ensures.events c.into_frame-entry-2.ensures.entry c.apply-2.ensures.kept refl (c.append.ensures.images number.0 e number.1 framed) (λ disk k c' image. laws.left_is_told disk k c' image) (λ disk told. laws.held_is_left disk told) in
+    let logged = has_logged tells held moment images s now new change p e c.into_frame-entry-2.result.0 old mid end number.0 slots view p_view number.1 placed c.in-Ok.ensures.written.sizes c.in-Ok.ensures.events c.into_frame-entry-2.ensures.entry c.apply-2.ensures.kept refl (one_or_none moment images mid end (held mid) number.0 e c.as_slice-3.result.now is_frame (c.append.ensures.images number.0 (e ∷ []) number.1 framed)) (λ disk k c' image. laws.left_is_told disk k c' image) (λ disk told. laws.held_is_left disk told) in
     record {
       moment = c.in-Ok-append.ensures.acknowledged.0;
       calls =
@@ -456,8 +466,8 @@ returns-clause-acknowledged g c =
           c.in-Ok.ensures.written.calls c.in-Ok-append.ensures.calls;
       events = events_counted s c.args.self.now change c.args.prepared c.write_ahead.new.events c.self.view_is c.prepared.view_is c.requires.prepared c.in-Ok.ensures.events.appended;
       entries = (let more : new.entries ≡ min (i.entries + 1) (2 ^ 64 - 1) = omega (arith, c.saturating_add-self-inside.ensures) in more ∙ ap (λ (t : StoreState). min (t.entries + 1) (2 ^ 64 - 1)) view);
-      logged = acknowledged_entry tells held moment images now new p e old mid end number.0 slots has logged (c.in-Ok-append.ensures.added number.0 e number.1 framed);
+      logged = acknowledged_entry tells held moment images now new p e old mid end number.0 slots has logged (one_added (images end (moment end)) (held mid) number.0 e c.as_slice-3.result.now is_frame (c.in-Ok-append.ensures.added number.0 (e ∷ []) number.1 framed));
       grown = claims_grown tells held moment images now new p e old mid end number.0 slots has logged c.give_up.new.contents c.give_up.ensures.sizes;
       shared = kept_shared tells held moment images now new p e old mid end number.0 slots has logged;
-      states = λ state stands. state_of_acknowledged tells held moment images now new p e old mid end number.0 slots has logged state stands (c.in-Ok-append.ensures.added number.0 e number.1 framed);
+      states = λ state stands. state_of_acknowledged tells held moment images now new p e old mid end number.0 slots has logged state stands (one_added (images end (moment end)) (held mid) number.0 e c.as_slice-3.result.now is_frame (c.in-Ok-append.ensures.added number.0 (e ∷ []) number.1 framed));
     }
