@@ -27,10 +27,10 @@ pub fn measure_reading<R: Files + Alloc<A = Global>>(
 ) -> Result<Measured> {
     let mut disk = BenchDisk::of_file(alloc, SNAPSHOT, snapshot(alloc, files)?)?;
     let start = processor_time(rt);
-    let state = read(alloc, &mut disk, SNAPSHOT.number)?;
+    let found = read(alloc, &mut disk, SNAPSHOT.number, FORMAT_VERSION)?;
     let took = processor_time(rt).saturating_sub(start);
     Ok(Measured {
-        count: state.files.len(),
+        count: found.stored.files.len(),
         took,
     })
 }
@@ -47,7 +47,7 @@ pub fn measure_writing<R: Files + Alloc<A = Global>>(
     }
     let mut disk = BenchDisk::of_file(alloc, SNAPSHOT, Vec::new(alloc))?;
     let start = processor_time(rt);
-    write(alloc, &mut disk, SNAPSHOT.number, &state)?;
+    write(alloc, &mut disk, SNAPSHOT.number, FORMAT_VERSION, &state)?;
     let took = processor_time(rt).saturating_sub(start);
     Ok(Measured {
         count: state.files.len(),
@@ -60,8 +60,8 @@ fn state(alloc: Global, files: u32) -> Result<Stored>
     ensures { IfOk result (λ state. (kept_of state).batches ≡ [] → IsConsistent (kept_of state)) }
 {
     let mut disk = BenchDisk::of_file(alloc, SNAPSHOT, snapshot(alloc, files)?)?;
-    let state = read(alloc, &mut disk, SNAPSHOT.number)?;
-    Ok(state)
+    let found = read(alloc, &mut disk, SNAPSHOT.number, FORMAT_VERSION)?;
+    Ok(found.stored)
 }
 
 /// A snapshot of so many files.

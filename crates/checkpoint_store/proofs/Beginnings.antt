@@ -11,18 +11,23 @@ use Rattle.disk_trait.proofs.Moments.{one_after_another}
 use Rattle.record_codec.specs.Block.{block}
 use Rattle.record_codec.specs.EntryEncoding.{entry}
 use Rattle.record_codec.specs.declared.log.TheConstants.{OPEN_GATE, CLOSED_GATE}
-use Rattle.checkpoint_store.specs.Begun.{log_file, begin_frame, begun_log, IsPassedOverLog, IsBegunOrNot, MayBegin, IsBegun}
+use Rattle.record_codec.specs.Frames.{entry_frame, begun_log, IsPassedOver}
+use Rattle.record_codec.specs.declared.entry.LogEntry.TheVariants.{Begin}
+use Rattle.checkpoint_store.specs.Begun.{log_file, IsBegunOrNot, MayBegin, IsBegun}
+
+abbrev begin_frame : ℕ → ℕ → List ℕ
+begin_frame version number = entry_frame (Begin version number)
 
 -- the frame's parts, where the entry and its digest were copied into an array
-pub frame_is : (number : ℕ) (e d rest : List ℕ) → e ≡ 1 ∷ 1 ∷ to_be_bytes w64 number → d ≡ sha256 e → drop 32 rest ≡ CLOSED_GATE ∷ []
-    → 0 ∷ 0 ∷ 0 ∷ 9 ∷ (take 10 (e ++ rest) ++ (d ++ drop 32 (drop 10 (e ++ rest)))) ≡ begin_frame number
+pub frame_is : (version number : ℕ) (e d rest : List ℕ) → e ≡ 1 ∷ version ∷ to_be_bytes w64 number → d ≡ sha256 e → drop 32 rest ≡ CLOSED_GATE ∷ []
+    → 0 ∷ 0 ∷ 0 ∷ 9 ∷ (take 10 (e ++ rest) ++ (d ++ drop 32 (drop 10 (e ++ rest)))) ≡ begin_frame version number
 unfolding block entry
-frame_is number e d rest e_is d_is rest_is = rw (d_is, e_is, rest_is) refl
+frame_is version number e d rest e_is d_is rest_is = rw (d_is, e_is, rest_is) refl
 
 -- ---- the bytes of the log
 
 -- a stop within the first write
-first_torn : (d c : List ℕ) → d ≡ [] → Torn 0 1 d c → IsPassedOverLog c
+first_torn : (d c : List ℕ) → d ≡ [] → Torn 0 1 d c → IsPassedOver c
 first_torn d c none torn = inl (omega (arith, torn.no_longer, ap length none))
 
 -- the closed gate is written
@@ -33,7 +38,7 @@ not_open : CLOSED_GATE ≢ OPEN_GATE
 not_open same = absurd cc
 
 -- a stop within the write behind it
-second_torn : (n : ℕ) (d c : List ℕ) → d ≡ CLOSED_GATE ∷ [] → Torn 1 n d c → IsPassedOverLog c
+second_torn : (n : ℕ) (d c : List ℕ) → d ≡ CLOSED_GATE ∷ [] → Torn 1 n d c → IsPassedOver c
 second_torn n d [] is torn = inl (omega arith)
 second_torn n d (gate ∷ rest) is torn =
     let front : gate ∷ [] ≡ CLOSED_GATE ∷ [] = torn.front ∙ ap (take 1) is in
@@ -47,17 +52,17 @@ frame_behind frame d c is over =
     ∙ append-nil (CLOSED_GATE ∷ frame)
 
 -- a stop within the write of the gate
-gate_torn : (number : ℕ) (d c : List ℕ) → d ≡ CLOSED_GATE ∷ begin_frame number → Torn 0 1 d c → IsBegunOrNot number c
-gate_torn number d [] is torn = inl (inl (omega arith))
-gate_torn number d (gate ∷ rest) is torn =
-    let behind : rest ≡ begin_frame number = torn.back ∙ ap (drop 1) is in
+gate_torn : (version number : ℕ) (d c : List ℕ) → d ≡ CLOSED_GATE ∷ begin_frame version number → Torn 0 1 d c → IsBegunOrNot version number c
+gate_torn version number d [] is torn = inl (inl (omega arith))
+gate_torn version number d (gate ∷ rest) is torn =
+    let behind : rest ≡ begin_frame version number = torn.back ∙ ap (drop 1) is in
     elim (cases_eq gate OPEN_GATE) [
       | inl opens ↦ inr (ap (λ (g : ℕ). g ∷ rest) opens ∙ ap (λ (l : List ℕ). OPEN_GATE ∷ l) behind)
       | inr closed ↦ inl (inr closed)
     ]
 
-pub gate_opened : (number : ℕ) (d c : List ℕ) → d ≡ CLOSED_GATE ∷ begin_frame number → Overwritten 0 (OPEN_GATE ∷ []) d c → c ≡ begun_log number
-gate_opened number d c is over = over ∙ ap (λ (l : List ℕ). OPEN_GATE ∷ drop 1 l) is
+pub gate_opened : (version number : ℕ) (d c : List ℕ) → d ≡ CLOSED_GATE ∷ begin_frame version number → Overwritten 0 (OPEN_GATE ∷ []) d c → c ≡ begun_log version number
+gate_opened version number d c is over = over ∙ ap (λ (l : List ℕ). OPEN_GATE ∷ drop 1 l) is
 
 -- ---- the calls
 
@@ -66,7 +71,7 @@ module _ {D : Type 0} (moment : D → ℕ) (images : D → ℕ → Files → Typ
   Before = images old (moment old)
 
   pub first_alone : (file : FileName) → ((c : Files) → Before c → c file ≡ []) → (c : Files) → After (At file (Torn 0 1)) Before c
-      → After (At file (λ o w. IsPassedOverLog w)) Before c
+      → After (At file (λ o w. IsPassedOver w)) Before c
   first_alone file none c after =
       (after.0, after.1, record { here = first_torn (after.0 file) (c file) (none after.0 after.1) after.2.here; others = after.2.others })
 
@@ -91,24 +96,24 @@ module _ {D : Type 0} (moment : D → ℕ) (images : D → ℕ → Files → Typ
       → IsOnly now (images mid (moment mid))
       → Since moment images old mid (After (At file (Torn 0 1)) Before)
       → Since moment images mid new (After (At file (Torn 1 n)) (images mid (moment mid)))
-      → Since moment images old new (After (At file (λ o w. IsPassedOverLog w)) Before)
+      → Since moment images old new (After (At file (λ o w. IsPassedOver w)) Before)
   staged_or_not file n none between only first second =
-      one_after_another moment images old mid new _ _ (After (At file (λ o w. IsPassedOverLog w)) Before) first second
+      one_after_another moment images old mid new _ _ (After (At file (λ o w. IsPassedOver w)) Before) first second
       (first_alone file none)
-      (from_between file (Overwritten 0 (CLOSED_GATE ∷ [])) (Torn 1 n) IsPassedOverLog between only
+      (from_between file (Overwritten 0 (CLOSED_GATE ∷ [])) (Torn 1 n) IsPassedOver between only
       (λ c left over torn. second_torn n (now file) c (closed_alone (held file) (now file) (none held left) over) torn))
 
-  pub begun_or_not : (number : ℕ)
-      → ((c : Files) → images mid (moment mid) c → Before held × At (log_file number) (λ o w. w ≡ CLOSED_GATE ∷ begin_frame number) held now)
+  pub begun_or_not : (version number : ℕ)
+      → ((c : Files) → images mid (moment mid) c → Before held × At (log_file number) (λ o w. w ≡ CLOSED_GATE ∷ begin_frame version number) held now)
       → IsOnly now (images mid (moment mid))
-      → Since moment images old mid (After (At (log_file number) (λ o w. IsPassedOverLog w)) Before)
+      → Since moment images old mid (After (At (log_file number) (λ o w. IsPassedOver w)) Before)
       → Since moment images mid new (After (At (log_file number) (Torn 0 1)) (images mid (moment mid)))
-      → Since moment images old new (After (At (log_file number) (λ o w. IsBegunOrNot number w)) Before)
-  begun_or_not number between only first second =
-      one_after_another moment images old mid new _ _ (After (At (log_file number) (λ o w. IsBegunOrNot number w)) Before) first second
+      → Since moment images old new (After (At (log_file number) (λ o w. IsBegunOrNot version number w)) Before)
+  begun_or_not version number between only first second =
+      one_after_another moment images old mid new _ _ (After (At (log_file number) (λ o w. IsBegunOrNot version number w)) Before) first second
       (λ c after. (after.0, after.1, record { here = inl after.2.here; others = after.2.others }))
-      (from_between (log_file number) (λ o w. w ≡ CLOSED_GATE ∷ begin_frame number) (Torn 0 1) (IsBegunOrNot number) between only
-      (λ c left is torn. gate_torn number (now (log_file number)) c is torn))
+      (from_between (log_file number) (λ o w. w ≡ CLOSED_GATE ∷ begin_frame version number) (Torn 0 1) (IsBegunOrNot version number) between only
+      (λ c left is torn. gate_torn version number (now (log_file number)) c is torn))
 
 -- ---- what is held
 
@@ -123,11 +128,11 @@ log_file-other : (number n : ℕ) → number < n → log_file n ≢ log_file num
 log_file-other number n above same = let equal : n ≡ number = ap (λ (f : FileName). f.number) same in absurd (omega (arith, above, equal))
 
 -- in which files the log is current
-pub is_begun : (number : ℕ) (old mid now : Files) → MayBegin number old
-    → At (log_file number) (λ o w. w ≡ CLOSED_GATE ∷ begin_frame number) old mid → At (log_file number) (Overwritten 0 (OPEN_GATE ∷ [])) mid now → IsBegun number now
-is_begun number old mid now may first second = record {
-  begun = gate_opened number (mid (log_file number)) (now (log_file number)) first.here second.here;
+pub is_begun : (version number : ℕ) (old mid now : Files) → MayBegin number old
+    → At (log_file number) (λ o w. w ≡ CLOSED_GATE ∷ begin_frame version number) old mid → At (log_file number) (Overwritten 0 (OPEN_GATE ∷ [])) mid now → IsBegun version number now
+is_begun version number old mid now may first second = record {
+  begun = gate_opened version number (mid (log_file number)) (now (log_file number)) first.here second.here;
   greater = λ n above.
       let other = log_file-other number n above in
-      subst IsPassedOverLog (sym (second.others (log_file n) other ∙ first.others (log_file n) other)) (may.greater n above);
+      subst IsPassedOver (sym (second.others (log_file n) other ∙ first.others (log_file n) other)) (may.greater n above);
 }

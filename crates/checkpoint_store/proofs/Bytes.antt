@@ -33,19 +33,19 @@ pub size_stands : (bytes : List ℕ) (kind : ℕ) (payload : List ℕ) → readi
 size_stands bytes kind payload is = (whole_of-reading bytes kind payload is).size
 
 -- what is read of a Head up to its lists
-pub front_stands : (bytes : List ℕ) (kind : ℕ) (payload : List ℕ) (n : ℕ) → reading_of bytes ≡ Whole kind payload → n ≡ min (length payload) 41
-    → is_ok (head_front_at (take n (drop 5 bytes))) ≡ is_ok (head_front_at payload)
-front_stands bytes kind payload n is count =
+pub front_stands : (version : ℕ) (bytes : List ℕ) (kind : ℕ) (payload : List ℕ) (n : ℕ) → reading_of bytes ≡ Whole kind payload → n ≡ min (length payload) 41
+    → is_ok (head_front_at version (take n (drop 5 bytes))) ≡ is_ok (head_front_at version payload)
+front_stands version bytes kind payload n is count =
     let same : take n payload ≡ take n (drop 5 bytes) =
     ap (take n) (payload_stands bytes kind payload is) ∙ take-take n (length payload) (drop 5 bytes) (omega arith) in
-    ap (λ (l : List ℕ). is_ok (head_front_at l)) (sym same) ∙ front_same payload n count
+    ap (λ (l : List ℕ). is_ok (head_front_at version l)) (sym same) ∙ front_same version payload n count
 
 -- ---- a block that says nothing
 
-pub no_first_block : (file : FileName) (bytes : List ℕ) (kind : ℕ) (payload : List ℕ) → reading_of bytes ≡ Whole kind payload → first_block_kept kind payload ≡ None
-    → snapshot_of file bytes ≡ Err (Form file 0)
-no_first_block file bytes kind payload is none =
-    ap (λ (r : Reading). behind_block file 0 first_block_kept r (λ k size. blocks_from (suc (length bytes)) file size k (drop size bytes))) is
+pub no_first_block : (version : ℕ) (file : FileName) (bytes : List ℕ) (kind : ℕ) (payload : List ℕ) → reading_of bytes ≡ Whole kind payload → first_block_kept version kind payload ≡ None
+    → snapshot_of version file bytes ≡ Err (Form file 0)
+no_first_block version file bytes kind payload is none =
+    ap (λ (r : Reading). behind_block file 0 (first_block_kept version) r (λ k size. blocks_from (suc (length bytes)) file size k (drop size bytes))) is
     ∙ ap (said file 0 (length payload + 37) (λ k size. blocks_from (suc (length bytes)) file size k (drop size bytes))) none
 
 pub no_next_block : (file : FileName) (at most : ℕ) (k : Kept) (bytes : List ℕ) (kind : ℕ) (payload : List ℕ) → reading_of bytes ≡ Whole kind payload → next_in k kind payload ≡ None
@@ -55,18 +55,18 @@ no_next_block file at most k bytes kind payload is none =
     ap (λ (r : Reading). behind_block file at (next_in k) r following) is ∙ ap (said file at (length payload + 37) following) none
 
 -- a block of another kind than a Head's
-pub not_a_head : (file : FileName) (bytes : List ℕ) (kind : ℕ) (payload : List ℕ) → reading_of bytes ≡ Whole kind payload → get_or bytes 4 0 ≢ 10
-    → snapshot_of file bytes ≡ Err (Form file 0)
-not_a_head file bytes kind payload is apart =
+pub not_a_head : (version : ℕ) (file : FileName) (bytes : List ℕ) (kind : ℕ) (payload : List ℕ) → reading_of bytes ≡ Whole kind payload → get_or bytes 4 0 ≢ 10
+    → snapshot_of version file bytes ≡ Err (Form file 0)
+not_a_head version file bytes kind payload is apart =
     let stands = kind_stands bytes kind payload is in
     let other : (kind == 10) ≡ false = grind (arith, nat_tests, stands, apart) in
-    no_first_block file bytes kind payload is (rw other refl)
+    no_first_block version file bytes kind payload is (rw other refl)
 
 -- and one that can't be read up to the lists of one
-pub no_head_front : (file : FileName) (bytes : List ℕ) (kind : ℕ) (payload : List ℕ) (n : ℕ) → reading_of bytes ≡ Whole kind payload → n ≡ min (length payload) 41
-    → is_ok (head_front_at (take n (drop 5 bytes))) ≡ false → snapshot_of file bytes ≡ Err (Form file 0)
-no_head_front file bytes kind payload n is count unread =
-    no_first_block file bytes kind payload is (front_refused kind payload (sym (front_stands bytes kind payload n is count) ∙ unread))
+pub no_head_front : (version : ℕ) (file : FileName) (bytes : List ℕ) (kind : ℕ) (payload : List ℕ) (n : ℕ) → reading_of bytes ≡ Whole kind payload → n ≡ min (length payload) 41
+    → is_ok (head_front_at version (take n (drop 5 bytes))) ≡ false → snapshot_of version file bytes ≡ Err (Form file 0)
+no_head_front version file bytes kind payload n is count unread =
+    no_first_block version file bytes kind payload is (front_refused version kind payload (sym (front_stands version bytes kind payload n is count) ∙ unread))
 
 -- a long block of another kind than a file's
 pub not_a_file : (file : FileName) (at most : ℕ) (k : Kept) (bytes : List ℕ) (kind : ℕ) (payload : List ℕ) → reading_of bytes ≡ Whole kind payload → 34 < length payload

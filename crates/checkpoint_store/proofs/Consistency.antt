@@ -2,7 +2,7 @@
 use Rattle.std.proofs.Common.{◌≡◌, ◌≢◌, ◌==◌, ◌&&◌, ◌||◌, not, ℕ, suc, ◌+◌, ◌<◌, ◌≤◌, Bool, true, false, List, [], ◌∷◌, ◌++◌, length, map, All, bytes_eq, refl, ap, arith, length-append}
 use Rattle.std.specs.List.{sum, list_any}
 use Rattle.std.specs.Prelude.{nat_lt, nat_le}
-use Rattle.std.proofs.lemmas.Bool.{and_parts, not-true, ltb-true, leb-true}
+use Rattle.std.proofs.lemmas.Bool.{and_parts, not-true, eqb-true, ltb-true, leb-true}
 use Rattle.std.proofs.lemmas.Bool.Decides.{nat_tests}
 use Rattle.std.proofs.lemmas.List.Elements.{All-nil, All-cons, All-push, All-weaker, All-same}
 use Rattle.std.proofs.lemmas.Slice.Eq.{bytes_eq-Decides}
@@ -13,10 +13,11 @@ use Rattle.flowfile_record.specs.declared.stored.ActiveFile.{ActiveFile}
 use Rattle.flowfile_record.specs.declared.stored.SwapBatch.{SwapBatch}
 use Rattle.record_codec.specs.ActiveFile.{IsActiveFile}
 use Rattle.record_codec.specs.StoreHead.{head, IsHead}
+use Rattle.record_codec.specs.declared.TheConstants.{SECOND_VERSION}
 use Rattle.record_codec.specs.declared.block.TheConstants.{PAYLOAD_MAX}
 use Rattle.record_codec.specs.declared.head.Head.{Head}
-use Rattle.checkpoint_store.specs.Consistent.{IsConsistent, HasCounters, IsFileIn, IsBatchIn, AreDistinctBy, record_size}
-use Rattle.checkpoint_store.specs.Reading.{are_distinct_names, has_counters, kept_of_head, last_number, file_has_place, file_may_join}
+use Rattle.checkpoint_store.specs.Consistent.{IsConsistentIn, HasCounters, IsFileIn, IsBatchIn, AreDistinctBy, record_size}
+use Rattle.checkpoint_store.specs.Reading.{are_distinct_names, has_counters, has_counts, kept_of_head, last_number, file_has_place, file_may_join}
 use Rattle.checkpoint_store.proofs.Numbering.{sum_more}
 
 -- ---- tests that failed on each item
@@ -100,11 +101,22 @@ counted h is =
       next_batch = ltb-true 0 h.next_batch to_batch.1;
     }
 
+-- each processor has one count, in the second version
+one_each : (h : Head) → has_counts h ≡ true → h.version ≡ SECOND_VERSION → length h.counts ≡ length h.processors
+one_each h is second =
+    let tested : (h.version == SECOND_VERSION) ≡ true = ap (λ (v : ℕ). v == SECOND_VERSION) second in
+    eqb-true (length h.counts) (length h.processors) (needed (h.version == SECOND_VERSION) (length h.counts == length h.processors) tested is)
+  where
+    needed : (second same : Bool) → second ≡ true → (not second || same) ≡ true → same ≡ true
+    needed true same e is = is
+    needed false same e is = absurd cc
+
 -- what a Head says, which a block held
-pub head_alone : (h : Head) → IsHead h → length (head h) ≤ PAYLOAD_MAX → are_distinct_names h.connections ≡ true → has_counters h ≡ true → IsConsistent (kept_of_head h)
-head_alone h is small distinct counters = record {
+pub head_alone : (h : Head) → IsHead h → length (head h) ≤ PAYLOAD_MAX → are_distinct_names h.connections ≡ true → has_counters h ≡ true → has_counts h ≡ true → IsConsistentIn h.version (kept_of_head h)
+head_alone h is small distinct counters counts = record {
   encoded = is;
   head_size = small;
+  counts = one_each h counts;
   connections = distinct_names h.connections distinct;
   counters = counted h counters;
   files = All-nil (IsFileIn (kept_of_head h));
@@ -117,9 +129,12 @@ head_alone h is small distinct counters = record {
 }
 
 -- a file more, where there are no batches
-pub file_joins : (k : Kept) (a : ActiveFile) → IsConsistent k → k.batches ≡ [] → IsActiveFile a → file_may_join k a ≡ true
-    → All (λ b. b.file.number < a.file.number) k.files → IsConsistent (record k { files = k.files ++ a ∷ [] })
-file_joins k a is none has joins below =
+pub place_left : (k : Kept) (a : ActiveFile) → file_has_place k a ≡ true → length k.files < LIVE_FILES_MAX
+place_left k a placed = (place_of k a placed).4
+
+pub file_joins : (version : ℕ) (k : Kept) (a : ActiveFile) → IsConsistentIn version k → k.batches ≡ [] → IsActiveFile a → file_may_join k a ≡ true
+    → All (λ b. b.file.number < a.file.number) k.files → IsConsistentIn version (record k { files = k.files ++ a ∷ [] })
+file_joins version k a is none has joins below =
     let more : Kept = record k { files = k.files ++ a ∷ [] } in
     let rules = rules_of (file_has_place k a) (nat_le (sum (map record_size k.files) + record_size a) LIVE_BYTES_MAX)
     (list_any (λ (b : ActiveFile). b.file.arrival == a.file.arrival) k.files) joins in
@@ -133,6 +148,7 @@ file_joins k a is none has joins below =
     record {
       encoded = is.encoded;
       head_size = is.head_size;
+      counts = is.counts;
       connections = is.connections;
       counters = record { next_number = is.counters.next_number; next_arrival = is.counters.next_arrival; next_batch = is.counters.next_batch };
       files = All-push (IsFileIn more) k.files a (All-weaker (IsFileIn k) (IsFileIn more) kept k.files is.files) (record {

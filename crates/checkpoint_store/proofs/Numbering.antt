@@ -1,15 +1,23 @@
 -- What joins items at their end, by its number.
-use Rattle.std.proofs.Common.{◌≡◌, ℕ, suc, ◌+◌, ◌<◌, ◌≤◌, ◌==◌, ◌||◌, ◌&&◌, zero, Bool, true, false, List, [], ◌∷◌, ◌++◌, length, map, All, None, refl, sym, ap, ◌∙◌, arith, length-append}
-use Rattle.std.specs.List.{sum, list_any}
+use Rattle.std.proofs.Common.{◌≡◌, ℕ, suc, ◌+◌, ◌*◌, ◌<◌, ◌≤◌, ◌==◌, ◌||◌, ◌&&◌, zero, Bool, true, false, List, [], ◌∷◌, ◌++◌, length, map, All, None, refl, sym, ap, ◌∙◌, arith, length-append}
+use Rattle.std.specs.List.{sum, list_any, flat_map}
 use Rattle.std.specs.Prelude.{nat_lt}
 use Rattle.std.proofs.lemmas.Bool.{ltb-true}
 use Rattle.std.proofs.lemmas.Bool.Decides.{nat_tests}
 use Rattle.std.proofs.lemmas.List.Sums.{sum_by-cons}
+use Rattle.std.proofs.lemmas.List.Concat.{flat_map-cons}
 use Rattle.std.proofs.lemmas.List.Elements.{All-append}
 use Rattle.flowfile_record.specs.NumberedItems.{item_of, with_item}
 use Rattle.flowfile_record.specs.declared.limits.TheConstants.{NUMBER_LIMIT, LIVE_FILES_MAX}
 use Rattle.flowfile_record.specs.Stored.{Kept}
 use Rattle.flowfile_record.specs.declared.stored.ActiveFile.{ActiveFile}
+use Rattle.record_codec.specs.ActiveFile.{active_file}
+use Rattle.record_codec.specs.Snapshot.{kind_code}
+use Rattle.record_codec.specs.declared.snapshot.SnapshotKind.TheVariants as kinds
+use Rattle.record_codec.proofs.Blocks.{length-block}
+use Rattle.record_codec.proofs.Sizes.{active_size}
+use Rattle.checkpoint_store.specs.Consistent.{record_size}
+use Rattle.checkpoint_store.specs.Snapshot.{file_block}
 use Rattle.checkpoint_store.specs.Reading.{last_number, file_has_place}
 use Rattle.checkpoint_store.specs.SoFar.{AreNumberedTo}
 
@@ -77,3 +85,17 @@ pub place_above : (k : Kept) (a : ActiveFile) → file_has_place k a ≡ true �
 place_above k a place =
     ltb-true (last_number (λ (b : ActiveFile). b.file.number) k.files) a.file.number (second_of_seven (length k.batches == 0) (nat_lt (last_number (λ (b : ActiveFile). b.file.number) k.files) a.file.number)
     (nat_lt a.connection (length k.connections)) (nat_lt a.file.number k.next_number) (nat_lt 0 a.file.arrival) (nat_lt a.file.arrival k.next_arrival) (nat_lt (length k.files) LIVE_FILES_MAX) place)
+
+-- the blocks of files, which have the connection beside the record
+pub files_size : (files : List ActiveFile) → length (flat_map file_block files) ≡ 39 * length files + sum (map record_size files)
+files_size [] = refl
+files_size (a ∷ files) =
+    omega (
+      arith,
+      ap length (flat_map-cons file_block a files),
+      length-append (file_block a) (flat_map file_block files),
+      length-block (kind_code kinds.File) (active_file a),
+      active_size a,
+      sum_by-cons (λ x. x) (record_size a) (map record_size files),
+      files_size files,
+    )

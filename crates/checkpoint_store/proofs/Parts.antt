@@ -18,7 +18,7 @@ use Rattle.checkpoint_store.specs.Snapshot.{blocks_in}
 abbrev done : {A : Type 0} → A → Result A CodecError
 done x = Ok x
 
-read_ok : {A : Type 0} (size : ℕ) (x : A) (read : Result A ℕ) → done x ≡ answer size read → read ≡ Ok x
+pub read_ok : {A : Type 0} (size : ℕ) (x : A) (read : Result A ℕ) → done x ≡ answer size read → read ≡ Ok x
 read_ok size x (Ok y) e = cc
 read_ok size x (Err left) e = absurd cc
 
@@ -29,8 +29,8 @@ not_the_end k size blocks read e apart =
     ap (end_next k) (read_ok size blocks read e) ∙ rw other refl
 
 module _ (kind : ℕ) (none : (holds : SnapshotKind) → kind_code holds ≡ kind → ⊥) (payload : List ℕ) where
-  pub no_first : first_block_kept kind payload ≡ None
-  no_first =
+  pub no_first : (version : ℕ) → first_block_kept version kind payload ≡ None
+  no_first version =
       let apart : kind ≢ 10 = λ e. none kinds.Head (sym e) in
       let other : (kind == 10) ≡ false = grind (arith, nat_tests, apart) in
       rw other refl
@@ -59,8 +59,8 @@ file_follows k a size read e joins = (record k { files = k.files ++ a ∷ [] }, 
 abbrev following : FileName → List ℕ → Kept → ℕ → Result Kept Damage
 following file bytes k size = blocks_from (suc (length bytes)) file size k (drop size bytes)
 
-pub behind_first : (file : FileName) (bytes : List ℕ) (kind : ℕ) (payload : List ℕ) (k : Kept) (next : ℕ) → reading_of bytes ≡ Whole kind payload → first_block_kept kind payload ≡ Some k
-    → next ≡ length payload + 37 → snapshot_of file bytes ≡ blocks_from (suc (length bytes)) file next k (drop next bytes)
-behind_first file bytes kind payload k next read first size =
-    ap (λ (r : Reading). behind_block file 0 first_block_kept r (following file bytes)) read
+pub behind_first : (version : ℕ) (file : FileName) (bytes : List ℕ) (kind : ℕ) (payload : List ℕ) (k : Kept) (next : ℕ) → reading_of bytes ≡ Whole kind payload → first_block_kept version kind payload ≡ Some k
+    → next ≡ length payload + 37 → snapshot_of version file bytes ≡ blocks_from (suc (length bytes)) file next k (drop next bytes)
+behind_first version file bytes kind payload k next read first size =
+    ap (λ (r : Reading). behind_block file 0 (first_block_kept version) r (following file bytes)) read
     ∙ ap (said file 0 (length payload + 37) (following file bytes)) first ∙ ap (following file bytes k) (sym size)

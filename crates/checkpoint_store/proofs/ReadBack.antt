@@ -2,6 +2,7 @@
 use Rattle.std.proofs.Common.{◌≡◌, ◌≢◌, ◌==◌, ◌&&◌, ◌||◌, not, ℕ, suc, ◌+◌, ◌-◌, ◌<◌, ◌≤◌, Bool, true, false, List, [], ◌∷◌, ◌++◌, length, map, drop, All, Some, Result, Ok, bytes_eq, refl, sym, ap, ◌∙◌, append_assoc, length-append, arith}
 use Rattle.std.specs.List.{flat_map, sum, list_any}
 use Rattle.std.specs.Prelude.{nat_lt, nat_le}
+use Rattle.std.proofs.lemmas.Bool.{eqb-true}
 use Rattle.std.proofs.lemmas.Bool.Decides.{nat_tests}
 use Rattle.std.proofs.lemmas.Slice.Eq.{bytes_eq-Decides}
 use Rattle.std.proofs.lemmas.List.{append-nil, drop_at}
@@ -20,6 +21,7 @@ use Rattle.record_codec.specs.Snapshot.{kind_code, swap_batch, ending, IsBatch, 
 use Rattle.record_codec.specs.SnapshotReading.{batch_at, ending_at}
 use Rattle.record_codec.specs.StoreHead.{head, IsHead}
 use Rattle.record_codec.specs.StoreHeadReading.{head_at}
+use Rattle.record_codec.specs.declared.TheConstants.{SECOND_VERSION}
 use Rattle.record_codec.specs.declared.block.TheConstants.{PAYLOAD_MAX, BLOCK_OVERHEAD}
 use Rattle.record_codec.specs.declared.snapshot.SnapshotKind.TheVariants as kinds
 use Rattle.record_codec.proofs.ActiveFiles.{active_file_is}
@@ -27,8 +29,8 @@ use Rattle.record_codec.proofs.Blocks.{reading_of-block, length-block}
 use Rattle.record_codec.proofs.Sizes.{file_at_most, swap_batch_size}
 use Rattle.record_codec.proofs.Snapshots.{batch_is, ending_is}
 use Rattle.record_codec.proofs.StoreHeads.{head_is}
-use Rattle.checkpoint_store.specs.Consistent.{IsConsistent, HasCounters, IsFileIn, AreDistinctBy, record_size}
-use Rattle.checkpoint_store.specs.Reading.{Next, More, Last, last_number, file_has_place, file_may_join, batch_may_follow, are_distinct_names, has_counters, kept_of_head, head_next, file_next, batch_next, end_next, first_block_kept, next_in, said, behind_block, go_on, blocks_from, snapshot_of}
+use Rattle.checkpoint_store.specs.Consistent.{IsConsistentIn, HasCounters, IsFileIn, AreDistinctBy, record_size}
+use Rattle.checkpoint_store.specs.Reading.{Next, More, Last, last_number, file_has_place, file_may_join, batch_may_follow, are_distinct_names, has_counters, has_counts, kept_of_head, head_next, file_next, batch_next, end_next, first_block_kept, next_in, said, behind_block, go_on, blocks_from, snapshot_of}
 use Rattle.checkpoint_store.specs.Snapshot.{head_in, head_block, file_block, batch_block, end_block, blocks_in, snapshot}
 use Rattle.flowfile_record.specs.declared.limits.TheConstants.{LIVE_FILES_MAX, LIVE_BYTES_MAX}
 use Rattle.checkpoint_store.proofs.Numbering.{last_is, sum_more, any_more, all_three}
@@ -58,11 +60,11 @@ module _ (file : FileName) where
       ap (λ (r : Reading). behind_block file at (next_in k) r following) (reading_of-block kind payload rest small)
       ∙ ap (said file at (length payload + BLOCK_OVERHEAD) following) says
 
-  block_first : (kind : ℕ) (k : Kept) (payload rest : List ℕ) → length payload ≤ PAYLOAD_MAX → first_block_kept kind payload ≡ Some k
-      → snapshot_of file (block kind payload ++ rest) ≡ blocks_from (suc (length (block kind payload ++ rest))) file (length payload + BLOCK_OVERHEAD) k rest
-  block_first kind k payload rest small says =
+  block_first : (version kind : ℕ) (k : Kept) (payload rest : List ℕ) → length payload ≤ PAYLOAD_MAX → first_block_kept version kind payload ≡ Some k
+      → snapshot_of version file (block kind payload ++ rest) ≡ blocks_from (suc (length (block kind payload ++ rest))) file (length payload + BLOCK_OVERHEAD) k rest
+  block_first version kind k payload rest small says =
       let following : Kept → ℕ → Result Kept Damage = λ m size. blocks_from (suc (length (block kind payload ++ rest))) file size m (drop size (block kind payload ++ rest)) in
-      ap (λ (r : Reading). behind_block file 0 first_block_kept r following) (reading_of-block kind payload rest small)
+      ap (λ (r : Reading). behind_block file 0 (first_block_kept version) r following) (reading_of-block kind payload rest small)
       ∙ ap (said file 0 (length payload + BLOCK_OVERHEAD) following) says
       ∙ ap (blocks_from (suc (length (block kind payload ++ rest))) file (length payload + BLOCK_OVERHEAD) k) (drop_at (block kind payload) rest (length payload + BLOCK_OVERHEAD) (length-block kind payload))
 
@@ -81,18 +83,32 @@ distinct_names (name ∷ names) distinct =
     let fresh = none_equal name names distinct.0 in
     rw fresh (distinct_names names distinct.1)
 
-counted : (k : Kept) → HasCounters k → has_counters (head_in k) ≡ true
-counted k has =
+counted : (version : ℕ) (k : Kept) → HasCounters k → has_counters (head_in version k) ≡ true
+counted version k has =
     let number : nat_lt 0 k.next_number ≡ true = grind (arith, nat_tests, has.next_number) in
     let arrival : nat_lt 0 k.next_arrival ≡ true = grind (arith, nat_tests, has.next_arrival) in
     let batch : nat_lt 0 k.next_batch ≡ true = grind (arith, nat_tests, has.next_batch) in
     all_three (nat_lt 0 k.next_number) (nat_lt 0 k.next_arrival) (nat_lt 0 k.next_batch) number arrival batch
 
-head_says : (k : Kept) → IsConsistent k → first_block_kept (kind_code kinds.Head) (head (head_in k)) ≡ Some (kept_of_head (head_in k))
-head_says k is =
-    let names = distinct_names k.connections is.connections in
-    let counters = counted k is.counters in
-    ap head_next (whole_again head_at head IsHead head_is (head_in k) is.encoded) ∙ rw (names, counters) refl
+one_each : (version : ℕ) (k : Kept) → (version ≡ SECOND_VERSION → length k.counts ≡ length k.processors) → has_counts (head_in version k) ≡ true
+one_each version k same = go (version == SECOND_VERSION) (λ e. eqb-true version SECOND_VERSION e)
+  where
+    go : (second : Bool) → (second ≡ true → version ≡ SECOND_VERSION) → (not second || (length k.counts == length k.processors)) ≡ true
+    go true is =
+        let as_many = same (is refl) in
+        grind (arith, nat_tests, as_many)
+    go false is = refl
+
+-- the version, the names, the counters and the counts of a Head
+rules_hold : (version : ℕ) (a b c : Bool) → a ≡ true → b ≡ true → c ≡ true → ((version == version) && a && b && c) ≡ true
+rules_hold version a b c p q r =
+    let same : (version == version) ≡ true = grind (arith, nat_tests) in
+    rw (same, p, q, r) refl
+
+head_says : (version : ℕ) (k : Kept) → IsConsistentIn version k → first_block_kept version (kind_code kinds.Head) (head (head_in version k)) ≡ Some (kept_of_head (head_in version k))
+head_says version k is =
+    let rules = rules_hold version _ _ _ (distinct_names k.connections is.connections) (counted version k is.counters) (one_each version k is.counts) in
+    ap (head_next version) (whole_again head_at head IsHead head_is (head_in version k) is.encoded) ∙ rw rules refl
 
 file_says : (k : Kept) (a : ActiveFile) → IsActiveFile a → file_may_join k a ≡ true → next_in k (kind_code kinds.File) (active_file a) ≡ Some (More (record k { files = k.files ++ a ∷ [] }))
 file_says k a has joins = ap (file_next k) (whole_again active_file_at active_file IsActiveFile active_file_is a has) ∙ rw joins refl
@@ -216,13 +232,13 @@ no_fewer_bytes f (x ∷ xs) some =
     let first = some x in
     omega (arith, others, first, ap length (flat_map-cons f x xs), length-append (f x) (flat_map f xs))
 
-pub read_back : (file : FileName) (k : Kept) (rest : List ℕ) → IsConsistent k → snapshot_of file (snapshot k ++ rest) ≡ Ok k
-read_back file k rest is =
+pub read_back : (version : ℕ) (file : FileName) (k : Kept) (rest : List ℕ) → IsConsistentIn version k → snapshot_of version file (snapshot version k ++ rest) ≡ Ok k
+read_back version file k rest is =
     let fs = flat_map file_block k.files in
     let bs = flat_map batch_block k.batches in
     let eb = end_block (blocks_in k) in
-    let hb = head_block k in
-    let parted : snapshot k ++ rest ≡ hb ++ (fs ++ (bs ++ (eb ++ rest))) =
+    let hb = head_block version k in
+    let parted : snapshot version k ++ rest ≡ hb ++ (fs ++ (bs ++ (eb ++ rest))) =
     append_assoc (hb ++ fs ++ bs) eb rest ∙ append_assoc (hb ++ fs) bs (eb ++ rest) ∙ append_assoc hb fs (bs ++ (eb ++ rest)) in
     let files = no_fewer_bytes file_block k.files (λ a. omega (arith, length-block (kind_code kinds.File) (active_file a))) in
     let batches = no_fewer_bytes batch_block k.batches (λ b. omega (arith, length-block (kind_code kinds.Batch) (swap_batch b))) in
@@ -230,7 +246,7 @@ read_back file k rest is =
     let long : length k.files + length k.batches ≤ size =
     omega (arith, files, batches, length-append hb (fs ++ (bs ++ (eb ++ rest))), length-append fs (bs ++ (eb ++ rest)), length-append bs (eb ++ rest)) in
     let spare = size - (length k.files + length k.batches) in
-    let first = block_first file (kind_code kinds.Head) (kept_of_head (head_in k)) (head (head_in k)) (fs ++ (bs ++ (eb ++ rest))) is.head_size (head_says k is) in
+    let first = block_first file version (kind_code kinds.Head) (kept_of_head (head_in version k)) (head (head_in version k)) (fs ++ (bs ++ (eb ++ rest))) is.head_size (head_says version k is) in
     let joins : MayAllJoin k [] k.files = record {
       known = is.files;
       ascends = is.numbers;
@@ -247,7 +263,7 @@ read_back file k rest is =
     } in
     let counted = ascending_count (λ (b : SwapBatch). b.batch) k.next_batch 0 k.batches is.batch_numbers (λ i d lt. (is.batches i d lt).batch) (λ i d lt. omega arith) (omega arith) in
     let ended : IsEnding (blocks_in k) = omega (arith, counted, is.live_files, is.encoded.next_batch) in
-    let at_files = files_read file k [] k.files (length k.batches + suc spare) (length (head (head_in k)) + BLOCK_OVERHEAD) (suc size) (bs ++ (eb ++ rest)) joins (omega (arith, long)) in
+    let at_files = files_read file k [] k.files (length k.batches + suc spare) (length (head (head_in version k)) + BLOCK_OVERHEAD) (suc size) (bs ++ (eb ++ rest)) joins (omega (arith, long)) in
     let at_batches = batches_read file (with_files k k.files) [] k.batches (suc spare) at_files.0 (length k.batches + suc spare) (eb ++ rest) follows refl in
-    ap (snapshot_of file) parted ∙ first ∙ at_files.1 ∙ at_batches.1
+    ap (snapshot_of version file) parted ∙ first ∙ at_files.1 ∙ at_batches.1
     ∙ block_last file spare at_batches.0 (kind_code kinds.End) k (ending (blocks_in k)) rest (omega arith) (end_says k ended)

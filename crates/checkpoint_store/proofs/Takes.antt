@@ -16,8 +16,8 @@ module _ (longest : ℕ) (k : Kept) (reading : Reading) (kind : ℕ) (payload : 
   part_takes takes = subst (BlockTakes longest k) (sym is) (inr takes)
 
 -- a Head of which the front can be read
-pub first_takes : (bytes : List ℕ) (kind : ℕ) (payload : List ℕ) → reading_of bytes ≡ Whole kind payload → kind ≡ 10 → is_ok (head_front_at payload) ≡ true → FirstTakes bytes
-first_takes bytes kind payload is head front = record { payload = payload; whole = is ∙ ap (λ (n : ℕ). Whole n payload) head; front = front }
+pub first_takes : (version : ℕ) (bytes : List ℕ) (kind : ℕ) (payload : List ℕ) → reading_of bytes ≡ Whole kind payload → kind ≡ 10 → is_ok (head_front_at version payload) ≡ true → FirstTakes version bytes
+first_takes version bytes kind payload is head front = record { payload = payload; whole = is ∙ ap (λ (n : ℕ). Whole n payload) head; front = front }
 
 -- a block past this size is one past a smaller one
 pub past_less : (files : Files) (address : BlockAddress) (a b : ℕ) → b ≤ a → HasBlockPast files address a → HasBlockPast files address b

@@ -1,21 +1,29 @@
 -- What the bytes that are read without memory tell of a block.
-use Rattle.std.proofs.Common.{◌≡◌, ◌≢◌, ◌==◌, ◌&&◌, ◌||◌, ℕ, ◌+◌, ◌<◌, ◌≤◌, min, nat_lt, ltb, eqb, cond, Bool, true, false, List, [], ◌∷◌, length, take, drop, Result, Ok, Err, Option, None, Some, refl, sym, ap, ◌∙◌, inl, inr, arith, is_ok}
+use Rattle.std.proofs.Common.{◌≡◌, ◌≢◌, ◌==◌, ◌&&◌, ◌||◌, ℕ, ◌+◌, ◌<◌, ◌≤◌, min, nat_lt, ltb, eqb, cond, Bool, true, false, List, [], ◌∷◌, length, take, drop, Result, Ok, Err, Option, None, Some, get_or, subst, refl, sym, ap, ◌∙◌, inl, inr, arith, is_ok}
 use Rattle.std.specs.Int.{Width, w16, w64, byte_len, from_be_bytes}
-use Rattle.std.proofs.lemmas.Bool.{cases_lt, ltb-false, le-ltb, eqb-true, true≢false}
+use Rattle.std.proofs.lemmas.Bool.{cases_lt, ltb-false, le-ltb, eqb-true, and_parts, true≢false}
 use Rattle.std.proofs.lemmas.Bool.Decides.{nat_tests}
 use Rattle.std.proofs.lemmas.List.{length-drop, length-take, take-take, take_all}
+use Rattle.flowfile_record.specs.Field.{IsBytes}
 use Rattle.flowfile_record.specs.Reading.{Reading, ◌>>=◌, ◌then◌, made, such, whole, byte_at, uint_at, raw_at, number_at, first_at, text_at, numbers_at}
 use Rattle.flowfile_record.specs.Stored.{Kept}
+use Rattle.flowfile_record.specs.declared.error.CodecError.{CodecError}
+use Rattle.flowfile_record.specs.declared.error.CodecError.TheVariants as codec
 use Rattle.flowfile_record.specs.declared.limits.TheConstants.{STORE_LIMIT}
 use Rattle.flowfile_record.specs.declared.stored.SwapBatch.{SwapBatch}
-use Rattle.flowfile_record.proofs.FieldLaws.{bind_ok, guard_fails, guard_holds, ok_is}
+use Rattle.flowfile_record.proofs.FieldLaws.{bind_ok, guard_fails, guard_holds, ok_is, whole_takes}
 use Rattle.record_codec.specs.SnapshotReading.{batch_at, ending_at}
-use Rattle.record_codec.specs.StoreHeadReading.{store_at, head_at, head_takes_memory}
+use Rattle.record_codec.specs.StoreHeadReading.{store_at, head_at, connected_at, first_processor_at, first_count_at, head_takes_memory}
 use Rattle.record_codec.specs.Texts.{texts_at}
-use Rattle.record_codec.specs.Version.{version_at}
+use Rattle.record_codec.specs.StoreHead.{head, IsHead}
+use Rattle.record_codec.specs.Version.{is_version, version_at}
+use Rattle.record_codec.proofs.Fronts.{then_ok}
+use Rattle.record_codec.proofs.StoreHeads.{HasFront, front_of_head, head_is}
 use Rattle.record_codec.specs.declared.head.Head.{Head}
 use Rattle.checkpoint_store.specs.Memory.{head_front_at}
-use Rattle.checkpoint_store.specs.Reading.{Next, batch_next, end_next, head_next, first_block_kept, next_in}
+use Rattle.checkpoint_store.specs.Unfit.{unfit_of}
+use Rattle.checkpoint_store.specs.declared.so_far.Unfit.TheVariants as unfit
+use Rattle.checkpoint_store.specs.Reading.{Next, are_distinct_names, has_counters, has_counts, kept_of_head, batch_next, end_next, head_next, first_block_kept, next_in}
 
 -- ---- how many bytes a reading takes
 
@@ -72,9 +80,13 @@ batch_uses : Uses 34 batch_at
 unfolding batch_at
 batch_uses = made_uses 34 _ _ (then_uses 2 32 _ _ (uint_uses w16) (then_uses 8 24 _ _ number_uses (then_uses 8 16 _ _ number_uses (then_uses 8 8 _ _ (uint_uses w64) (uint_uses w64)))))
 
-front_uses : Uses 41 head_front_at
-unfolding version_at store_at
-front_uses = then_uses 1 40 _ _ (such_uses 1 _ byte_at byte_uses) (then_uses 8 32 _ _ (such_uses 8 _ (uint_at w64) (uint_uses w64)) (raw_uses 32))
+version_uses : Uses 1 version_at
+unfolding version_at
+version_uses = such_uses 1 _ byte_at byte_uses
+
+front_uses : (version : ℕ) → Uses 41 (head_front_at version)
+unfolding store_at
+front_uses version = then_uses 1 40 _ _ (such_uses 1 _ version_at version_uses) (then_uses 8 32 _ _ (such_uses 8 _ (uint_at w64) (uint_uses w64)) (raw_uses 32))
 
 -- ---- a block that is longer than any batch
 
@@ -131,16 +143,58 @@ ok_first (Ok a) s e = refl
 ok_first (Err left) s e = absurd cc
 
 -- what stands before the lists can be read where more can
-front_first : {A : Type 0} (lists : Reading A) (bytes : List ℕ) → is_ok ((version_at then store_at then raw_at 32 then lists) bytes) ≡ true → is_ok (head_front_at bytes) ≡ true
+abbrev any_front : Reading (ℕ × (ℕ × List ℕ))
+any_front = version_at then store_at then raw_at 32
+
+front_first : {A : Type 0} (lists : Reading A) (bytes : List ℕ) → is_ok ((version_at then store_at then raw_at 32 then lists) bytes) ≡ true → is_ok (any_front bytes) ≡ true
 front_first lists bytes = ok_later (version_at bytes) (store_at then raw_at 32 then lists) (store_at then raw_at 32) (λ rest. ok_later (store_at rest) (raw_at 32 then lists) (raw_at 32) (λ last. ok_first (raw_at 32 last) lists))
+
+ok_before : {A B : Type 0} (r : Result A ℕ) (f : A → Result B ℕ) → is_ok (r >>= f) ≡ true → is_ok r ≡ true
+ok_before (Ok a) f e = refl
+ok_before (Err left) f e = absurd cc
 
 or_cases : {P : Type 0} (a b : Bool) → (a ≡ true → P) → (b ≡ true → P) → (a || b) ≡ true → P
 or_cases true b first second e = first refl
 or_cases false b first second e = second e
 
-pub lists_take : (bytes : List ℕ) → head_takes_memory bytes ≡ true → is_ok (head_front_at bytes) ≡ true
-lists_take bytes = or_cases (is_ok ((version_at then store_at then raw_at 32 then first_at text_at) bytes)) (is_ok ((version_at then store_at then raw_at 32 then texts_at then first_at number_at) bytes))
-    (front_first (first_at text_at) bytes) (front_first (texts_at then first_at number_at) bytes)
+lists_take_any : (bytes : List ℕ) → head_takes_memory bytes ≡ true → is_ok (any_front bytes) ≡ true
+lists_take_any bytes = or_cases (is_ok ((version_at then store_at then raw_at 32 then first_at text_at) bytes) || is_ok (first_processor_at bytes)) (is_ok (first_count_at bytes))
+    (or_cases (is_ok ((version_at then store_at then raw_at 32 then first_at text_at) bytes)) (is_ok (first_processor_at bytes)) (front_first (first_at text_at) bytes)
+    (λ e. front_first texts_at bytes (ok_before (connected_at bytes) _ e)))
+    (λ e. front_first texts_at bytes (ok_before (connected_at bytes) _ e))
+
+-- a version's field that is asked for
+same_version : (v : ℕ) → (v == v) ≡ true
+same_version v = grind (arith, nat_tests)
+
+guarded : {A B : Type 0} (test : Bool) (a : A) (rest : List ℕ) (left : ℕ) (second : Reading B) → is_ok (behind (cond test (Ok (a, rest)) (Err left)) second) ≡ (test && is_ok (second rest))
+guarded true a rest left second = ok_behind a rest second
+guarded false a rest left second = refl
+
+abbrev asked : ℕ → ℕ → ℕ × List ℕ → Result (ℕ × List ℕ) ℕ
+asked version left a = cond (a.0 == version) (Ok a) (Err left)
+
+twice_guarded : {B : Type 0} (known : Bool) (version b : ℕ) (rest : List ℕ) (left : ℕ) (second : Reading B) → is_ok (behind (cond known (Ok (b, rest)) (Err left) >>= asked version left) second) ≡ (known && ((b == version) && is_ok (second rest)))
+twice_guarded true version b rest left second = guarded (b == version) b rest left second
+twice_guarded false version b rest left second = refl
+
+any_of : (b : ℕ) (rest : List ℕ) → is_ok (any_front (b ∷ rest)) ≡ (is_version b && is_ok ((store_at then raw_at 32) rest))
+unfolding version_at byte_at
+any_of b rest = guarded (is_version b) b rest (length (b ∷ rest)) (store_at then raw_at 32)
+
+front_of : (version b : ℕ) (rest : List ℕ) → is_ok (head_front_at version (b ∷ rest)) ≡ (is_version b && ((b == version) && is_ok ((store_at then raw_at 32) rest)))
+unfolding version_at byte_at
+front_of version b rest = twice_guarded (is_version b) version b rest (length (b ∷ rest)) (store_at then raw_at 32)
+
+none_read : is_ok (any_front []) ≡ false
+unfolding version_at byte_at
+none_read = refl
+
+pub lists_take : (version : ℕ) (bytes : List ℕ) → get_or bytes 0 0 ≡ version → head_takes_memory bytes ≡ true → is_ok (head_front_at version bytes) ≡ true
+lists_take version [] first takes = absurd (true≢false (sym (lists_take_any [] takes) ∙ none_read))
+lists_take version (b ∷ rest) first takes =
+    let asked_for : (b == version) ≡ true = ap (λ (v : ℕ). b == v) (sym first) ∙ same_version b in
+    front_of version b rest ∙ rw asked_for refl ∙ sym (any_of b rest) ∙ lists_take_any (b ∷ rest) takes
 
 some_ok : {A : Type 0} (r : Result A ℕ) → is_ok r ≡ true → (a : A) × (r ≡ Ok a)
 some_ok (Ok a) e = (a, refl)
@@ -150,46 +204,87 @@ ok_true : {A : Type 0} (r : Result A ℕ) (a : A) → r ≡ Ok a → is_ok r ≡
 ok_true r a e = rw e refl
 
 -- all of a Head can be read only where that can
-head_front : (payload : List ℕ) (h : Head) → whole head_at payload ≡ Ok h → is_ok (head_front_at payload) ≡ true
-unfolding head_at
+version_read : (version : ℕ) (bytes rest : List ℕ) → version_at bytes ≡ Ok (version, rest) → such (λ v. v == version) version_at bytes ≡ Ok (version, rest)
+version_read version bytes rest e =
+    let same = same_version version in
+    ap (λ (r : Result (ℕ × List ℕ) ℕ). r >>= asked version (length bytes)) e ∙ rw same refl
+
+head_front : (payload : List ℕ) (h : Head) → whole head_at payload ≡ Ok h → is_ok (head_front_at h.version payload) ≡ true
 head_front payload h e =
     let b = bind_ok (head_at payload) (λ x. cond (eqb (length x.1) 0) (Ok x.0) (Err (length x.1))) h e in
-    let a = bind_ok ((version_at then store_at then raw_at 32 then texts_at then numbers_at then number_at then number_at then number_at then number_at) payload) (λ a. Ok (_, a.1)) b.0 b.1 in
-    front_first (texts_at then numbers_at then number_at then number_at then number_at then number_at) payload (ok_true _ a.0 a.1)
+    let g = guard_holds (eqb (length b.0.1) 0) (length b.0.1) b.0.0 h b.2 in
+    subst (λ (y : Head). is_ok (head_front_at y.version payload) ≡ true) g.1 (of_front payload b.0.0.version (front_of_head payload b.0 b.1))
+  where
+    of_front : (payload : List ℕ) (version : ℕ) → HasFront payload version → is_ok (head_front_at version payload) ≡ true
+    of_front payload version has =
+        then_ok (such (λ v. v == version) version_at) (store_at then raw_at 32) payload version has.rest (version_read version payload has.rest has.version_read)
+        (then_ok store_at (raw_at 32) has.rest has.store.0 has.store.1 has.store_read (ok_true (raw_at 32 has.store.1) has.flow has.flow_read))
 
-head_known : (read : Result Head ℕ) (k : Kept) → head_next read ≡ Some k → (h : Head) × (read ≡ Ok h)
-head_known (Ok h) k e = (h, refl)
-head_known (Err left) k e = absurd cc
+rule_of : (same names counters counts : Bool) → (same && names && counters && counts) ≡ true → same ≡ true
+rule_of true names counters counts e = refl
+rule_of false names counters counts e = absurd cc
+
+some_under : (test : Bool) (x k : Kept) → cond test (Some x) None ≡ Some k → test ≡ true
+some_under true x k e = refl
+some_under false x k e = absurd cc
+
+head_known : (version : ℕ) (read : Result Head ℕ) (k : Kept) → head_next version read ≡ Some k → (h : Head) × (read ≡ Ok h) × (h.version ≡ version)
+head_known version (Ok h) k e =
+    let rules = some_under _ (kept_of_head h) k e in
+    (h, refl, eqb-true h.version version (rule_of (h.version == version) (are_distinct_names h.connections) (has_counters h) (has_counts h) rules))
+head_known version (Err left) k e = absurd cc
 
 -- what the first block says stands in a Head
-first_known : (head : Bool) (read : Result Head ℕ) (k : Kept) → cond head (head_next read) None ≡ Some k → (head ≡ true) × ((h : Head) × (read ≡ Ok h))
-first_known true read k e = (refl, head_known read k e)
-first_known false read k e = absurd cc
+first_known : (version : ℕ) (head : Bool) (read : Result Head ℕ) (k : Kept) → cond head (head_next version read) None ≡ Some k → (head ≡ true) × ((h : Head) × (read ≡ Ok h) × (h.version ≡ version))
+first_known version true read k e = (refl, head_known version read k e)
+first_known version false read k e = absurd cc
 
-pub first_size : (kind : ℕ) (payload : List ℕ) (k : Kept) → first_block_kept kind payload ≡ Some k → 41 ≤ length payload
-first_size kind payload k e =
-    let known = first_known (kind == 10) (whole head_at payload) k e in
-    let front = some_ok (head_front_at payload) (head_front payload known.1.0 known.1.1) in
-    omega (arith, front_uses payload front.0 front.1)
+pub first_size : (version kind : ℕ) (payload : List ℕ) (k : Kept) → first_block_kept version kind payload ≡ Some k → 41 ≤ length payload
+first_size version kind payload k e =
+    let known = first_known version (kind == 10) (whole head_at payload) k e in
+    let h = known.1.0 in
+    let front = some_ok (head_front_at h.version payload) (head_front payload h known.1.1) in
+    omega (arith, front_uses h.version payload front.0 front.1)
 
-head_none : (read : Result Head ℕ) → ((h : Head) → read ≡ Ok h → ⊥) → head_next read ≡ None
-head_none (Ok h) none = absurd (none h refl)
-head_none (Err left) none = refl
+-- a Head of another version, and one that doesn't hold its rules
+pub head_refused : (version : ℕ) (read : Result Head ℕ) → ((h : Head) → read ≡ Ok h → h.version ≢ version) → head_next version read ≡ None
+head_refused version (Ok h) other =
+    let apart = other h refl in
+    let tested : (h.version == version) ≡ false = grind (arith, nat_tests, apart) in
+    rw tested refl
+head_refused version (Err left) other = refl
+
+abbrev rules : Head → Bool
+rules h = are_distinct_names h.connections && has_counters h && has_counts h
+
+rules_alone : (same names counters counts : Bool) → same ≡ true → (same && names && counters && counts) ≡ (names && counters && counts)
+rules_alone same names counters counts e = rw e refl
+
+of_version : (version : ℕ) (h : Head) → h.version ≡ version → head_next version (Ok h) ≡ cond (rules h) (Some (kept_of_head h)) None
+of_version version h is =
+    let tested : (h.version == version) ≡ true = grind (arith, nat_tests, is) in
+    ap (λ (b : Bool). kept_if b h) (rules_alone (h.version == version) (are_distinct_names h.connections) (has_counters h) (has_counts h) tested)
+  where
+    kept_if : Bool → Head → Option Kept
+    kept_if b h = cond b (Some (kept_of_head h)) None
+
+pub head_says : (version : ℕ) (read : Result Head ℕ) (h : Head) → read ≡ Ok h → h.version ≡ version → rules h ≡ true → head_next version read ≡ Some (kept_of_head h)
+head_says version read h e is sound = ap (head_next version) e ∙ of_version version h is ∙ rw sound refl
+
+pub head_breaks : (version : ℕ) (read : Result Head ℕ) (h : Head) → read ≡ Ok h → h.version ≡ version → rules h ≡ false → head_next version read ≡ None
+head_breaks version read h e is unsound = ap (head_next version) e ∙ of_version version h is ∙ rw unsound refl
 
 either : (a : Bool) (x : Option Kept) → x ≡ None → cond a x None ≡ None
 either true x none = none
 either false x none = refl
 
--- bytes that aren't a Head's up to the lists
-pub front_refused : (kind : ℕ) (payload : List ℕ) → is_ok (head_front_at payload) ≡ false → first_block_kept kind payload ≡ None
-front_refused kind payload unread =
-    either (kind == 10) (head_next (whole head_at payload)) (head_none (whole head_at payload) (λ h e. true≢false (sym (head_front payload h e) ∙ unread)))
+-- bytes that aren't a Head's of this version up to the lists
+pub front_refused : (version kind : ℕ) (payload : List ℕ) → is_ok (head_front_at version payload) ≡ false → first_block_kept version kind payload ≡ None
+front_refused version kind payload unread =
+    either (kind == 10) (head_next version (whole head_at payload))
+    (head_refused version (whole head_at payload) (λ h e same. true≢false (sym (head_front payload h e) ∙ ap (λ (v : ℕ). is_ok (head_front_at v payload)) same ∙ unread)))
 
 -- as many bytes as stand before the lists tell whether those can be read
-guarded : {A B : Type 0} (test : Bool) (a : A) (rest : List ℕ) (left : ℕ) (second : Reading B) → is_ok (behind (cond test (Ok (a, rest)) (Err left)) second) ≡ (test && is_ok (second rest))
-guarded true a rest left second = ok_behind a rest second
-guarded false a rest left second = refl
-
 store_of : (rest : List ℕ) → 40 ≤ length rest → is_ok ((store_at then raw_at 32) rest) ≡ (nat_lt (from_be_bytes w64 (take 8 rest)) STORE_LIMIT && true)
 unfolding store_at uint_at raw_at
 store_of rest long =
@@ -199,29 +294,60 @@ store_of rest long =
     let last : is_ok (raw_at 32 (drop 8 rest)) ≡ true = rw digest refl in
     rw eight (guarded (nat_lt n STORE_LIMIT) n (drop 8 rest) (length rest) (raw_at 32) ∙ ap (λ (t : Bool). nat_lt n STORE_LIMIT && t) last)
 
-front_of : (b : ℕ) (rest : List ℕ) → 40 ≤ length rest → is_ok (head_front_at (b ∷ rest)) ≡ ((b == 1) && (nat_lt (from_be_bytes w64 (take 8 rest)) STORE_LIMIT && true))
-unfolding version_at byte_at
-front_of b rest long =
-    guarded (b == 1) b rest (length (b ∷ rest)) (store_at then raw_at 32)
-    ∙ ap (λ (t : Bool). (b == 1) && t) (store_of rest long)
+front_long : (version b : ℕ) (rest : List ℕ) → 40 ≤ length rest → is_ok (head_front_at version (b ∷ take 40 rest)) ≡ is_ok (head_front_at version (b ∷ rest))
+front_long version b rest long =
+    let same : is_ok ((store_at then raw_at 32) (take 40 rest)) ≡ is_ok ((store_at then raw_at 32) rest) =
+    store_of (take 40 rest) (omega (arith, length-take 40 rest)) ∙ ap (λ (l : List ℕ). nat_lt (from_be_bytes w64 l) STORE_LIMIT && true) (take-take 8 40 rest (omega arith)) ∙ sym (store_of rest long) in
+    front_of version b (take 40 rest) ∙ ap (λ (t : Bool). is_version b && ((b == version) && t)) same ∙ sym (front_of version b rest)
 
-front_long : (b : ℕ) (rest : List ℕ) → 40 ≤ length rest → is_ok (head_front_at (b ∷ take 40 rest)) ≡ is_ok (head_front_at (b ∷ rest))
-front_long b rest long =
-    front_of b (take 40 rest) (omega (arith, length-take 40 rest))
-    ∙ ap (λ (l : List ℕ). (b == 1) && (nat_lt (from_be_bytes w64 l) STORE_LIMIT && true)) (take-take 8 40 rest (omega arith))
-    ∙ sym (front_of b rest long)
-
-pub front_same : (payload : List ℕ) (n : ℕ) → n ≡ min (length payload) 41 → is_ok (head_front_at (take n payload)) ≡ is_ok (head_front_at payload)
-front_same payload n is = elim (cases_lt (length payload) 41) [ inl lt ↦ short lt | inr le ↦ long le ]
+pub front_same : (version : ℕ) (payload : List ℕ) (n : ℕ) → n ≡ min (length payload) 41 → is_ok (head_front_at version (take n payload)) ≡ is_ok (head_front_at version payload)
+front_same version payload n is = elim (cases_lt (length payload) 41) [ inl lt ↦ short lt | inr le ↦ long le ]
   where
-    short : length payload < 41 → is_ok (head_front_at (take n payload)) ≡ is_ok (head_front_at payload)
-    short lt = ap (λ (l : List ℕ). is_ok (head_front_at l)) (take_all n payload (omega arith))
+    short : length payload < 41 → is_ok (head_front_at version (take n payload)) ≡ is_ok (head_front_at version payload)
+    short lt = ap (λ (l : List ℕ). is_ok (head_front_at version l)) (take_all n payload (omega arith))
 
-    parts : (bytes : List ℕ) → 41 ≤ length bytes → is_ok (head_front_at (take 41 bytes)) ≡ is_ok (head_front_at bytes)
+    parts : (bytes : List ℕ) → 41 ≤ length bytes → is_ok (head_front_at version (take 41 bytes)) ≡ is_ok (head_front_at version bytes)
     parts [] le = absurd (omega arith)
-    parts (b ∷ rest) le = front_long b rest (omega arith)
+    parts (b ∷ rest) le = front_long version b rest (omega arith)
 
-    long : 41 ≤ length payload → is_ok (head_front_at (take n payload)) ≡ is_ok (head_front_at payload)
+    long : 41 ≤ length payload → is_ok (head_front_at version (take n payload)) ≡ is_ok (head_front_at version payload)
     long le =
         let as_many : n ≡ 41 = omega arith in
-        ap (λ (m : ℕ). is_ok (head_front_at (take m payload))) as_many ∙ parts payload le
+        ap (λ (m : ℕ). is_ok (head_front_at version (take m payload))) as_many ∙ parts payload le
+
+-- ---- the first byte of a Head is its version
+
+begins : (h : Head) → (0 < length (head h)) × (get_or (head h) 0 0 ≡ h.version)
+unfolding head
+begins h = (omega arith, refl)
+
+pub first_byte : (bytes : List ℕ) (h : Head) → IsBytes bytes → whole head_at bytes ≡ Ok h → (0 < length bytes) × (get_or bytes 0 0 ≡ h.version)
+first_byte bytes h fits e =
+    let is = (whole_takes head_at head IsHead head_is bytes h fits e).1 in
+    let at = begins h in
+    (omega (arith, ap length is, at.0), ap (λ (l : List ℕ). get_or l 0 0) is ∙ at.1)
+
+abbrev begins_with : ℕ → List ℕ → Bool
+begins_with version bytes = nat_lt 0 (length bytes) && (get_or bytes 0 0 == version)
+
+-- bytes that don't begin with the version, or are none
+pub other_version : (version : ℕ) (bytes : List ℕ) → IsBytes bytes → begins_with version bytes ≡ false → head_next version (whole head_at bytes) ≡ None
+other_version version bytes fits other =
+    head_refused version (whole head_at bytes) (λ h e same.
+    let begin = first_byte bytes h fits e in
+    let some = begin.0 in
+    let is : get_or bytes 0 0 ≡ version = begin.1 ∙ same in
+    let first : nat_lt 0 (length bytes) ≡ true = grind (arith, nat_tests, some) in
+    let second : (get_or bytes 0 0 == version) ≡ true = grind (arith, nat_tests, is) in
+    true≢false (sym (both_hold _ _ first second) ∙ other))
+  where
+    both_hold : (a b : Bool) → a ≡ true → b ≡ true → (a && b) ≡ true
+    both_hold a b p q = rw (p, q) refl
+
+pub this_version : (version : ℕ) (bytes : List ℕ) → begins_with version bytes ≡ true → get_or bytes 0 0 ≡ version
+this_version version bytes is = eqb-true (get_or bytes 0 0) version (and_parts (nat_lt 0 (length bytes)) (get_or bytes 0 0 == version) is).1
+
+-- a refusal for want of memory
+pub memory_only : (error : CodecError) → unfit_of error ≡ unfit.Memory → error ≡ codec.Memory
+memory_only codec.Memory e = refl
+memory_only (codec.Form at) e = absurd cc

@@ -1,5 +1,5 @@
 -- What a snapshot may say: each of its parts has an encoding, and what is kept agrees with itself.
-use Rattle.std.specs.Prelude.{◌≢◌, ℕ, ◌+◌, ◌<◌, ◌≤◌, List, [], ◌∷◌, length, map, All}
+use Rattle.std.specs.Prelude.{◌≡◌, ◌≢◌, ℕ, ◌+◌, ◌<◌, ◌≤◌, List, [], ◌∷◌, length, map, All}
 use Rattle.std.specs.List.{sum}
 use Rattle.flowfile_record.specs.NumberedItems.{AscendsByNumber}
 use Rattle.flowfile_record.specs.Stored.{Kept}
@@ -9,6 +9,7 @@ use Rattle.record_codec.specs.ActiveFile.{IsActiveFile}
 use Rattle.record_codec.specs.FileEncoding.{flow_file}
 use Rattle.record_codec.specs.Snapshot.{IsBatch}
 use Rattle.record_codec.specs.StoreHead.{head, IsHead}
+use Rattle.record_codec.specs.declared.TheConstants.{SECOND_VERSION, FORMAT_VERSION}
 use Rattle.record_codec.specs.declared.block.TheConstants.{PAYLOAD_MAX}
 use Rattle.checkpoint_store.specs.Snapshot.{head_in}
 use Rattle.flowfile_record.specs.declared.limits.TheConstants.{LIVE_FILES_MAX, LIVE_BYTES_MAX}
@@ -43,10 +44,12 @@ pub record HasCounters (k : Kept) : Type 0 where
   pub next_arrival : 1 ≤ k.next_arrival
   pub next_batch : 1 ≤ k.next_batch
 
--- What is kept agrees with itself and has a snapshot: so there are no ids of processors, and the line is 0.
-pub record IsConsistent (k : Kept) : Type 0 where
-  pub encoded : IsHead (head_in k)
-  pub head_size : length (head (head_in k)) ≤ PAYLOAD_MAX
+-- What is kept agrees with itself and has a snapshot in this version: so in the first one there are no ids of
+-- processors and the line is 0, and in the second one each processor has one count.
+pub record IsConsistentIn (version : ℕ) (k : Kept) : Type 0 where
+  pub encoded : IsHead (head_in version k)
+  pub head_size : length (head (head_in version k)) ≤ PAYLOAD_MAX
+  pub counts : version ≡ SECOND_VERSION → length k.counts ≡ length k.processors
   pub connections : AreDistinctBy (λ name. name) k.connections
   pub counters : HasCounters k
   pub files : All (IsFileIn k) k.files
@@ -56,3 +59,7 @@ pub record IsConsistent (k : Kept) : Type 0 where
   pub batch_numbers : AscendsByNumber (λ b. b.batch) k.batches
   pub live_files : length k.files + sum (map (λ b. b.files) k.batches) ≤ LIVE_FILES_MAX
   pub live_bytes : sum (map record_size k.files) + sum (map (λ b. b.encoded) k.batches) ≤ LIVE_BYTES_MAX
+
+-- in the version that counts
+abbrev pub IsConsistent : Kept → Type 0
+IsConsistent k = IsConsistentIn FORMAT_VERSION k

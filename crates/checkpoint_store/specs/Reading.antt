@@ -1,5 +1,5 @@
 -- What the bytes of a snapshot say: what is kept, or the first damage.
-use Rattle.std.specs.Prelude.{ℕ, zero, suc, ◌+◌, ◌==◌, ◌&&◌, nat_lt, nat_le, not, Bool, true, List, [], ◌∷◌, ◌++◌, length, map, drop, Option, None, Some, Result, Ok, Err, bytes_eq, if◌then◌else◌}
+use Rattle.std.specs.Prelude.{ℕ, zero, suc, ◌+◌, ◌==◌, ◌&&◌, ◌||◌, nat_lt, nat_le, not, Bool, true, List, [], ◌∷◌, ◌++◌, length, map, drop, Option, None, Some, Result, Ok, Err, bytes_eq, if◌then◌else◌}
 use Rattle.std.specs.List.{sum, list_any}
 use Rattle.disk_trait.specs.Files.{Files}
 use Rattle.disk_trait.specs.declared.damage.Damage.{Damage}
@@ -15,6 +15,7 @@ use Rattle.record_codec.specs.Block.{Reading, Whole, Cut, Long, Differs, reading
 use Rattle.record_codec.specs.Snapshot.{kind_code}
 use Rattle.record_codec.specs.SnapshotReading.{batch_at, ending_at}
 use Rattle.record_codec.specs.StoreHeadReading.{head_at}
+use Rattle.record_codec.specs.declared.TheConstants.{SECOND_VERSION}
 use Rattle.record_codec.specs.declared.block.TheConstants.{BLOCK_OVERHEAD}
 use Rattle.record_codec.specs.declared.head.Head.{Head}
 use Rattle.record_codec.specs.declared.snapshot.SnapshotKind.TheVariants as kinds
@@ -32,6 +33,10 @@ are_distinct_names (name ∷ names) = not (list_any (λ other. bytes_eq other na
 -- numbers, arrivals and batches begin at 1
 abbrev pub has_counters : Head → Bool
 has_counters h = nat_lt 0 h.next_number && nat_lt 0 h.next_arrival && nat_lt 0 h.next_batch
+
+-- in the second version each processor has one count
+abbrev pub has_counts : Head → Bool
+has_counts h = not (h.version == SECOND_VERSION) || (length h.counts == length h.processors)
 
 -- what a Head says is kept, before any file
 abbrev pub kept_of_head : Head → Kept
@@ -86,9 +91,11 @@ pub data Next : Type 0 where
   More : Kept → Next
   Last : Next
 
-abbrev pub head_next : Result Head ℕ → Option Kept
-head_next (Ok h) = if are_distinct_names h.connections && has_counters h then Some (kept_of_head h) else None
-head_next (Err left) = None
+abbrev pub head_next : (version : ℕ) → Result Head ℕ → Option Kept
+head_next version (Ok h) =
+    if (h.version == version) && are_distinct_names h.connections && has_counters h && has_counts h
+    then Some (kept_of_head h) else None
+head_next version (Err left) = None
 
 abbrev pub file_next : Kept → Result ActiveFile ℕ → Option Next
 file_next k (Ok a) = if file_may_join k a then Some (More (record k { files = k.files ++ a ∷ [] })) else None
@@ -102,9 +109,10 @@ abbrev pub end_next : Kept → Result ℕ ℕ → Option Next
 end_next k (Ok blocks) = if blocks == blocks_in k then Some Last else None
 end_next k (Err left) = None
 
--- what the first block says
-abbrev pub first_block_kept : ℕ → List ℕ → Option Kept
-first_block_kept kind payload = if kind == kind_code kinds.Head then head_next (whole head_at payload) else None
+-- what the first block of a snapshot of this version says
+abbrev pub first_block_kept : (version kind : ℕ) → List ℕ → Option Kept
+first_block_kept version kind payload =
+    if kind == kind_code kinds.Head then head_next version (whole head_at payload) else None
 
 -- what a later block says
 abbrev pub next_in : Kept → ℕ → List ℕ → Option Next
@@ -148,12 +156,12 @@ address_of file size at = record { file = file; size = size; offset = at; at = a
 abbrev pub blocks_in_file : (most : ℕ) → Files → FileName → (at : ℕ) → Kept → Result Kept Damage
 blocks_in_file most files file at k = blocks_from most file at k (drop at (files file))
 
--- what the bytes of this file say; no file has more blocks than bytes
-abbrev pub snapshot_of : FileName → List ℕ → Result Kept Damage
-snapshot_of file bytes =
-    behind_block file 0 first_block_kept (reading_of bytes)
+-- what the bytes of this file say as a snapshot of this version; no file has more blocks than bytes
+abbrev pub snapshot_of : (version : ℕ) → FileName → List ℕ → Result Kept Damage
+snapshot_of version file bytes =
+    behind_block file 0 (first_block_kept version) (reading_of bytes)
     (λ k size. blocks_from (suc (length bytes)) file size k (drop size bytes))
 
 -- what this file says
-abbrev pub snapshot_in : Files → FileName → Result Kept Damage
-snapshot_in files file = snapshot_of file (files file)
+abbrev pub snapshot_in : (version : ℕ) → Files → FileName → Result Kept Damage
+snapshot_in version files file = snapshot_of version file (files file)

@@ -19,8 +19,9 @@ abbrev pub snapshot_file : ℕ → FileName
 snapshot_file number = named files.Snapshot number
 
 -- what the Head says of what is kept
-abbrev pub head_in : Kept → Head
-head_in k = record {
+abbrev pub head_in : (version : ℕ) → Kept → Head
+head_in version k = record {
+  version = version;
   store = k.store;
   flow = k.flow;
   connections = k.connections;
@@ -33,8 +34,8 @@ head_in k = record {
   next_batch = k.next_batch;
 }
 
-abbrev pub head_block : Kept → List ℕ
-head_block k = block (kind_code kinds.Head) (head (head_in k))
+abbrev pub head_block : (version : ℕ) → Kept → List ℕ
+head_block version k = block (kind_code kinds.Head) (head (head_in version k))
 
 abbrev pub file_block : ActiveFile → List ℕ
 file_block a = block (kind_code kinds.File) (active_file a)
@@ -50,5 +51,10 @@ end_block blocks = block (kind_code kinds.End) (ending blocks)
 abbrev pub blocks_in : Kept → ℕ
 blocks_in k = 1 + length k.files + length k.batches
 
-abbrev pub snapshot : Kept → List ℕ
-snapshot k = head_block k ++ flat_map file_block k.files ++ flat_map batch_block k.batches ++ end_block (blocks_in k)
+abbrev pub snapshot : (version : ℕ) → Kept → List ℕ
+snapshot version k =
+    head_block version k ++ flat_map file_block k.files ++ flat_map batch_block k.batches ++ end_block (blocks_in k)
+
+-- where the files end, and the first batch begins
+abbrev pub files_end : (version : ℕ) → Kept → ℕ
+files_end version k = length (head_block version k ++ flat_map file_block k.files)

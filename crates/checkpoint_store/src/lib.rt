@@ -12,5 +12,5 @@ mod writing;
 
 pub use beginning::begin;
 pub use error::CheckError;
-pub use reading::{read, snapshots_are_read_back};
+pub use reading::{Snapshot, read, snapshots_are_read_back};
 pub use writing::write;

@@ -41,14 +41,20 @@ pub struct Output {
 }
 
 impl Output {
-    /// Nothing is put yet. There is room for the blocks of this state.
-    pub fn new(alloc: Global, file: FileName, state: &Stored) -> Result<Output, AllocError>
-        requires head { IsHead (head_of state.now) }
-        requires size { length (head (head_of state.now)) ≤ PAYLOAD_MAX }
-        ensures room { IfOk result (λ out. HasFreeRoom out × (length (head (head_of state.now)) ≤ out.longest)) }
+    /// Nothing is put yet. There is room for the blocks of this state in a version.
+    pub fn new(
+        alloc: Global,
+        file: FileName,
+        version: u8,
+        state: &Stored,
+    ) -> Result<Output, AllocError>
+        requires head { IsHead (head_of version state.now) }
+        requires size { length (head (head_of version state.now)) ≤ PAYLOAD_MAX }
+        ensures room { IfOk result
+            (λ out. HasFreeRoom out × (length (head (head_of version state.now)) ≤ out.longest)) }
         ensures empty { IfOk result (λ out. (out.file ≡ file) × (out.offset ≡ 0) × (out.piece.items ≡ [])) }
     {
-        let longest = head_size_of(state).max(FILE_PAYLOAD_MAX);
+        let longest = head_size_of(version, state).max(FILE_PAYLOAD_MAX);
         let mut piece = Vec::new(alloc);
         piece.reserve((PIECE_SIZE + longest + BLOCK_OVERHEAD) as usize)?;
         let mut payload = Vec::new(alloc);
@@ -62,17 +68,17 @@ impl Output {
         })
     }
 
-    /// Puts the Head of this state.
-    pub fn put_head(&mut self, state: &Stored)
+    /// Puts the Head of this state in a version.
+    pub fn put_head(&mut self, version: u8, state: &Stored)
         requires room { HasFreeRoom self.old }
-        requires head { IsHead (head_of state.now) }
-        requires size { length (head (head_of state.now)) ≤ self.old.longest }
-        ensures piece { self.new.piece.items ≡ self.old.piece.items ++ head_block (kept_of state.now) }
+        requires head { IsHead (head_of version state.now) }
+        requires size { length (head (head_of version state.now)) ≤ self.old.longest }
+        ensures piece { self.new.piece.items ≡ self.old.piece.items ++ head_block version (kept_of state.now) }
         ensures room { OutputHasRoom self.new }
         ensures same { SameBut self.old self.new }
     {
         self.payload.clear();
-        write_head_of(&mut self.payload, state).unwrap();
+        write_head_of(&mut self.payload, version, state).unwrap();
         self.put_block(SnapshotKind::Head);
     }
 

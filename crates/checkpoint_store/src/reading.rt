@@ -9,8 +9,8 @@ ghost use Rattle.block_file.specs.Address.{reading_at, HasBlockPast, IsAddress, 
 ghost use Rattle.block_file.specs.Damage.{damage_in};
 ghost use Rattle.checkpoint_store.specs.Memory.{BlockTakes, FirstTakes, IsReadTo, MayWantMemory};
 ghost use Rattle.checkpoint_store.specs.Reading.{address_of, blocks_in_file, snapshot_of, snapshot_in};
-ghost use Rattle.checkpoint_store.specs.Snapshot.{snapshot, snapshot_file};
-ghost use Rattle.checkpoint_store.specs.Consistent.{IsConsistent};
+ghost use Rattle.checkpoint_store.specs.Snapshot.{snapshot, snapshot_file, files_end};
+ghost use Rattle.checkpoint_store.specs.Consistent.{IsConsistentIn};
 ghost use Rattle.checkpoint_store.specs.SoFar.{IsSoFar, HasReadBlock};
 
 use crate::CheckError;
@@ -30,18 +30,34 @@ pub struct Source {
     pub size: u64,
 }
 
-/// What the snapshot of this number says. It is read block by block, with memory for one block beside the state.
-pub fn read<D: Disk>(alloc: Global, disk: &mut D, number: u64) -> Result<Stored, CheckError>
-    ensures read { IfOk result (λ state. IsTrue D.tells
-        → snapshot_in (D.held disk.old) (snapshot_file number) ≡ Ok (kept_of state)) }
+/// What a snapshot says.
+#[derive(Drop)]
+pub struct Snapshot {
+    pub stored: Stored,
+    /// Where the files end, and the first batch begins.
+    pub batches_at: u64,
+}
+
+/// What the snapshot of this number says, which has to be of this version. It is read block by block, with memory for one
+/// block beside the state.
+pub fn read<D: Disk>(
+    alloc: Global,
+    disk: &mut D,
+    number: u64,
+    version: u8,
+) -> Result<Snapshot, CheckError>
+    ensures read { IfOk result (λ found. IsTrue D.tells
+        → snapshot_in version (D.held disk.old) (snapshot_file number) ≡ Ok (kept_of found.stored)) }
+    ensures place { IfOk result (λ found. found.batches_at ≡ files_end version (kept_of found.stored)) }
     // Whatever the disk tells, a state without batches agrees with itself.
-    ensures consistent { IfOk result (λ state. (kept_of state).batches ≡ [] → IsConsistent (kept_of state)) }
+    ensures consistent { IfOk result (λ found. (kept_of found.stored).batches ≡ []
+        → IsConsistentIn version (kept_of found.stored)) }
     // The first damage is told, where there is one.
     ensures damaged { (damage : TheDamage) → IsErrOf result (CheckError.Damaged damage) → IsTrue D.tells
-        → snapshot_in (D.held disk.old) (snapshot_file number) ≡ Err damage }
+        → snapshot_in version (D.held disk.old) (snapshot_file number) ≡ Err damage }
     // What is damaged before the block that memory is wanted for is told, and of that block what can be told without.
     ensures memory { IsErrOf result CheckError.Memory → IsTrue D.tells
-        → MayWantMemory (D.held disk.old (snapshot_file number)) }
+        → MayWantMemory version (D.held disk.old (snapshot_file number)) }
     ensures stays { Stays D.held D.moment D.images disk.old disk.new }
     ensures cause { CountsFaults (D.faults disk.old) (D.faults disk.new) (IsErrOf result CheckError.Disk) }
 {
@@ -52,11 +68,15 @@ pub fn read<D: Disk>(alloc: Global, disk: &mut D, number: u64) -> Result<Stored,
     let size = disk.size(file)?;
     let source = Source { file, size };
     let mut buffer = Vec::new(alloc);
-    let (mut so_far, mut at) = read_first(alloc, disk, source, &mut buffer)?;
+    let (mut so_far, mut at) = read_first(alloc, disk, source, version, &mut buffer)?;
     while let Some(next) = read_next(alloc, disk, source, at, &mut buffer, &mut so_far)? {
         at = next;
     }
-    Ok(so_far.state)
+    let batches_at = so_far.files_end();
+    Ok(Snapshot {
+        stored: so_far.state,
+        batches_at,
+    })
 }
 
 // Reads the first block. Answers where the next one begins, too.
@@ -64,26 +84,29 @@ fn read_first<D: Disk>(
     alloc: Global,
     disk: &mut D,
     source: Source,
+    version: u8,
     buffer: &mut Vec<u8>,
 ) -> Result<(SoFar, u64), CheckError>
     requires size { IsTrue D.tells → source.size ≡ length (D.held disk.old source.file) }
-    ensures found { IfOk result (λ first. IsTrue D.tells → snapshot_in (D.held disk.old) source.file
+    ensures found { IfOk result (λ first. IsTrue D.tells → snapshot_in version (D.held disk.old) source.file
         ≡ blocks_in_file (suc (length (D.held disk.old source.file))) (D.held disk.old) source.file
         first.1 (kept_of first.0.state)) }
-    ensures so_far { IfOk result (λ first. IsSoFar first.0) }
+    ensures so_far { IfOk result (λ first. IsSoFar first.0 × (first.0.version ≡ version)) }
     ensures within { IfOk result (λ first. first.1 ≤ source.size) }
     ensures damaged { (damage : TheDamage) → IsErrOf result (CheckError.Damaged damage) → IsTrue D.tells
-        → snapshot_in (D.held disk.old) source.file ≡ Err damage }
+        → snapshot_in version (D.held disk.old) source.file ≡ Err damage }
     ensures read_to { IfOk result (λ first. IsTrue D.tells
-        → IsReadTo (D.held disk.old source.file) first.1 (kept_of first.0.state) (vec_capacity buffer.new)) }
+        → IsReadTo version (D.held disk.old source.file) first.1 (kept_of first.0.state)
+        (vec_capacity buffer.new)) }
     ensures room { OnOk result (SMALL_BLOCK_SIZE ≤ vec_capacity buffer.new) }
-    ensures memory { IsErrOf result CheckError.Memory → IsTrue D.tells → FirstTakes (D.held disk.old source.file) }
+    ensures memory { IsErrOf result CheckError.Memory → IsTrue D.tells → FirstTakes version (D.held disk.old source.file) }
     ensures stays { Stays D.held D.moment D.images disk.old disk.new }
     ensures cause { CountsFaults (D.faults disk.old) (D.faults disk.new) (IsErrOf result CheckError.Disk) }
 {
-    let block = read_head_block(disk, source, buffer)?;
+    let block = read_head_block(disk, source, version, buffer)?;
     match first_part(
         alloc,
+        version,
         block.kind,
         &buffer[block.start as usize..block.end as usize],
     ) {
@@ -130,25 +153,26 @@ fn read_next<D: Disk>(
     }
 }
 
-// The first block. Where there is no memory for it, it is told all the same if it can't be a Head.
+// The first block. Where there is no memory for it, it is told all the same if it can't be a Head of this version.
 fn read_head_block<D: Disk>(
     disk: &mut D,
     source: Source,
+    version: u8,
     buffer: &mut Vec<u8>,
 ) -> Result<Block, CheckError>
     requires size { IsTrue D.tells → source.size ≡ length (D.held disk.old source.file) }
     ensures found { IfOk result
         (IsBlockAt D.tells (D.held disk.old) (address_of source.file source.size 0) buffer.new.items) }
     ensures damaged { (damage : TheDamage) → IsErrOf result (CheckError.Damaged damage) → IsTrue D.tells
-        → snapshot_in (D.held disk.old) source.file ≡ Err damage }
-    ensures memory { IsErrOf result CheckError.Memory → IsTrue D.tells → FirstTakes (D.held disk.old source.file) }
+        → snapshot_in version (D.held disk.old) source.file ≡ Err damage }
+    ensures memory { IsErrOf result CheckError.Memory → IsTrue D.tells → FirstTakes version (D.held disk.old source.file) }
     ensures capacity { vec_capacity buffer.old ≤ vec_capacity buffer.new }
     ensures stays { Stays D.held D.moment D.images disk.old disk.new }
     ensures cause { CountsFaults (D.faults disk.old) (D.faults disk.new) (IsErrOf result CheckError.Disk) }
 {
     match read_block(disk, source, 0, buffer) {
         Err(CheckError::Memory) => {
-            check_head(disk, source)?;
+            check_head(disk, source, version)?;
             Err(CheckError::Memory)
         }
         read => read,
@@ -234,6 +258,6 @@ fn refused(source: Source, at: u64, unfit: Unfit) -> CheckError
 
 /// What was written is read back, whatever stands behind it.
 pub fn snapshots_are_read_back()
-    ensures { (file : TheName) (k : Kept) (rest : List ℕ) → IsConsistent k
-        → snapshot_of file (snapshot k ++ rest) ≡ Ok k }
+    ensures { (version : ℕ) (file : TheName) (k : Kept) (rest : List ℕ) → IsConsistentIn version k
+        → snapshot_of version file (snapshot version k ++ rest) ≡ Ok k }
 {}

@@ -5,9 +5,9 @@ ghost use Rattle.std.specs.BTreeSet.{contains, IsOrdered};
 ghost use Rattle.flowfile_record.specs.Stored.{kept_of};
 ghost use Rattle.record_codec.specs.ActiveFile.{IsActiveFile};
 ghost use Rattle.record_codec.specs.Snapshot.{IsBatch};
-ghost use Rattle.checkpoint_store.specs.Consistent.{IsConsistent};
+ghost use Rattle.checkpoint_store.specs.Consistent.{IsConsistentIn};
 ghost use Rattle.checkpoint_store.specs.Reading.{file_has_place, file_may_join, batch_may_follow, kept_of_head};
-ghost use Rattle.checkpoint_store.specs.Snapshot.{blocks_in};
+ghost use Rattle.checkpoint_store.specs.Snapshot.{blocks_in, files_end};
 ghost use Rattle.checkpoint_store.specs.SoFar.{IsSoFar};
 ghost use Rattle.checkpoint_store.specs.Unfit.{unfit_of};
 ghost use Rattle.checkpoint_store.specs.declared.so_far.Unfit.TheVariants as unfit;
@@ -16,7 +16,7 @@ use flowfile_record::{
     ActiveFile, ActiveList, BatchList, CodecError, LIVE_BYTES_MAX, LIVE_FILES_MAX, Stored,
     SwapBatch,
 };
-use record_codec::{Head, file_size};
+use record_codec::{BLOCK_OVERHEAD, Head, file_size, head_size};
 use std::alloc::{AllocError, Global};
 use std::collections::BTreeSet;
 
@@ -47,10 +47,17 @@ impl From<CodecError> for Unfit {
     }
 }
 
+// How many bytes the block of a file has beside the file's record, with the connection in two.
+const FILE_OVERHEAD: u64 = BLOCK_OVERHEAD + 2;
+
 /// What the blocks up to some block say.
 #[derive(Drop)]
 pub struct SoFar {
+    /// The version of the Head.
+    pub version: u8,
     pub state: Stored,
+    /// Where the Head ends.
+    head_end: u64,
     /// The number of the last file, 0 for none.
     last_file: u64,
     /// The number of the last batch, 0 for none.
@@ -64,12 +71,16 @@ pub struct SoFar {
 impl SoFar {
     /// What a Head alone says.
     pub fn new(alloc: Global, head: Head) -> SoFar
-        requires consistent { IsConsistent (kept_of_head head) }
+        requires consistent { IsConsistentIn head.version (kept_of_head head) }
         ensures kept { kept_of result.state ≡ kept_of_head head }
+        ensures version { result.version ≡ head.version }
         ensures so_far { IsSoFar result }
     {
+        let head_end = head_size(&head) + BLOCK_OVERHEAD;
         let flow = head.flow;
         SoFar {
+            version: head.version,
+            head_end,
             state: Stored {
                 store: head.store,
                 flow,
@@ -99,6 +110,7 @@ impl SoFar {
             × (kept_of self.new.state
             ≡ record (kept_of self.old.state) { files = (kept_of self.old.state).files ++ active ∷ [] })) }
         ensures so_far { OnOk result (IsSoFar self.new) }
+        ensures version { self.new.version ≡ self.old.version }
         ensures unfit { IsErrOf result Unfit.Form → file_may_join (kept_of self.old.state) active ≡ false }
         ensures memory { IsErrOf result Unfit.Memory → file_may_join (kept_of self.old.state) active ≡ true }
     {
@@ -141,6 +153,7 @@ impl SoFar {
             × (kept_of self.new.state
             ≡ record (kept_of self.old.state) { batches = (kept_of self.old.state).batches ++ batch ∷ [] })) }
         ensures so_far { OnOk result (IsSoFar self.new) }
+        ensures version { self.new.version ≡ self.old.version }
         ensures unfit { IsErrOf result Unfit.Form → batch_may_follow (kept_of self.old.state) batch ≡ false }
         ensures memory { IsErrOf result Unfit.Memory → batch_may_follow (kept_of self.old.state) batch ≡ true }
     {
@@ -151,6 +164,14 @@ impl SoFar {
         self.state.batches.put(batch);
         self.last_batch = batch.batch;
         Ok(())
+    }
+
+    /// Where the files end, and the first batch begins.
+    pub fn files_end(&self) -> u64
+        requires { IsSoFar self.now }
+        ensures { result ≡ files_end self.now.version (kept_of self.now.state) }
+    {
+        self.head_end + FILE_OVERHEAD * self.state.files.len() + self.bytes
     }
 
     /// How many blocks there were.

@@ -16,7 +16,9 @@ use crate::reading::Source;
 use disk_trait::{Damage, Disk, Failed};
 use flowfile_record::fields::{read_digest, read_u8, read_u64};
 use flowfile_record::{DIGEST_SIZE, STORE_LIMIT};
-use record_codec::{BLOCK_OVERHEAD, FORMAT_VERSION, HEADER_SIZE, SWAP_BATCH_SIZE, SnapshotKind};
+use record_codec::{
+    BLOCK_OVERHEAD, FIRST_VERSION, HEADER_SIZE, SECOND_VERSION, SWAP_BATCH_SIZE, SnapshotKind,
+};
 
 /// Any longer block is a Head's or a file's, or of bad form: of the others, that of a batch is the longest.
 pub const SMALL_BLOCK_SIZE: u64 = BLOCK_OVERHEAD + SWAP_BATCH_SIZE;
@@ -24,12 +26,13 @@ pub const SMALL_BLOCK_SIZE: u64 = BLOCK_OVERHEAD + SWAP_BATCH_SIZE;
 // How many bytes a Head has before its lists: the version of the format, the store and the digest of the flow.
 const HEAD_FRONT_SIZE: usize = 9 + DIGEST_SIZE;
 
-/// Whether the first block, for which there is no memory, may be a Head: it is looked at up to the lists of one.
-pub fn check_head<D: Disk>(disk: &mut D, source: Source) -> Result<(), CheckError>
+/// Whether the first block, for which there is no memory, may be a Head of this version: it is looked at up to the lists
+/// of one.
+pub fn check_head<D: Disk>(disk: &mut D, source: Source, version: u8) -> Result<(), CheckError>
     requires { IsTrue D.tells → HasBlockPast (D.held disk.old) (address_of source.file source.size 0) 0 }
-    ensures front { OnOk result (IsTrue D.tells → FirstTakes (D.held disk.old source.file)) }
+    ensures front { OnOk result (IsTrue D.tells → FirstTakes version (D.held disk.old source.file)) }
     ensures damaged { (damage : TheDamage) → IsErrOf result (CheckError.Damaged damage) → IsTrue D.tells
-        → snapshot_in (D.held disk.old) source.file ≡ Err damage }
+        → snapshot_in version (D.held disk.old) source.file ≡ Err damage }
     ensures kinds { IsErrOf result CheckError.Memory → ⊥ }
     ensures stays { Stays D.held D.moment D.images disk.old disk.new }
     ensures cause { CountsFaults (D.faults disk.old) (D.faults disk.new) (IsErrOf result CheckError.Disk) }
@@ -41,33 +44,46 @@ pub fn check_head<D: Disk>(disk: &mut D, source: Source) -> Result<(), CheckErro
     }
     let length = u32::from_be_bytes([header[0], header[1], header[2], header[3]]) as usize;
     let mut front = [0u8; HEAD_FRONT_SIZE];
-    if !has_head_front(disk, source, &mut front[..length.min(HEAD_FRONT_SIZE)])? {
+    if !has_head_front(
+        disk,
+        source,
+        version,
+        &mut front[..length.min(HEAD_FRONT_SIZE)],
+    )? {
         return Err(bad_form(source, 0));
     }
     Ok(())
 }
 
-// Whether as many bytes behind the first header as the buffer has are a Head's up to its lists.
-fn has_head_front<D: Disk>(disk: &mut D, source: Source, buffer: &mut [u8]) -> Result<bool, Failed>
+// Whether as many bytes behind the first header as the buffer has are a Head's of this version up to its lists.
+fn has_head_front<D: Disk>(
+    disk: &mut D,
+    source: Source,
+    version: u8,
+    buffer: &mut [u8],
+) -> Result<bool, Failed>
     requires { IsTrue D.tells → HEADER_SIZE + length buffer.old ≤ length (D.held disk.old source.file) }
     ensures found { IfOk result (λ found. IsTrue D.tells → (n : ℕ) → n ≡ length buffer.old
-        → found ≡ is_ok (head_front_at (take n (drop HEADER_SIZE (D.held disk.old source.file))))) }
+        → found ≡ is_ok (head_front_at version (take n (drop HEADER_SIZE (D.held disk.old source.file))))) }
     ensures stays { Stays D.held D.moment D.images disk.old disk.new }
     ensures cause { CountsFaults (D.faults disk.old) (D.faults disk.new) (IsErr result) }
 {
     disk.read(source.file, HEADER_SIZE, buffer)?;
-    Ok(is_head_front(buffer))
+    Ok(is_head_front(version, buffer))
 }
 
-// Whether these bytes are a Head's up to its lists.
+// Whether these bytes are a Head's of this version up to its lists.
 #[tactic(auto, unfolding(record_codec::specs::Version::version_at, record_codec::specs::StoreHeadReading::store_at))]
-fn is_head_front(bytes: &[u8]) -> bool
-    ensures { result ≡ is_ok (head_front_at bytes.now) }
+fn is_head_front(version: u8, bytes: &[u8]) -> bool
+    ensures { result ≡ is_ok (head_front_at version bytes.now) }
 {
-    let Ok((version, rest)) = read_u8(bytes) else {
+    let Ok((found, rest)) = read_u8(bytes) else {
         return false;
     };
-    if version != FORMAT_VERSION {
+    if found != FIRST_VERSION && found != SECOND_VERSION {
+        return false;
+    }
+    if found != version {
         return false;
     }
     let Ok((store, rest)) = read_u64(rest) else {

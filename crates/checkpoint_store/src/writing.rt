@@ -9,7 +9,7 @@ ghost use Rattle.flowfile_record.specs.Stored.{kept_of};
 ghost use Rattle.record_codec.specs.ActiveFile.{IsActiveFile};
 ghost use Rattle.record_codec.specs.Snapshot.{IsBatch};
 ghost use Rattle.record_codec.specs.StoreHead.{head, head_of};
-ghost use Rattle.checkpoint_store.specs.Consistent.{IsConsistent};
+ghost use Rattle.checkpoint_store.specs.Consistent.{IsConsistentIn};
 ghost use Rattle.checkpoint_store.specs.Output.{HasFreeRoom};
 ghost use Rattle.checkpoint_store.specs.Put.{IsPut, Within};
 ghost use Rattle.checkpoint_store.specs.Snapshot.{snapshot, snapshot_file, file_block, batch_block};
@@ -20,24 +20,25 @@ use disk_trait::{Disk, Failed, FileKind, FileName};
 use flowfile_record::{ActiveList, BatchList, Stored};
 use std::alloc::Global;
 
-/// Writes the snapshot of this number over what stands in its file, in pieces of about 1 MiB, and syncs the disk. What
-/// stands behind the snapshot's End doesn't matter. Memory is taken before the first call of the disk.
+/// Writes the snapshot of this number in a version over what stands in its file, in pieces of about 1 MiB, and syncs the
+/// disk. What stands behind the snapshot's End doesn't matter. Memory is taken before the first call of the disk.
 pub fn write<D: Disk>(
     alloc: Global,
     disk: &mut D,
     number: u64,
+    version: u8,
     state: &Stored,
 ) -> Result<(), CheckError>
-    requires { IsConsistent (kept_of state.now) }
+    requires { IsConsistentIn version (kept_of state.now) }
     // The file begins with the snapshot, and what stood behind it there and in other files is as it was.
     ensures written { OnOk result (IsTrue D.tells
-        → At (snapshot_file number) (Overwritten 0 (snapshot (kept_of state.now))) (D.held disk.old)
+        → At (snapshot_file number) (Overwritten 0 (snapshot version (kept_of state.now))) (D.held disk.old)
         (D.held disk.new)) }
     // Each image is that.
     ensures synced { OnOk result (IsOnly (D.held disk.new) (D.images disk.new (D.moment disk.new))) }
     // A stop within the call leaves all as it was but for the bytes that the snapshot has.
     ensures images { Within D.moment D.images (snapshot_file number) disk.old disk.new
-        (length (snapshot (kept_of state.now))) }
+        (length (snapshot version (kept_of state.now))) }
     ensures spared { IsErrOf result CheckError.Memory → disk.new ≡ disk.old }
     ensures kinds { (damage : TheDamage) → IsErrOf result (CheckError.Damaged damage) → ⊥ }
     ensures cause { CountsFaults (D.faults disk.old) (D.faults disk.new) (IsErrOf result CheckError.Disk) }
@@ -46,24 +47,31 @@ pub fn write<D: Disk>(
         kind: FileKind::Snapshot,
         number,
     };
-    let mut out = Output::new(alloc, file, state)?;
-    write_blocks(disk, state, &mut out)?;
+    let mut out = Output::new(alloc, file, version, state)?;
+    write_blocks(disk, version, state, &mut out)?;
     disk.sync()?;
     Ok(())
 }
 
 // Writes the blocks of a snapshot, of which none is put yet.
-fn write_blocks<D: Disk>(disk: &mut D, state: &Stored, out: &mut Output) -> Result<(), Failed>
-    requires state { IsConsistent (kept_of state.now) }
+fn write_blocks<D: Disk>(
+    disk: &mut D,
+    version: u8,
+    state: &Stored,
+    out: &mut Output,
+) -> Result<(), Failed>
+    requires state { IsConsistentIn version (kept_of state.now) }
     requires room { HasFreeRoom out.old }
-    requires head { length (head (head_of state.now)) ≤ out.old.longest }
+    requires head { length (head (head_of version state.now)) ≤ out.old.longest }
     requires empty { (out.old.offset ≡ 0) × (out.old.piece.items ≡ []) }
     ensures written { OnOk result (IsTrue D.tells
-        → At out.old.file (Overwritten 0 (snapshot (kept_of state.now))) (D.held disk.old) (D.held disk.new)) }
-    ensures images { Within D.moment D.images out.old.file disk.old disk.new (length (snapshot (kept_of state.now))) }
+        → At out.old.file (Overwritten 0 (snapshot version (kept_of state.now))) (D.held disk.old)
+        (D.held disk.new)) }
+    ensures images { Within D.moment D.images out.old.file disk.old disk.new
+        (length (snapshot version (kept_of state.now))) }
     ensures cause { CountsFaults (D.faults disk.old) (D.faults disk.new) (IsErr result) }
 {
-    out.put_head(state);
+    out.put_head(version, state);
     out.write_full(disk)?;
     write_files(disk, &state.files, out)?;
     write_batches(disk, &state.batches, out)?;

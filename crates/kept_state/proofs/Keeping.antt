@@ -19,7 +19,8 @@ use Rattle.record_codec.specs.declared.entry.SessionEntry.{SessionEntry}
 use Rattle.record_codec.specs.declared.entry.ExpireEntry.{ExpireEntry}
 use Rattle.record_codec.specs.declared.entry.LogEntry.TheVariants.{Session, Expire}
 use Rattle.flowfile_record.proofs.Sizes.{numbers_size}
-use Rattle.record_codec.proofs.Sizes.{head_size}
+use Rattle.record_codec.specs.declared.TheConstants.{FORMAT_VERSION}
+use Rattle.record_codec.proofs.StoreHeads.{head_size}
 use Rattle.checkpoint_store.specs.Consistent.{AreDistinctBy, HasCounters, IsFileIn, IsBatchIn, IsConsistent, record_size}
 use Rattle.checkpoint_store.specs.Snapshot.{head_in}
 use Rattle.kept_state.specs.Applied.{active_number, is_file_among, left_after, with_files, session_applied, applied}
@@ -243,6 +244,7 @@ session_keeps k s was none is fit =
     let test : ActiveFile → Bool = λ a. not (is_file_among s.gone a) in
     record {
       encoded = record {
+        version = was.encoded.version;
         store = was.encoded.store;
         flow = was.encoded.flow;
         connections = was.encoded.connections;
@@ -254,19 +256,21 @@ session_keeps k s was none is fit =
         next_number = is.next_number;
         next_arrival = is.next_arrival;
         last_event = is.last_event;
-        line = was.encoded.line;
+        line = (was.encoded.line.0, omega (arith, (was.encoded.first refl).1));
         next_batch = was.encoded.next_batch;
+        first = was.encoded.first;
       };
       head_size =
           omega (
             arith,
             was.head_size,
-            head_size (head_in k) was.encoded.flow,
-            head_size (head_in (session_applied k s)) was.encoded.flow,
+            head_size (head_in FORMAT_VERSION k) was.encoded.flow,
+            head_size (head_in FORMAT_VERSION (session_applied k s)) was.encoded.flow,
             numbers_size k.counts,
             numbers_size (with_count s.generator k.counts),
             length-with_count s.generator k.counts,
           );
+      counts = λ second. length-with_count s.generator k.counts ∙ was.counts second;
       connections = was.connections;
       counters = counters_go_on k s was.counters suits.counters;
       files = All-with_files (IsFileIn (session_applied k s)) s.placed left
@@ -290,6 +294,7 @@ expire_keeps k e was is =
     let test : ActiveFile → Bool = λ a. not (is_file_among e.numbers a) in
     record {
       encoded = record {
+        version = was.encoded.version;
         store = was.encoded.store;
         flow = was.encoded.flow;
         connections = was.encoded.connections;
@@ -298,10 +303,12 @@ expire_keeps k e was is =
         next_number = was.encoded.next_number;
         next_arrival = was.encoded.next_arrival;
         last_event = is.last_event;
-        line = was.encoded.line;
+        line = (was.encoded.line.0, omega (arith, (was.encoded.first refl).1));
         next_batch = was.encoded.next_batch;
+        first = was.encoded.first;
       };
-      head_size = omega (arith, was.head_size, head_size (head_in k) was.encoded.flow, head_size (head_in (applied no_files k (Expire e))) was.encoded.flow);
+      head_size = omega (arith, was.head_size, head_size (head_in FORMAT_VERSION k) was.encoded.flow, head_size (head_in FORMAT_VERSION (applied no_files k (Expire e))) was.encoded.flow);
+      counts = was.counts;
       connections = was.connections;
       counters = record { next_number = was.counters.next_number; next_arrival = was.counters.next_arrival; next_batch = was.counters.next_batch };
       files = All-filter test (IsFileIn (applied no_files k (Expire e))) k.files (All-weaker (IsFileIn k) (IsFileIn (applied no_files k (Expire e))) (expired_in_order k e) k.files was.files);

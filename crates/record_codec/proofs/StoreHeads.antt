@@ -274,3 +274,46 @@ pub at_counts : (bytes rest after : List ℕ) (front : Connected) (processors : 
 at_counts bytes rest after front processors read ids first =
     ap (λ (r : Result (Connected × List ℕ) ℕ). is_ok (r >>= λ x. processors_at x.0.0 x.1 >>= λ y. first_at number_at y.1)) read
     ∙ ap (λ (r : Result (List (List ℕ) × List ℕ) ℕ). is_ok (r >>= λ y. first_at number_at y.1)) ids ∙ first
+
+-- ---- what stands before the lists of a head that is read
+
+step_on : {A B : Type 0} (r : Result A ℕ) (f : A → Result B ℕ) (y : B) (Goal : Type 0) → (r >>= f) ≡ Ok y → ((a : A) → r ≡ Ok a → f a ≡ Ok y → Goal) → Goal
+step_on (Ok a) f y Goal e follows = follows a refl e
+step_on (Err left) f y Goal e follows = absurd cc
+
+pub record HasFront (bytes : List ℕ) (version : ℕ) : Type 0 where
+  pub rest : List ℕ
+  pub version_read : version_at bytes ≡ Ok (version, rest)
+  pub store : ℕ × List ℕ
+  pub store_read : store_at rest ≡ Ok store
+  pub flow : List ℕ × List ℕ
+  pub flow_read : raw_at DIGEST_SIZE store.1 ≡ Ok flow
+
+pub front_of_head : (bytes : List ℕ) (x : Head × List ℕ) → head_at bytes ≡ Ok x → HasFront bytes x.0.version
+unfolding head_at
+front_of_head bytes x e =
+    step_on (version_at bytes) _ x Goal e (λ version ve e.
+    step_on (store_at version.1) _ x Goal e (λ store se e.
+    step_on (raw_at DIGEST_SIZE store.1) _ x Goal e (λ flow fe e.
+    step_on (texts_at flow.1) _ x Goal e (λ connections ce e.
+    step_on (processors_at version.0 connections.1) _ x Goal e (λ processors pe e.
+    step_on (numbers_at processors.1) _ x Goal e (λ counts ne e.
+    step_on (number_at counts.1) _ x Goal e (λ next_number ae e.
+    step_on (number_at next_number.1) _ x Goal e (λ next_arrival be e.
+    step_on (number_at next_arrival.1) _ x Goal e (λ last_event le e.
+    step_on (line_at version.0 last_event.0 last_event.1) _ x Goal e (λ line me e.
+    step_on (number_at line.1) _ x Goal e (λ next_batch oe e.
+      let same : version.0 ≡ x.0.version = ap (λ (y : Head × List ℕ). y.0.version) (ok_is _ x e) in
+      record {
+        rest = version.1;
+        version_read = ve ∙ ap (λ (v : ℕ). ok_with v version.1) same;
+        store = store;
+        store_read = se;
+        flow = flow;
+        flow_read = fe;
+      })))))))))))
+  where
+    Goal : Type 0
+    Goal = HasFront bytes x.0.version
+    ok_with : ℕ → List ℕ → Result (ℕ × List ℕ) ℕ
+    ok_with v rest = Ok (v, rest)

@@ -102,7 +102,7 @@ pub fn write_entry(out: &mut Vec<u8>, entry: &LogEntry) -> Result<(), AllocError
     Ok(())
 }
 
-/// The entry of a kind that the bytes encode, all of them. A kind that no entry has (1 to 5 and 7 are) is `Form` at 0.
+/// The entry of this kind that the bytes encode, all of them. A kind other than 1 to 5 and 7 is `Form` at 0.
 pub fn read_entry(alloc: Global, kind: u8, bytes: &[u8]) -> Result<LogEntry, CodecError>
     // What is read is encoded so.
     ensures found { IfOk result (λ entry. IsEntryOf kind entry × (bytes.now ≡ encoding entry)) }

@@ -76,7 +76,7 @@ fn begun_and_appended<D: Disk>(
         return Err("load");
     };
     let (mut log, _entries) = loaded;
-    let Ok(()) = begin(disk, 1) else {
+    let Ok(()) = begin(disk, 1, FORMAT_VERSION) else {
         return Err("begin");
     };
     logs_that_were_begun();

@@ -13,6 +13,7 @@ use Rattle.disk_trait.specs.declared.damage.Damage.TheVariants.{Form}
 use Rattle.disk_trait.specs.declared.file_name.FileName.{FileName}
 use Rattle.flowfile_record.specs.Stored.{Kept}
 use Rattle.flowfile_record.specs.declared.stored.SwapBatch.{SwapBatch}
+use Rattle.record_codec.specs.declared.TheConstants.{FORMAT_VERSION}
 use Rattle.checkpoint_store.specs.Reading.{snapshot_of}
 use Rattle.flowfile_wal.specs.Current.{CurrentLog, current_log}
 use Rattle.flowfile_wal.specs.Steps.{LogState, numbered_log, log_with}
@@ -93,15 +94,15 @@ not_by_test : (agrees : Bool) (file : FileName) (k : Kept) → agrees ≡ false 
 not_by_test true file k is = absurd cc
 not_by_test false file k is = refl
 
-pub agreed_snapshot : (flow : Flow) (file : FileName) (bytes : List ℕ) (k : Kept) → snapshot_of file bytes ≡ Ok k → agrees_with flow k ≡ true → snapshot_for flow file bytes ≡ Ok k
+pub agreed_snapshot : (flow : Flow) (file : FileName) (bytes : List ℕ) (k : Kept) → snapshot_of FORMAT_VERSION file bytes ≡ Ok k → agrees_with flow k ≡ true → snapshot_for flow file bytes ≡ Ok k
 unfolding snapshot_for
 agreed_snapshot flow file bytes k is agrees = ap (of_flow flow file) is ∙ by_test (agrees_with flow k) file k agrees
 
-pub other_snapshot : (flow : Flow) (file : FileName) (bytes : List ℕ) (k : Kept) → snapshot_of file bytes ≡ Ok k → agrees_with flow k ≡ false → snapshot_for flow file bytes ≡ Err (Form file 0)
+pub other_snapshot : (flow : Flow) (file : FileName) (bytes : List ℕ) (k : Kept) → snapshot_of FORMAT_VERSION file bytes ≡ Ok k → agrees_with flow k ≡ false → snapshot_for flow file bytes ≡ Err (Form file 0)
 unfolding snapshot_for
 other_snapshot flow file bytes k is other = ap (of_flow flow file) is ∙ not_by_test (agrees_with flow k) file k other
 
-pub damaged_snapshot : (flow : Flow) (file : FileName) (bytes : List ℕ) (damage : Damage) → snapshot_of file bytes ≡ Err damage → snapshot_for flow file bytes ≡ Err damage
+pub damaged_snapshot : (flow : Flow) (file : FileName) (bytes : List ℕ) (damage : Damage) → snapshot_of FORMAT_VERSION file bytes ≡ Err damage → snapshot_for flow file bytes ≡ Err damage
 unfolding snapshot_for
 damaged_snapshot flow file bytes damage is = ap (of_flow flow file) is
 

@@ -10,6 +10,7 @@ use Rattle.disk_trait.specs.declared.damage.Damage.TheVariants.{Form}
 use Rattle.flowfile_record.specs.Stored.{Kept}
 use Rattle.flowfile_record.specs.declared.stored.SwapBatch.{SwapBatch}
 use Rattle.flowfile_record.specs.declared.content.ContentRef.{ContentRef}
+use Rattle.record_codec.specs.declared.TheConstants.{FORMAT_VERSION}
 use Rattle.checkpoint_store.specs.Consistent.{IsConsistent}
 use Rattle.checkpoint_store.specs.Reading.{snapshot_of}
 use Rattle.checkpoint_store.specs.Snapshot.{snapshot_file}
@@ -19,7 +20,6 @@ use Rattle.flowfile_wal.specs.Current.{CurrentLog}
 use Rattle.flowfile_wal.specs.Steps.{IsClosedIn}
 use Rattle.flowfile_wal.proofs.Beginnings.{begun_in}
 use Rattle.flowfile_wal.proofs.States.{begun_ready}
-use Rattle.record_codec.specs.declared.TheConstants.{FORMAT_VERSION}
 use Rattle.store_core.specs.Agreement.{IsUnmade}
 use Rattle.store_core.specs.Flow.{Flow, agrees_with}
 use Rattle.store_core.specs.Kept.{kept_in, snapshot_for, of_flow, least_of, unless_swapped, with_entries, behind_snapshot}
@@ -46,8 +46,8 @@ pub made_kept : (flow : Flow) (lot : ℕ) (k : Kept) (files : Files) → IsNewSt
 unfolding snapshot_for
 made_kept flow lot k files made consistent none agrees =
     kept_by_log flow lot files first_log (made_current k files made).current
-    ∙ ap (λ (bytes : List ℕ). behind_snapshot files first_log (of_flow flow (snapshot_file 1) (snapshot_of (snapshot_file 1) bytes))) made.snapshot.1
-    ∙ ap (λ (read : Result Kept Damage). behind_snapshot files first_log (of_flow flow (snapshot_file 1) read)) (read_back (snapshot_file 1) k made.snapshot.0 consistent)
+    ∙ ap (λ (bytes : List ℕ). behind_snapshot files first_log (of_flow flow (snapshot_file 1) (snapshot_of FORMAT_VERSION (snapshot_file 1) bytes))) made.snapshot.1
+    ∙ ap (λ (read : Result Kept Damage). behind_snapshot files first_log (of_flow flow (snapshot_file 1) read)) (read_back FORMAT_VERSION (snapshot_file 1) k made.snapshot.0 consistent)
     ∙ ap (behind_snapshot files first_log) (of_agreed flow k true agrees refl)
     ∙ ap (λ (batches : List SwapBatch). with_entries first_log k (unless_swapped (least_of (map (λ b. b.batch) batches ++ [])))) none
 

@@ -12,7 +12,8 @@ use Rattle.flowfile_record.specs.Stored.{Kept}
 use Rattle.flowfile_record.specs.declared.stored.SwapBatch.{SwapBatch}
 use Rattle.record_codec.specs.declared.TheConstants.{FORMAT_VERSION}
 use Rattle.record_codec.specs.declared.log.TheConstants.{OPEN_GATE}
-use Rattle.checkpoint_store.specs.Begun.{IsBegunOrNot, IsPassedOverLog, MayBegin, log_file}
+use Rattle.record_codec.specs.Frames.{IsPassedOver}
+use Rattle.checkpoint_store.specs.Begun.{IsBegunOrNot, MayBegin, log_file}
 use Rattle.checkpoint_store.specs.Consistent.{IsConsistent}
 use Rattle.checkpoint_store.specs.Reading.{snapshot_of}
 use Rattle.checkpoint_store.specs.Snapshot.{snapshot, snapshot_file}
@@ -57,7 +58,7 @@ by_gate false q is = inl refl
 not_below : (m n : ℕ) → ltb m n ≡ false → n ≤ m
 not_below m n is = grind arith
 
-over_passed : (bytes : List ℕ) → counts bytes ≡ false → IsPassedOverLog bytes
+over_passed : (bytes : List ℕ) → counts bytes ≡ false → IsPassedOver bytes
 over_passed bytes is = ⊎_elim
     (λ (shut : (slice_index bytes 0 == OPEN_GATE) ≡ false).
     let closed : slice_index bytes 0 ≢ OPEN_GATE = λ (opens : slice_index bytes 0 ≡ OPEN_GATE). false≢true (sym shut ∙ eq-eqb (slice_index bytes 0) OPEN_GATE opens) in
@@ -129,7 +130,7 @@ taken_kept lot number k files is taken consistent none =
     let file = snapshot_file number in
     kept_by_log flow lot files (next_log number) (taken_current number k files is taken).current
     ∙ ap (behind_snapshot files (next_log number))
-    (agreed_snapshot flow file (files file) k (ap (snapshot_of file) taken.snapshot.1 ∙ read_back file k taken.snapshot.0 consistent) (of_its_flow k))
+    (agreed_snapshot flow file (files file) k (ap (snapshot_of FORMAT_VERSION file) taken.snapshot.1 ∙ read_back FORMAT_VERSION file k taken.snapshot.0 consistent) (of_its_flow k))
     ∙ ap (λ (batches : List SwapBatch). with_entries (next_log number) k (unless_swapped (least_of (map (λ b. b.batch) batches ++ [])))) none
 
 -- a log of another number and its snapshot go
@@ -137,7 +138,7 @@ pub taken_dropped : (number next : ℕ) (k : Kept) (old new : Files) → number 
 taken_dropped number next k old new up taken step = record {
   log = record {
     begun = step.others (log_file next) (log_of_other next number (λ (same : next ≡ number). omega (arith, same, up))) ∙ taken.log.begun;
-    greater = λ n above. subst IsPassedOverLog (sym (step.others (log_file n) (log_of_other n number (λ (same : n ≡ number). omega (arith, same, up, above))))) (taken.log.greater n above);
+    greater = λ n above. subst IsPassedOver (sym (step.others (log_file n) (log_of_other n number (λ (same : n ≡ number). omega (arith, same, up, above))))) (taken.log.greater n above);
   };
   snapshot = (taken.snapshot.0, step.others (snapshot_file next) (snapshot_of_other next number (λ (same : next ≡ number). omega (arith, same, up))) ∙ taken.snapshot.1);
 }
@@ -153,28 +154,28 @@ pub record Prepares (number : ℕ) (old new : Files) : Type 0 where
 pub record IsStaged (number : ℕ) (k : Kept) (files : Files) : Type 0 where
   pub begin : MayBegin number files
   pub rest : List ℕ
-  pub snapshot : files (snapshot_file number) ≡ snapshot k ++ rest
+  pub snapshot : files (snapshot_file number) ≡ snapshot FORMAT_VERSION k ++ rest
 
 module _ (number : ℕ) (old new : Files) where
   -- the snapshot is written
   pub prepares_snapshot : (P : List ℕ → List ℕ → Type 0) → ArePassedOver number old → At (snapshot_file number) P old new → Prepares number old new
   prepares_snapshot P passed step = record {
     others = λ f other. step.others f (λ (same : f ≡ snapshot_file number). other (inr same));
-    passed = λ n le. subst IsPassedOverLog (sym (step.others (log_file n) (log_no_snapshot n number))) (passed n le);
+    passed = λ n le. subst IsPassedOver (sym (step.others (log_file n) (log_no_snapshot n number))) (passed n le);
   }
 
   -- the log is emptied
-  pub prepares_emptied : ArePassedOver number old → At (log_file number) (λ before now. IsPassedOverLog before → IsPassedOverLog now) old new → Prepares number old new
+  pub prepares_emptied : ArePassedOver number old → At (log_file number) (λ before now. IsPassedOver before → IsPassedOver now) old new → Prepares number old new
   prepares_emptied passed step = record {
     others = λ f other. step.others f (λ (same : f ≡ log_file number). other (inl same));
     passed = λ n le. ⊎_elim
-        (λ (same : n ≡ number). subst (λ (m : ℕ). IsPassedOverLog (new (log_file m))) (sym same) (step.here (passed number (omega arith))))
-        (λ (isnt : n ≡ number → ⊥). subst IsPassedOverLog (sym (step.others (log_file n) (λ (same : log_file n ≡ log_file number). isnt (ap (λ (f : FileName). f.number) same)))) (passed n le))
+        (λ (same : n ≡ number). subst (λ (m : ℕ). IsPassedOver (new (log_file m))) (sym same) (step.here (passed number (omega arith))))
+        (λ (isnt : n ≡ number → ⊥). subst IsPassedOver (sym (step.others (log_file n) (λ (same : log_file n ≡ log_file number). isnt (ap (λ (f : FileName). f.number) same)))) (passed n le))
         (cases_eq n number);
   }
 
   -- the log is begun, and may have been opened
-  pub takes_begun : (k : Kept) → ArePassedOver number old → IsStaged number k old → At (log_file number) (λ before now. IsBegunOrNot number now) old new → TakesOver number k old new
+  pub takes_begun : (k : Kept) → ArePassedOver number old → IsStaged number k old → At (log_file number) (λ before now. IsBegunOrNot FORMAT_VERSION number now) old new → TakesOver number k old new
   takes_begun k passed staged step = record {
     others = λ f other. step.others f (λ (same : f ≡ log_file number). other (inl same));
     log = by_here step.here;
@@ -183,15 +184,15 @@ module _ (number : ℕ) (old new : Files) where
       other_log : (n : ℕ) → (n ≡ number → ⊥) → new (log_file n) ≡ old (log_file n)
       other_log n isnt = step.others (log_file n) (λ (same : log_file n ≡ log_file number). isnt (ap (λ (f : FileName). f.number) same))
 
-      by_here : IsBegunOrNot number (new (log_file number)) → ArePassedOver number new ⊎ HasTakenOver number k new
+      by_here : IsBegunOrNot FORMAT_VERSION number (new (log_file number)) → ArePassedOver number new ⊎ HasTakenOver number k new
       by_here (inl over) = inl (λ n le. ⊎_elim
-          (λ (same : n ≡ number). subst (λ (m : ℕ). IsPassedOverLog (new (log_file m))) (sym same) over)
-          (λ (isnt : n ≡ number → ⊥). subst IsPassedOverLog (sym (other_log n isnt)) (passed n le))
+          (λ (same : n ≡ number). subst (λ (m : ℕ). IsPassedOver (new (log_file m))) (sym same) over)
+          (λ (isnt : n ≡ number → ⊥). subst IsPassedOver (sym (other_log n isnt)) (passed n le))
           (cases_eq n number))
       by_here (inr begun) = inr (record {
         log = record {
           begun = begun;
-          greater = λ n above. subst IsPassedOverLog (sym (other_log n (λ (same : n ≡ number). omega (arith, same, above)))) (staged.begin.greater n above);
+          greater = λ n above. subst IsPassedOver (sym (other_log n (λ (same : n ≡ number). omega (arith, same, above)))) (staged.begin.greater n above);
         };
         snapshot = (staged.rest, step.others (snapshot_file number) (snapshot_no_log number number) ∙ staged.snapshot);
       })

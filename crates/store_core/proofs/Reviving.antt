@@ -13,7 +13,9 @@ use Rattle.disk_trait.proofs.Search.{greatest_found, greatest_is, greatest_none}
 use Rattle.flowfile_record.specs.Stored.{Kept}
 use Rattle.flowfile_record.specs.declared.content.ContentRef.{ContentRef}
 use Rattle.record_codec.specs.declared.log.TheConstants.{OPEN_GATE}
-use Rattle.checkpoint_store.specs.Begun.{IsPassedOverLog, begun_log, log_file}
+use Rattle.record_codec.specs.Frames.{IsPassedOver, begun_log}
+use Rattle.record_codec.specs.declared.TheConstants.{FORMAT_VERSION}
+use Rattle.checkpoint_store.specs.Begun.{log_file}
 use Rattle.checkpoint_store.specs.Snapshot.{snapshot, snapshot_file}
 use Rattle.content_repo.specs.Claims.{claim}
 use Rattle.content_repo.specs.Slots.{end_of}
@@ -134,7 +136,7 @@ module _ {D : Type 0} (moment : D → ℕ) (images : D → ℕ → Files → Typ
 
 -- ---- a store that is made
 
-pub passed_over : (bytes : List ℕ) → IsPassedOverLog bytes → counts bytes ≡ false
+pub passed_over : (bytes : List ℕ) → IsPassedOver bytes → counts bytes ≡ false
 passed_over bytes (inl short) = passed_short bytes short
 passed_over bytes (inr shut) = by_gate (get_or bytes 0 0 == OPEN_GATE) (nat_lt 1 (length bytes)) (λ (is : (get_or bytes 0 0 == OPEN_GATE) ≡ true). shut (eqb-true (get_or bytes 0 0) OPEN_GATE is))
   where
@@ -178,7 +180,7 @@ unmade_snapshot old new P was step = record {
     other f isnt = step.others f isnt
 
 -- a step on the first log, whose first gate isn't opened
-pub unmade_log : (old new : Files) → IsUnmade old → At (log_file 1) (λ before now. IsPassedOverLog now) old new → IsUnmade new
+pub unmade_log : (old new : Files) → IsUnmade old → At (log_file 1) (λ before now. IsPassedOver now) old new → IsUnmade new
 unmade_log old new was step = record {
   log = none_current new (λ m lt. each m lt);
   logs = λ n up lt. step.others (named Log n) (λ (same : named Log n ≡ log_file 1). omega (arith, ap (λ (f : FileName). f.number) same, up)) ∙ was.logs n up lt;
@@ -195,12 +197,12 @@ unmade_log old new was step = record {
         (cases_eq m 1)
 
 -- the first gate is opened
-pub made_log : (k : Kept) (old new : Files) → IsUnmade old → ((n : ℕ) → 1 < n → IsPassedOverLog (old (log_file n))) → ((rest : List ℕ) × (old (snapshot_file 1) ≡ snapshot k ++ rest))
-    → At (log_file 1) (λ before now. now ≡ begun_log 1) old new → IsNewStore k new
+pub made_log : (k : Kept) (old new : Files) → IsUnmade old → ((n : ℕ) → 1 < n → IsPassedOver (old (log_file n))) → ((rest : List ℕ) × (old (snapshot_file 1) ≡ snapshot FORMAT_VERSION k ++ rest))
+    → At (log_file 1) (λ before now. now ≡ begun_log FORMAT_VERSION 1) old new → IsNewStore k new
 made_log k old new was greater snapshot step = record {
   log = record {
     begun = step.here;
-    greater = λ n up. subst (λ (bytes : List ℕ). IsPassedOverLog bytes) (sym (step.others (log_file n) (λ (same : log_file n ≡ log_file 1). omega (arith, ap (λ (f : FileName). f.number) same, up)))) (greater n up);
+    greater = λ n up. subst (λ (bytes : List ℕ). IsPassedOver bytes) (sym (step.others (log_file n) (λ (same : log_file n ≡ log_file 1). omega (arith, ap (λ (f : FileName). f.number) same, up)))) (greater n up);
   };
   snapshot = (snapshot.0, step.others (snapshot_file 1) (λ (same : snapshot_file 1 ≡ log_file 1). let kinds : Snapshot ≡ Log = ap (λ (f : FileName). f.kind) same in absurd cc) ∙ snapshot.1);
   claims = λ n lt. step.others (named Claim n) (λ (same : named Claim n ≡ log_file 1). let kinds : Claim ≡ Log = ap (λ (f : FileName). f.kind) same in absurd cc) ∙ was.claims n lt;

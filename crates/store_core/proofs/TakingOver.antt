@@ -6,15 +6,17 @@ use Rattle.disk_trait.specs.Images.{After, Since, IsOnly}
 use Rattle.disk_trait.specs.declared.file_name.FileName.{FileName}
 use Rattle.disk_trait.proofs.Moments.{wider, one_after_another, step_after_step, at_the_end}
 use Rattle.flowfile_record.specs.Stored.{Kept}
+use Rattle.record_codec.specs.Frames.{IsPassedOver}
+use Rattle.record_codec.specs.declared.TheConstants.{FORMAT_VERSION}
 use Rattle.flowfile_wal.specs.Calls.{InEach}
-use Rattle.checkpoint_store.specs.Begun.{IsBegun, IsBegunOrNot, IsPassedOverLog, log_file}
+use Rattle.checkpoint_store.specs.Begun.{IsBegun, IsBegunOrNot, log_file}
 use Rattle.checkpoint_store.specs.Snapshot.{snapshot, snapshot_file}
 use Rattle.store_core.specs.Checkpoint.{ArePassedOver, HasTakenOver, TakesOver, Drops, AreGone}
 use Rattle.store_core.proofs.Cutting.{each_file, shortened_same, shortened_in_turn}
 use Rattle.store_core.proofs.NextLog.{Prepares, IsStaged, snapshot_no_log, prepares_snapshot, prepares_emptied, prepares_in_turn, takes_prepared, takes_begun, takes_in_turn}
 
 abbrev pub StaysPassed : List ℕ → List ℕ → Type 0
-StaysPassed old new = IsPassedOverLog old → IsPassedOverLog new
+StaysPassed old new = IsPassedOver old → IsPassedOver new
 
 module _ {D : Type 0} (moment : D → ℕ) (images : D → ℕ → Files → Type 0) (number : ℕ) where
   abbrev pub Preparing : D → Files → Type 0
@@ -24,7 +26,7 @@ module _ {D : Type 0} (moment : D → ℕ) (images : D → ℕ → Files → Typ
   Staying disk = After (At (log_file number) StaysPassed) (images disk (moment disk))
 
   abbrev pub Beginning : D → Files → Type 0
-  Beginning disk = After (At (log_file number) (λ old new. IsBegunOrNot number new)) (images disk (moment disk))
+  Beginning disk = After (At (log_file number) (λ old new. IsBegunOrNot FORMAT_VERSION number new)) (images disk (moment disk))
 
   pub since_written : (P : List ℕ → List ℕ → Type 0) (old new : D) → InEach (images old (moment old)) (ArePassedOver number)
       → Since moment images old new (After (At (snapshot_file number) P) (images old (moment old))) → Since moment images old new (Preparing old)
@@ -56,13 +58,13 @@ module _ {D : Type 0} (moment : D → ℕ) (images : D → ℕ → Files → Typ
         (before.0, before.1, takes_in_turn number k before.0 after.0 c before.2 (takes_begun number after.0 c k before.2.passed (stage after.0 after.1) after.2)))
 
     pub taken_at_the_end : (mid new : D) → InEach (images mid (moment mid)) (IsStaged number k) → Since moment images mid new (Beginning mid)
-        → ((c : Files) → images new (moment new) c → IsBegun number c) → InEach (images new (moment new)) (HasTakenOver number k)
+        → ((c : Files) → images new (moment new) c → IsBegun FORMAT_VERSION number c) → InEach (images new (moment new)) (HasTakenOver number k)
     taken_at_the_end mid new stage second begun c left =
         let after = at_the_end moment images mid new (Beginning mid) second c left in
         let staged = stage after.0 after.1 in
         record { log = begun c left; snapshot = (staged.rest, after.2.others (snapshot_file number) (snapshot_no_log number number) ∙ staged.snapshot) }
 
-    module _ (tells : Bool) (held : D → Files) (old one mid : D) (written : IsTrue tells → At (snapshot_file number) (Overwritten 0 (snapshot k)) (held old) (held one))
+    module _ (tells : Bool) (held : D → Files) (old one mid : D) (written : IsTrue tells → At (snapshot_file number) (Overwritten 0 (snapshot FORMAT_VERSION k)) (held old) (held one))
         (emptied : IsTrue tells → At (log_file number) (λ before now. now ≡ []) (held one) (held mid)) (only : IsOnly (held mid) (images mid (moment mid))) where
       -- what is held is what is left
       pub each_staged : ((c : Files) → images mid (moment mid) c → IsTrue tells) → Since moment images old mid (Preparing old) → InEach (images mid (moment mid)) (IsStaged number k)

@@ -3,7 +3,9 @@ use Rattle.std.specs.Prelude.{◌≡◌, ◌⊎◌, ℕ, ◌+◌, ◌≤◌, Lis
 use Rattle.disk_trait.specs.Files.{Files, Shortened}
 use Rattle.disk_trait.specs.declared.file_name.FileName.{FileName}
 use Rattle.flowfile_record.specs.Stored.{Kept}
-use Rattle.checkpoint_store.specs.Begun.{IsBegun, IsPassedOverLog, log_file}
+use Rattle.record_codec.specs.Frames.{IsPassedOver}
+use Rattle.record_codec.specs.declared.TheConstants.{FORMAT_VERSION}
+use Rattle.checkpoint_store.specs.Begun.{IsBegun, log_file}
 use Rattle.checkpoint_store.specs.Snapshot.{snapshot, snapshot_file}
 use Rattle.store_core.specs.Touched.{TouchesOnly, OnlyShortens}
 
@@ -13,12 +15,12 @@ IsOfNumber number f = (f ≡ log_file number) ⊎ (f ≡ snapshot_file number)
 
 -- each log from this number on is passed over
 abbrev pub ArePassedOver : ℕ → Files → Type 0
-ArePassedOver number files = (n : ℕ) → number ≤ n → IsPassedOverLog (files (log_file n))
+ArePassedOver number files = (n : ℕ) → number ≤ n → IsPassedOver (files (log_file n))
 
 -- the log of this number is current and has its Begin alone, and its snapshot says this
 pub record HasTakenOver (number : ℕ) (k : Kept) (files : Files) : Type 0 where
-  pub log : IsBegun number files
-  pub snapshot : (rest : List ℕ) × (files (snapshot_file number) ≡ snapshot k ++ rest)
+  pub log : IsBegun FORMAT_VERSION number files
+  pub snapshot : (rest : List ℕ) × (files (snapshot_file number) ≡ snapshot FORMAT_VERSION k ++ rest)
 
 -- The snapshot of this number is written and its log is begun, which is passed over until it takes over.
 pub record TakesOver (number : ℕ) (k : Kept) (old new : Files) : Type 0 where

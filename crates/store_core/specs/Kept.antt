@@ -8,6 +8,7 @@ use Rattle.disk_trait.specs.declared.file_name.FileName.{FileName}
 use Rattle.flowfile_record.specs.Stored.{Kept}
 use Rattle.flowfile_record.specs.declared.flow_file.FlowFile.{FlowFile}
 use Rattle.record_codec.specs.declared.block.TheConstants.{HEADER_SIZE}
+use Rattle.record_codec.specs.declared.TheConstants.{FORMAT_VERSION}
 use Rattle.checkpoint_store.specs.Reading.{snapshot_of}
 use Rattle.checkpoint_store.specs.Snapshot.{snapshot_file}
 use Rattle.flowfile_wal.specs.Current.{CurrentLog, current_log}
@@ -26,7 +27,7 @@ of_flow flow file (Err damage) = Err damage
 
 -- what the bytes of a snapshot say to who has this flow
 unfoldable pub snapshot_for : Flow → FileName → List ℕ → Result Kept Damage
-snapshot_for flow file bytes = of_flow flow file (snapshot_of file bytes)
+snapshot_for flow file bytes = of_flow flow file (snapshot_of FORMAT_VERSION file bytes)
 
 -- ---- the batches that matter
 

@@ -1,6 +1,7 @@
 -- What opening a store finds and leaves.
 use Rattle.std.specs.Prelude.{◌≡◌, ◌≢◌, ◌⊎◌, ℕ, ◌^◌, ◌<◌, Bool, false, IsTrue, List, [], ◌++◌, length, Ok, Err, None, Some}
 use Rattle.disk_trait.specs.declared.file_name.FileKind.TheVariants.{Claim}
+use Rattle.record_codec.specs.declared.TheConstants.{FORMAT_VERSION}
 use Rattle.checkpoint_store.specs.Begun.{IsBegun}
 use Rattle.checkpoint_store.specs.Consistent.{IsConsistent}
 use Rattle.checkpoint_store.specs.Snapshot.{snapshot, snapshot_file}
@@ -111,7 +112,7 @@ pub record IsRevived (lot : ℕ) (found : Found) (s : StoreState) : Type 0 where
 
 -- A store that was just made: its log has its Begin alone, its snapshot says this, and there is nothing else.
 pub record IsNewStore (k : Kept) (files : Files) : Type 0 where
-  pub log : IsBegun 1 files
-  pub snapshot : (rest : List ℕ) × (files (snapshot_file 1) ≡ snapshot k ++ rest)
+  pub log : IsBegun FORMAT_VERSION 1 files
+  pub snapshot : (rest : List ℕ) × (files (snapshot_file 1) ≡ snapshot FORMAT_VERSION k ++ rest)
   pub claims : (n : ℕ) → n < 2 ^ 64 → files (named Claim n) ≡ []
   pub events : (n : ℕ) → n < 2 ^ 64 → files (events_file n) ≡ []

@@ -8,7 +8,8 @@ ghost use Rattle.disk_trait.specs.Faults.{CountsFaults};
 ghost use Rattle.disk_trait.specs.Images.{After, Since, IsOnly};
 ghost use Rattle.flowfile_record.specs.Encoding.{IsNumber};
 ghost use Rattle.flowfile_record.specs.Stored.{kept_of};
-ghost use Rattle.checkpoint_store.specs.Begun.{IsPassedOverLog, log_file};
+ghost use Rattle.record_codec.specs.Frames.{IsPassedOver};
+ghost use Rattle.checkpoint_store.specs.Begun.{log_file};
 ghost use Rattle.checkpoint_store.specs.Consistent.{IsConsistent};
 ghost use Rattle.flowfile_wal.specs.Calls.{InEach};
 ghost use Rattle.store_core.specs.Calls.{IsDiskOrMemory, KeepsMeaning, StopsOrLacksMemory};
@@ -20,6 +21,7 @@ use crate::discard::cut_file;
 use crate::{Store, StoreError};
 use disk_trait::{Disk, Failed, FileKind, FileName, cut_synced};
 use flowfile_record::Stored;
+use record_codec::FORMAT_VERSION;
 use std::alloc::Global;
 
 impl Store {
@@ -78,9 +80,9 @@ fn take_over<D: Disk>(
     ensures refusal { IfErr result IsDiskOrMemory }
     ensures cause { CountsFaults (D.faults disk.old) (D.faults disk.new) (IsErrOf result StoreError.Disk) }
 {
-    checkpoint_store::write(alloc, disk, number, stored)?;
+    checkpoint_store::write(alloc, disk, number, FORMAT_VERSION, stored)?;
     empty_log(disk, number)?;
-    checkpoint_store::begin(disk, number)?;
+    checkpoint_store::begin(disk, number, FORMAT_VERSION)?;
     Ok(())
 }
 
@@ -92,7 +94,7 @@ fn empty_log<D: Disk>(disk: &mut D, number: u64) -> Result<(), Failed>
         → At (log_file number) (λ old new. new ≡ []) (D.held disk.old) (D.held disk.new)) }
     ensures synced { OnOk result (IsOnly (D.held disk.new) (D.images disk.new (D.moment disk.new))) }
     ensures images { Since D.moment D.images disk.old disk.new
-        (After (At (log_file number) (λ old new. IsPassedOverLog old → IsPassedOverLog new))
+        (After (At (log_file number) (λ old new. IsPassedOver old → IsPassedOver new))
         (D.images disk.old (D.moment disk.old))) }
     ensures cause { CountsFaults (D.faults disk.old) (D.faults disk.new) (IsErr result) }
 {

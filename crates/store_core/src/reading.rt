@@ -25,12 +25,13 @@ ghost use Rattle.store_core.specs.Refusing.{RefusesBy};
 ghost use Rattle.store_core.specs.State.{contents_damage, live_contents};
 
 use crate::{FlowIdentity, StoreError};
+use checkpoint_store::Snapshot;
 use content_repo::read_content;
 use disk_trait::{Damage, Disk, FileKind, FileName};
 use flowfile_record::{ContentRef, STORE_LIMIT, Stored, TextList};
 use flowfile_wal::{Log, LogEntries};
 use kept_state::{KeptState, Replay, ReplayError, replays_go_on};
-use record_codec::{HEADER_SIZE, LogEntry};
+use record_codec::{FORMAT_VERSION, HEADER_SIZE, LogEntry};
 use std::alloc::{AllocError, Global};
 
 /// What was read: the current log, how many entries it has, and what is kept.
@@ -223,7 +224,7 @@ fn read_state<D: Disk>(
     ensures stays { Stays D.held D.moment D.images disk.old disk.new }
     ensures cause { CountsFaults (D.faults disk.old) (D.faults disk.new) (IsErrOf result StoreError.Disk) }
 {
-    let stored = checkpoint_store::read(alloc, disk, number)?;
+    let Snapshot { stored, .. } = checkpoint_store::read(alloc, disk, number, FORMAT_VERSION)?;
     if !agrees(flow, &stored) {
         let file = FileName {
             kind: FileKind::Snapshot,

@@ -27,6 +27,7 @@ use disk_trait::Disk;
 use flowfile_record::{ContentRef, LIVE_FILES_MAX, Stored};
 use flowfile_wal::Log;
 use prov_store::Events;
+use record_codec::FORMAT_VERSION;
 use std::alloc::Global;
 
 // The number of a new store's log and snapshot.
@@ -138,8 +139,8 @@ fn make<D: Disk>(
     ensures refusal { RefusesBy IsDiskOrMemory result D.faults disk.old disk.new }
 {
     discard(alloc, disk, None)?;
-    checkpoint_store::write(alloc, disk, FIRST_LOG, stored)?;
-    checkpoint_store::begin(disk, FIRST_LOG)?;
+    checkpoint_store::write(alloc, disk, FIRST_LOG, FORMAT_VERSION, stored)?;
+    checkpoint_store::begin(disk, FIRST_LOG, FORMAT_VERSION)?;
     log.begun(disk, FIRST_LOG);
     Ok(())
 }

@@ -21,12 +21,14 @@ ghost use Rattle.store_core.specs.State.{state_of, stands_for};
 
 use crate::StoreError;
 use crate::reading::{apply_entries, read_contents, refuse_stray};
+use checkpoint_store::Snapshot;
 use content_repo::read_content;
 use disk_trait::Disk;
 use flowfile_record::{ActiveFile, DIGEST_SIZE, Event, EventCounts, Stored};
 use flowfile_wal::{Log, LogEntries};
 use kept_state::KeptState;
 use prov_store::Events;
+use record_codec::FORMAT_VERSION;
 use std::alloc::Global;
 use std::marker::Model;
 
@@ -136,7 +138,7 @@ fn see_state<D: Disk>(
     ensures stays { Stays D.held D.moment D.images disk.old disk.new }
     ensures cause { CountsFaults (D.faults disk.old) (D.faults disk.new) (IsErrOf result StoreError.Disk) }
 {
-    let stored = checkpoint_store::read(alloc, disk, number)?;
+    let Snapshot { stored, .. } = checkpoint_store::read(alloc, disk, number, FORMAT_VERSION)?;
     has_bytes(stored.flow);
     apply_entries(alloc, stored, number, entries)
 }

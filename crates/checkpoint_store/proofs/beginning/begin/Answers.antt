@@ -11,7 +11,7 @@ returns-in_err-write_synced-clause-images g c =
     let mid = c.stage.new.disk in
     let file = log_file c.args.number in
     let laws = g.met.D.Disk g.world.𝓛 g.world.𝓜 g.world.𝓡 ((λ s x. x), (λ x. x), (λ x. x), λ x. x) in
-    begun_or_not g.D.Disk.moment g.D.Disk.images old mid c.write_synced.new.disk (g.D.Disk.held old) (g.D.Disk.held mid) c.args.number
+    begun_or_not g.D.Disk.moment g.D.Disk.images old mid c.write_synced.new.disk (g.D.Disk.held old) (g.D.Disk.held mid) c.args.version c.args.number
     (λ d left. let told = laws.left_is_told mid (g.D.Disk.moment mid) d left in
     (laws.held_is_left old told, subst (λ (l : List ℕ). At file (λ o w. w ≡ CLOSED_GATE ∷ l) (g.D.Disk.held old) (g.D.Disk.held mid)) c.frame_of.ensures (c.in_ok-stage.ensures.staged told)))
     c.in_ok-stage.ensures.synced c.stage.ensures.images c.write_synced.ensures.images
@@ -22,7 +22,7 @@ returns-clause-images g c =
     let mid = c.stage.new.disk in
     let file = log_file c.args.number in
     let laws = g.met.D.Disk g.world.𝓛 g.world.𝓜 g.world.𝓡 ((λ s x. x), (λ x. x), (λ x. x), λ x. x) in
-    begun_or_not g.D.Disk.moment g.D.Disk.images old mid c.write_synced.new.disk (g.D.Disk.held old) (g.D.Disk.held mid) c.args.number
+    begun_or_not g.D.Disk.moment g.D.Disk.images old mid c.write_synced.new.disk (g.D.Disk.held old) (g.D.Disk.held mid) c.args.version c.args.number
     (λ d left. let told = laws.left_is_told mid (g.D.Disk.moment mid) d left in
     (laws.held_is_left old told, subst (λ (l : List ℕ). At file (λ o w. w ≡ CLOSED_GATE ∷ l) (g.D.Disk.held old) (g.D.Disk.held mid)) c.frame_of.ensures (c.in_ok-stage.ensures.staged told)))
     c.in_ok-stage.ensures.synced c.stage.ensures.images c.write_synced.ensures.images
@@ -36,5 +36,5 @@ returns-clause-begun g c = λ c' left.
     let laws = g.met.D.Disk g.world.𝓛 g.world.𝓜 g.world.𝓡 ((λ s x. x), (λ x. x), (λ x. x), λ x. x) in
     let told = laws.left_is_told new (g.D.Disk.moment new) c' left in
     let staged = subst (λ (l : List ℕ). At file (λ o w. w ≡ CLOSED_GATE ∷ l) (g.D.Disk.held old) (g.D.Disk.held mid)) c.frame_of.ensures (c.in_ok-stage.ensures.staged told) in
-    subst (IsBegun c.args.number) (sym (c.in_ok-write_synced.ensures.synced c' left))
-    (is_begun c.args.number (g.D.Disk.held old) (g.D.Disk.held mid) (g.D.Disk.held new) (c.requires.ready (g.D.Disk.held old) (laws.held_is_left old told)) staged (c.in_ok-write_synced.ensures.written told))
+    subst (IsBegun c.args.version c.args.number) (sym (c.in_ok-write_synced.ensures.synced c' left))
+    (is_begun c.args.version c.args.number (g.D.Disk.held old) (g.D.Disk.held mid) (g.D.Disk.held new) (c.requires.ready (g.D.Disk.held old) (laws.held_is_left old told)) staged (c.in_ok-write_synced.ensures.written told))

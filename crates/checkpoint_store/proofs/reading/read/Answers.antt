@@ -4,9 +4,10 @@ use Rattle.std.specs.Prelude.{Ok, Err}
 use Rattle.disk_trait.specs.Files.{Files}
 use Rattle.flowfile_record.specs.Stored.{kept_of}
 use Rattle.record_codec.specs.Block.{reading_of}
+use Rattle.checkpoint_store.specs.Consistent.{IsConsistentIn}
 use Rattle.checkpoint_store.specs.Memory.{BlockTakes, IsReadTo, Joins, more}
 use Rattle.checkpoint_store.specs.Reading.{blocks_from, snapshot_of}
-use Rattle.checkpoint_store.specs.Snapshot.{snapshot_file}
+use Rattle.checkpoint_store.specs.Snapshot.{snapshot_file, files_end}
 use Rattle.checkpoint_store.specs.declared.error.CheckError.TheVariants.{Damaged, Memory}
 use Rattle.checkpoint_store.proofs.reading.read.Goals as goal
 
@@ -18,15 +19,16 @@ loop-so_far-init g c =
       stays = search rules;
       faults = omega arith;
       size = c.in_ok-size.ensures.size;
-      so_far = c.in_ok-so_far.ensures.so_far;
+      so_far = c.in_ok-so_far.ensures.so_far.0;
+      version = c.in_ok-so_far.ensures.so_far.1;
       room = c.in_ok-so_far.ensures.room;
       read_to = λ told.
-          subst (λ (f : Files). IsReadTo (f file) c.in_ok-so_far.at (kept_of c.in_ok-so_far.so_far.state) (vec_capacity c.read_first.new.buffer))
+          subst (λ (f : Files). IsReadTo c.args.version (f file) c.in_ok-so_far.at (kept_of c.in_ok-so_far.so_far.state) (vec_capacity c.read_first.new.buffer))
           c.size.ensures.stays.files (c.in_ok-so_far.ensures.read_to told);
       most = suc (length (g.D.Disk.held c.args.disk.now file));
       enough = λ told. omega (arith, c.in_ok-size.ensures.size told);
       read = λ told.
-          subst (λ (f : Files). snapshot_of file (f file) ≡ blocks_from (suc (length (f file))) file c.in_ok-so_far.at (kept_of c.in_ok-so_far.so_far.state) (drop c.in_ok-so_far.at (f file)))
+          subst (λ (f : Files). snapshot_of c.args.version file (f file) ≡ blocks_from (suc (length (f file))) file c.in_ok-so_far.at (kept_of c.in_ok-so_far.so_far.state) (drop c.in_ok-so_far.at (f file)))
           c.size.ensures.stays.files (c.in_ok-so_far.ensures.found told);
     }
 
@@ -41,6 +43,7 @@ loop-so_far-preserved g c =
       faults = omega arith;
       size = inv.size;
       so_far = c.in_ok-next.ensures.read.so_far;
+      version = c.in_ok-next.ensures.read.version ∙ inv.version;
       room = omega (arith, inv.room, c.in_ok-next.ensures.capacity);
       read_to = λ told.
           let joins = rw c.in-Some.is at (c.in_ok-next.ensures.read.joins told) in
@@ -66,6 +69,17 @@ returns-clause-read g c = λ told.
     inv.read told ∙ ap (λ (m : ℕ). blocks_from m file c.loop-so_far.at (kept_of c.loop-so_far.so_far.state) (drop c.loop-so_far.at (g.D.Disk.held c.args.disk.now file))) some
     ∙ subst (λ (f : Files). blocks_from (suc (inv.most - 1)) file c.loop-so_far.at (kept_of c.loop-so_far.so_far.state) (drop c.loop-so_far.at (f file))
     ≡ Ok (kept_of c.read_next.new.so_far.state)) inv.stays.files last
+
+pub returns-clause-consistent : goal.returns-clause-consistent
+returns-clause-consistent g c = λ none.
+    let so_far = c.read_next.new.so_far in
+    let read = c.in_ok-next.ensures.read in
+    subst (λ (v : ℕ). IsConsistentIn v (kept_of so_far.state)) (read.version ∙ c.loop-so_far.invariant.version) (read.so_far.consistent none)
+
+pub returns-clause-place : goal.returns-clause-place
+returns-clause-place g c =
+    let so_far = c.read_next.new.so_far in
+    c.files_end-batches_at.ensures ∙ ap (λ (v : ℕ). files_end v (kept_of so_far.state)) (c.in_ok-next.ensures.read.version ∙ c.loop-so_far.invariant.version)
 
 pub returns-in_err-next-clause-damaged : goal.returns-in_err-next-clause-damaged
 returns-in_err-next-clause-damaged g c damage is told =

@@ -14,11 +14,12 @@ invariant-loop-so_far g l = record {
   faults : g.D.Disk.faults l.fn.disk ≤ g.D.Disk.faults l.disk;
   size : IsTrue g.D.Disk.tells → l.source.size ≡ length (g.D.Disk.held l.fn.disk l.source.file);
   so_far : IsSoFar l.so_far;
+  version : l.so_far.version ≡ l.version;
   room : SMALL_BLOCK_SIZE ≤ vec_capacity l.buffer;
-  read_to : IsTrue g.D.Disk.tells → IsReadTo (g.D.Disk.held l.fn.disk l.source.file) l.at (kept_of l.so_far.state) (vec_capacity l.buffer);
+  read_to : IsTrue g.D.Disk.tells → IsReadTo l.version (g.D.Disk.held l.fn.disk l.source.file) l.at (kept_of l.so_far.state) (vec_capacity l.buffer);
   most : ℕ;
   enough : IsTrue g.D.Disk.tells → l.source.size < l.at + most;
-  read : IsTrue g.D.Disk.tells → snapshot_of l.source.file (g.D.Disk.held l.fn.disk l.source.file) ≡ blocks_from most l.source.file l.at (kept_of l.so_far.state) (drop l.at (g.D.Disk.held l.fn.disk l.source.file));
+  read : IsTrue g.D.Disk.tells → snapshot_of l.version l.source.file (g.D.Disk.held l.fn.disk l.source.file) ≡ blocks_from most l.source.file l.at (kept_of l.so_far.state) (drop l.at (g.D.Disk.held l.fn.disk l.source.file));
 }
 
 abbrev pub decreases-loop-so_far : goal.decreases-loop-so_far

@@ -14,9 +14,9 @@ returns-in-Ok-clause-found g c told =
     let found = c.in_ok-block.ensures.found in
     let k = kept_of c.in-Ok.so_far.state in
     let payload = slice_range items block.start block.end in
-    let first : first_block_kept block.kind payload ≡ Some k = subst (λ (l : List ℕ). first_block_kept block.kind (slice_range l block.start block.end) ≡ Some k) c.deref.ensures.value c.in-Ok.ensures.found in
+    let first : first_block_kept c.args.version block.kind payload ≡ Some k = subst (λ (l : List ℕ). first_block_kept c.args.version block.kind (slice_range l block.start block.end) ≡ Some k) c.deref.ensures.value c.in-Ok.ensures.found in
     let size : block.next ≡ length payload + 37 = search rules in
-    behind_first c.args.source.file (g.D.Disk.held c.args.disk.now c.args.source.file) block.kind payload k block.next (found.read told) first size
+    behind_first c.args.version c.args.source.file (g.D.Disk.held c.args.disk.now c.args.source.file) block.kind payload k block.next (found.read told) first size
 
 pub returns-in-Ok-clause-read_to : goal.returns-in-Ok-clause-read_to
 returns-in-Ok-clause-read_to g c told =
@@ -25,7 +25,7 @@ returns-in-Ok-clause-read_to g c told =
     let found = c.in_ok-block.ensures.found in
     let k = kept_of c.in-Ok.so_far.state in
     let payload = slice_range buffer.items block.start block.end in
-    let first : first_block_kept block.kind payload ≡ Some k = subst (λ (l : List ℕ). first_block_kept block.kind (slice_range l block.start block.end) ≡ Some k) c.deref.ensures.value c.in-Ok.ensures.found in
+    let first : first_block_kept c.args.version block.kind payload ≡ Some k = subst (λ (l : List ℕ). first_block_kept c.args.version block.kind (slice_range l block.start block.end) ≡ Some k) c.deref.ensures.value c.in-Ok.ensures.found in
     let size : block.next ≡ length payload + 37 = search rules in
     head block.next (vec_capacity buffer) block.kind payload k (found.read told) first size (omega (arith, found.lies.buffered))
 
@@ -36,6 +36,6 @@ returns-in-Ok-clause-room g c =
     let found = c.in_ok-block.ensures.found in
     let k = kept_of c.in-Ok.so_far.state in
     let payload = slice_range buffer.items block.start block.end in
-    let first : first_block_kept block.kind payload ≡ Some k = subst (λ (l : List ℕ). first_block_kept block.kind (slice_range l block.start block.end) ≡ Some k) c.deref.ensures.value c.in-Ok.ensures.found in
+    let first : first_block_kept c.args.version block.kind payload ≡ Some k = subst (λ (l : List ℕ). first_block_kept c.args.version block.kind (slice_range l block.start block.end) ≡ Some k) c.deref.ensures.value c.in-Ok.ensures.found in
     let size : block.next ≡ length payload + 37 = search rules in
-    omega (arith, found.lies.buffered, first_size block.kind payload k first)
+    omega (arith, found.lies.buffered, first_size c.args.version block.kind payload k first)

@@ -19,7 +19,7 @@ returns-then-header-code-clause-damaged g c damage is told =
     let bytes = g.D.Disk.held c.args.disk.now file in
     let past = c.requires told in
     let fourth : get_or c.read.new.into 4 0 ≡ get_or bytes 4 0 = ap (λ (l : List ℕ). get_or l 4 0) (c.in_ok-read.ensures.bytes told) ∙ get_or-take 5 bytes 4 0 (omega arith) in
-    not_a_head file bytes past.kind past.payload past.whole (λ e. c.if-header-code.true (fourth ∙ e ∙ sym c.code.ensures))
+    not_a_head c.args.version file bytes past.kind past.payload past.whole (λ e. c.if-header-code.true (fourth ∙ e ∙ sym c.code.ensures))
     ∙ ap Err (form_told c.bad_form.result (Form file 0) damage c.bad_form.ensures is)
 
 pub has_head_front-requires-after_bounds : goal.has_head_front-requires-after_bounds
@@ -40,9 +40,9 @@ returns-then-not-branch-clause-damaged g c damage is told =
     let size = length_read bytes c.read.new.into past.kind past.payload past.whole (c.in_ok-read.ensures.bytes told) in
     let len = c.from_be_bytes-length.ensures ∙ size in
     let count : c.min.result ≡ min (length past.payload) 41 = omega (arith, len, c.min.ensures) in
-    let found = subst (λ (f : Files). c.in_ok-has_head_front.field-0 ≡ is_ok (head_front_at (take c.min.result (drop 5 (f file))))) c.in_ok-read.ensures.stays.files
+    let found = subst (λ (f : Files). c.in_ok-has_head_front.field-0 ≡ is_ok (head_front_at c.args.version (take c.min.result (drop 5 (f file))))) c.in_ok-read.ensures.stays.files
     (c.in_ok-has_head_front.ensures.found told c.min.result (omega (arith, length-take {A = ℕ}, c.min.ensures))) in
-    no_head_front file bytes past.kind past.payload c.min.result past.whole count (sym found ∙ c.if-not-branch.true)
+    no_head_front c.args.version file bytes past.kind past.payload c.min.result past.whole count (sym found ∙ c.if-not-branch.true)
     ∙ ap Err (form_told c.bad_form-then-not-branch.result (Form file 0) damage c.bad_form-then-not-branch.ensures is)
 
 pub returns-clause-front : goal.returns-clause-front
@@ -54,7 +54,7 @@ returns-clause-front g c told =
     let size = length_read bytes c.read.new.into past.kind past.payload past.whole (c.in_ok-read.ensures.bytes told) in
     let len = c.from_be_bytes-length.ensures ∙ size in
     let count : c.min.result ≡ min (length past.payload) 41 = omega (arith, len, c.min.ensures) in
-    let found = subst (λ (f : Files). c.in_ok-has_head_front.field-0 ≡ is_ok (head_front_at (take c.min.result (drop 5 (f file))))) c.in_ok-read.ensures.stays.files
+    let found = subst (λ (f : Files). c.in_ok-has_head_front.field-0 ≡ is_ok (head_front_at c.args.version (take c.min.result (drop 5 (f file))))) c.in_ok-read.ensures.stays.files
     (c.in_ok-has_head_front.ensures.found told c.min.result (omega (arith, length-take {A = ℕ}, c.min.ensures))) in
     let kind = sym (kind_stands bytes past.kind past.payload past.whole) ∙ sym fourth ∙ c.if-header-code.false ∙ c.code.ensures in
-    first_takes bytes past.kind past.payload past.whole kind (sym (front_stands bytes past.kind past.payload c.min.result past.whole count) ∙ sym found ∙ c.if-not-branch.false)
+    first_takes c.args.version bytes past.kind past.payload past.whole kind (sym (front_stands c.args.version bytes past.kind past.payload c.min.result past.whole count) ∙ sym found ∙ c.if-not-branch.false)

@@ -2,6 +2,7 @@ use Rattle.std.proofs.Common.{length}
 use Rattle.disk_trait.specs.Files.{Torn}
 use Rattle.disk_trait.specs.Images.{Since}
 use Rattle.flowfile_record.specs.Stored.{kept_of}
+use Rattle.record_codec.specs.declared.TheConstants.{FORMAT_VERSION}
 use Rattle.checkpoint_store.specs.Snapshot.{snapshot}
 use Rattle.flowfile_wal.specs.Calls.{InEach}
 use Rattle.store_core.proofs.NextLog.{IsStaged}
@@ -17,7 +18,7 @@ returns-in_err-write-clause-images g c =
     let d0 = c.args.disk.now in
     let d1 = c.write.new.disk in
     since_prepared moment images number k d0 d1
-    (since_written moment images number (Torn 0 (length (snapshot k))) d0 d1 c.requires.passed c.write.ensures.images)
+    (since_written moment images number (Torn 0 (length (snapshot FORMAT_VERSION k))) d0 d1 c.requires.passed c.write.ensures.images)
 
 pub returns-in_err-empty_log-clause-images : goal.returns-in_err-empty_log-clause-images
 returns-in_err-empty_log-clause-images g c =
@@ -30,7 +31,7 @@ returns-in_err-empty_log-clause-images g c =
     let d2 = c.empty_log.new.disk in
     since_prepared moment images number k d0 d2
     (since_emptied moment images number d0 d1 d2
-    (since_written moment images number (Torn 0 (length (snapshot k))) d0 d1 c.requires.passed c.write.ensures.images)
+    (since_written moment images number (Torn 0 (length (snapshot FORMAT_VERSION k))) d0 d1 c.requires.passed c.write.ensures.images)
     c.empty_log.ensures.images)
 
 pub begin-requires-clause-ready : goal.begin-requires-clause-ready
@@ -45,7 +46,7 @@ begin-requires-clause-ready g c κs within = λ d left.
     let d2 = c.empty_log.new.disk in
     let since : Since moment images d0 d2 (Preparing moment images number d0) =
     since_emptied moment images number d0 d1 d2
-    (since_written moment images number (Torn 0 (length (snapshot k))) d0 d1 c.requires.passed c.write.ensures.images)
+    (since_written moment images number (Torn 0 (length (snapshot FORMAT_VERSION k))) d0 d1 c.requires.passed c.write.ensures.images)
     c.empty_log.ensures.images in
     (each_staged moment images number k g.D.Disk.tells g.D.Disk.held d0 d1 d2 c.in_ok-write.ensures.written c.in_ok-empty_log.ensures.emptied c.in_ok-empty_log.ensures.synced
     (λ f is. laws.left_is_told d2 (moment d2) f is) since d left).begin
@@ -62,7 +63,7 @@ returns-in_err-begin-clause-images g c =
     let d2 = c.empty_log.new.disk in
     let since : Since moment images d0 d2 (Preparing moment images number d0) =
     since_emptied moment images number d0 d1 d2
-    (since_written moment images number (Torn 0 (length (snapshot k))) d0 d1 c.requires.passed c.write.ensures.images)
+    (since_written moment images number (Torn 0 (length (snapshot FORMAT_VERSION k))) d0 d1 c.requires.passed c.write.ensures.images)
     c.empty_log.ensures.images in
     let staged : InEach (images d2 (moment d2)) (IsStaged number k) =
     each_staged moment images number k g.D.Disk.tells g.D.Disk.held d0 d1 d2 c.in_ok-write.ensures.written c.in_ok-empty_log.ensures.emptied c.in_ok-empty_log.ensures.synced
@@ -81,7 +82,7 @@ returns-clause-images g c =
     let d2 = c.empty_log.new.disk in
     let since : Since moment images d0 d2 (Preparing moment images number d0) =
     since_emptied moment images number d0 d1 d2
-    (since_written moment images number (Torn 0 (length (snapshot k))) d0 d1 c.requires.passed c.write.ensures.images)
+    (since_written moment images number (Torn 0 (length (snapshot FORMAT_VERSION k))) d0 d1 c.requires.passed c.write.ensures.images)
     c.empty_log.ensures.images in
     let staged : InEach (images d2 (moment d2)) (IsStaged number k) =
     each_staged moment images number k g.D.Disk.tells g.D.Disk.held d0 d1 d2 c.in_ok-write.ensures.written c.in_ok-empty_log.ensures.emptied c.in_ok-empty_log.ensures.synced
@@ -100,7 +101,7 @@ returns-clause-taken g c =
     let d2 = c.empty_log.new.disk in
     let since : Since moment images d0 d2 (Preparing moment images number d0) =
     since_emptied moment images number d0 d1 d2
-    (since_written moment images number (Torn 0 (length (snapshot k))) d0 d1 c.requires.passed c.write.ensures.images)
+    (since_written moment images number (Torn 0 (length (snapshot FORMAT_VERSION k))) d0 d1 c.requires.passed c.write.ensures.images)
     c.empty_log.ensures.images in
     let staged : InEach (images d2 (moment d2)) (IsStaged number k) =
     each_staged moment images number k g.D.Disk.tells g.D.Disk.held d0 d1 d2 c.in_ok-write.ensures.written c.in_ok-empty_log.ensures.emptied c.in_ok-empty_log.ensures.synced

@@ -1,6 +1,7 @@
 use Rattle.std.proofs.Common.{length, ap, ◌∙◌}
 use Rattle.std.specs.Prelude.{ℕ, List, None}
 use Rattle.flowfile_record.specs.Stored.{kept_of}
+use Rattle.record_codec.specs.declared.TheConstants.{FORMAT_VERSION}
 use Rattle.checkpoint_store.specs.Begun.{IsBegunOrNot, log_file}
 use Rattle.checkpoint_store.specs.Snapshot.{snapshot, snapshot_file}
 use Rattle.disk_trait.specs.Files.{Files, At, Torn}
@@ -52,7 +53,7 @@ returns-in_err-write-clause-images g c =
     let d2 = c.write.new.disk in
     let k = kept_of c.args.stored.now in
     since_unmade moment images k d0 d2
-    (since_snapshot moment images d0 d1 d2 (Torn 0 (length (snapshot k)))
+    (since_snapshot moment images d0 d1 d2 (Torn 0 (length (snapshot FORMAT_VERSION k)))
     (since_discards moment images d0 d1 (unmade_images moment images g.D.Disk.tells g.D.Disk.held d0 (λ d left. laws.left_is_told d0 (moment d0) d left) c.requires.synced c.requires.unmade) c.discard.ensures.images)
     c.write.ensures.images)
 
@@ -75,7 +76,7 @@ returns-in_err-begin-clause-images g c =
     let d2 = c.write.new.disk in
     let k = kept_of c.args.stored.now in
     since_begin moment images k d0 d2 c.begin.new.disk
-    (since_snapshot moment images d0 d1 d2 (Torn 0 (length (snapshot k)))
+    (since_snapshot moment images d0 d1 d2 (Torn 0 (length (snapshot FORMAT_VERSION k)))
     (since_discards moment images d0 d1 (unmade_images moment images g.D.Disk.tells g.D.Disk.held d0 (λ d left. laws.left_is_told d0 (moment d0) d left) c.requires.synced c.requires.unmade) c.discard.ensures.images)
     c.write.ensures.images)
     (each_staged moment images g.D.Disk.tells g.D.Disk.held k d1 d2 (λ d left. laws.left_is_told d2 (moment d2) d left) c.in_ok-write.ensures.synced (λ told. (c.in_ok-discard.ensures.others told).logs) c.in_ok-write.ensures.written)
@@ -94,7 +95,7 @@ returns-clause-images g c =
     let d2 = c.write.new.disk in
     let k = kept_of c.args.stored.now in
     since_begin moment images k d0 d2 c.begin.new.disk
-    (since_snapshot moment images d0 d1 d2 (Torn 0 (length (snapshot k)))
+    (since_snapshot moment images d0 d1 d2 (Torn 0 (length (snapshot FORMAT_VERSION k)))
     (since_discards moment images d0 d1 (unmade_images moment images g.D.Disk.tells g.D.Disk.held d0 (λ d left. laws.left_is_told d0 (moment d0) d left) c.requires.synced c.requires.unmade) c.discard.ensures.images)
     c.write.ensures.images)
     (each_staged moment images g.D.Disk.tells g.D.Disk.held k d1 d2 (λ d left. laws.left_is_told d2 (moment d2) d left) c.in_ok-write.ensures.synced (λ told. (c.in_ok-discard.ensures.others told).logs) c.in_ok-write.ensures.written)
@@ -110,7 +111,7 @@ returns-clause-made g c =
     let d2 = c.write.new.disk in
     let k = kept_of c.args.stored.now in
     made_at_the_end moment images k d0 d2 c.begin.new.disk
-    (since_snapshot moment images d0 d1 d2 (Torn 0 (length (snapshot k)))
+    (since_snapshot moment images d0 d1 d2 (Torn 0 (length (snapshot FORMAT_VERSION k)))
     (since_discards moment images d0 d1 (unmade_images moment images g.D.Disk.tells g.D.Disk.held d0 (λ d left. laws.left_is_told d0 (moment d0) d left) c.requires.synced c.requires.unmade) c.discard.ensures.images)
     c.write.ensures.images)
     (each_staged moment images g.D.Disk.tells g.D.Disk.held k d1 d2 (λ d left. laws.left_is_told d2 (moment d2) d left) c.in_ok-write.ensures.synced (λ told. (c.in_ok-discard.ensures.others told).logs) c.in_ok-write.ensures.written)
@@ -127,7 +128,7 @@ returns-in_err-discard-clause-revives g c = record {
 pub returns-in_err-write-clause-revives : goal.returns-in_err-write-clause-revives
 returns-in_err-write-clause-revives g c = record {
   events =
-      since_written g.D.Disk.moment g.D.Disk.images (Torn 0 (length (snapshot (kept_of c.args.stored.now)))) c.args.disk.now c.discard.new.disk c.write.new.disk
+      since_written g.D.Disk.moment g.D.Disk.images (Torn 0 (length (snapshot FORMAT_VERSION (kept_of c.args.stored.now)))) c.args.disk.now c.discard.new.disk c.write.new.disk
       c.discard.ensures.images c.write.ensures.images;
   alone =
       let moment = g.D.Disk.moment in
@@ -135,7 +136,7 @@ returns-in_err-write-clause-revives g c = record {
       let d0 = c.args.disk.now in
       let d1 = c.discard.new.disk in
       let d2 = c.write.new.disk in
-      let torn = Torn 0 (length (snapshot (kept_of c.args.stored.now))) in
+      let torn = Torn 0 (length (snapshot FORMAT_VERSION (kept_of c.args.stored.now))) in
       since_revived moment images None d0 d1 d2
       (since_revives moment images None d0 d1 (Discards None) c.discard.ensures.images (revives_discarded None))
       (since_revives moment images None d1 d2 (At (snapshot_file 1) torn) c.write.ensures.images (revives_first_snapshot torn));
@@ -144,7 +145,7 @@ returns-in_err-write-clause-revives g c = record {
 pub returns-in_err-begin-clause-revives : goal.returns-in_err-begin-clause-revives
 returns-in_err-begin-clause-revives g c = record {
   events =
-      since_begun g.D.Disk.moment g.D.Disk.images (Torn 0 (length (snapshot (kept_of c.args.stored.now)))) (λ before now. IsBegunOrNot 1 now) c.args.disk.now c.discard.new.disk c.write.new.disk c.begin.new.disk
+      since_begun g.D.Disk.moment g.D.Disk.images (Torn 0 (length (snapshot FORMAT_VERSION (kept_of c.args.stored.now)))) (λ before now. IsBegunOrNot FORMAT_VERSION 1 now) c.args.disk.now c.discard.new.disk c.write.new.disk c.begin.new.disk
       c.discard.ensures.images c.write.ensures.images c.begin.ensures.images;
   alone =
       let moment = g.D.Disk.moment in
@@ -153,18 +154,18 @@ returns-in_err-begin-clause-revives g c = record {
       let d1 = c.discard.new.disk in
       let d2 = c.write.new.disk in
       let d3 = c.begin.new.disk in
-      let torn = Torn 0 (length (snapshot (kept_of c.args.stored.now))) in
+      let torn = Torn 0 (length (snapshot FORMAT_VERSION (kept_of c.args.stored.now))) in
       since_revived moment images None d0 d2 d3
       (since_revived moment images None d0 d1 d2
       (since_revives moment images None d0 d1 (Discards None) c.discard.ensures.images (revives_discarded None))
       (since_revives moment images None d1 d2 (At (snapshot_file 1) torn) c.write.ensures.images (revives_first_snapshot torn)))
-      (since_revives moment images None d2 d3 (At (log_file 1) (λ old new. IsBegunOrNot 1 new)) c.begin.ensures.images (revives_first_log (λ old new. IsBegunOrNot 1 new)));
+      (since_revives moment images None d2 d3 (At (log_file 1) (λ old new. IsBegunOrNot FORMAT_VERSION 1 new)) c.begin.ensures.images (revives_first_log (λ old new. IsBegunOrNot FORMAT_VERSION 1 new)));
 }
 
 pub returns-clause-revives : goal.returns-clause-revives
 returns-clause-revives g c = record {
   events =
-      since_begun g.D.Disk.moment g.D.Disk.images (Torn 0 (length (snapshot (kept_of c.args.stored.now)))) (λ before now. IsBegunOrNot 1 now) c.args.disk.now c.discard.new.disk c.write.new.disk c.begin.new.disk
+      since_begun g.D.Disk.moment g.D.Disk.images (Torn 0 (length (snapshot FORMAT_VERSION (kept_of c.args.stored.now)))) (λ before now. IsBegunOrNot FORMAT_VERSION 1 now) c.args.disk.now c.discard.new.disk c.write.new.disk c.begin.new.disk
       c.discard.ensures.images c.write.ensures.images c.begin.ensures.images;
   alone =
       let moment = g.D.Disk.moment in
@@ -173,12 +174,12 @@ returns-clause-revives g c = record {
       let d1 = c.discard.new.disk in
       let d2 = c.write.new.disk in
       let d3 = c.begin.new.disk in
-      let torn = Torn 0 (length (snapshot (kept_of c.args.stored.now))) in
+      let torn = Torn 0 (length (snapshot FORMAT_VERSION (kept_of c.args.stored.now))) in
       since_revived moment images None d0 d2 d3
       (since_revived moment images None d0 d1 d2
       (since_revives moment images None d0 d1 (Discards None) c.discard.ensures.images (revives_discarded None))
       (since_revives moment images None d1 d2 (At (snapshot_file 1) torn) c.write.ensures.images (revives_first_snapshot torn)))
-      (since_revives moment images None d2 d3 (At (log_file 1) (λ old new. IsBegunOrNot 1 new)) c.begin.ensures.images (revives_first_log (λ old new. IsBegunOrNot 1 new)));
+      (since_revives moment images None d2 d3 (At (log_file 1) (λ old new. IsBegunOrNot FORMAT_VERSION 1 new)) c.begin.ensures.images (revives_first_log (λ old new. IsBegunOrNot FORMAT_VERSION 1 new)));
 }
 
 pub returns-clause-whole : goal.returns-clause-whole

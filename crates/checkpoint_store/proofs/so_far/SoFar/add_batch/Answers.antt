@@ -33,5 +33,8 @@ returns-clause-so_far c =
       ordered = was.ordered;
       bytes = was.bytes;
       within = was.within;
+      few = was.few;
+      head_end = was.head_end;
+      head_size = was.head_size;
       consistent = λ none. absurd (omega (arith, ap length (sym items ∙ none), length-append c.args.self.now.state.batches.items (c.args.batch ∷ [])));
     }

@@ -1,4 +1,4 @@
-use Rattle.std.proofs.Common.{◌≡◌, ◌+◌, ◌==◌, ◌<◌, ◌≤◌, ◌||◌, not, Bool, List, true, ap, ◌∙◌, arith, subst, sym, map}
+use Rattle.std.proofs.Common.{◌≡◌, ◌+◌, ◌==◌, ◌<◌, ◌≤◌, ◌||◌, not, Bool, List, [], ◌∷◌, length, length-append, true, ap, ◌∙◌, arith, subst, sym, map}
 use Rattle.std.specs.Prelude.{nat_le}
 use Rattle.std.specs.List.{sum, list_any}
 use Rattle.std.proofs.lemmas.Bool.Decides.{nat_tests}
@@ -7,11 +7,11 @@ use Rattle.flowfile_record.specs.Stored.{kept_of}
 use Rattle.flowfile_record.specs.NumberedItems.{item_of, with_item}
 use Rattle.flowfile_record.specs.declared.stored.ActiveFile.{ActiveFile}
 use Rattle.record_codec.proofs.Sizes.{file_most}
-use Rattle.checkpoint_store.specs.Consistent.{IsConsistent, record_size}
+use Rattle.checkpoint_store.specs.Consistent.{IsConsistentIn, record_size}
 use Rattle.checkpoint_store.specs.Reading.{file_has_place}
 use Rattle.checkpoint_store.specs.SoFar.{AreNumberedTo}
 use Rattle.flowfile_record.specs.declared.limits.TheConstants.{LIVE_BYTES_MAX}
-use Rattle.checkpoint_store.proofs.Consistency.{file_joins}
+use Rattle.checkpoint_store.proofs.Consistency.{file_joins, place_left}
 use Rattle.checkpoint_store.proofs.Numbering.{none_there, joins_last, are_numbered, sum_more, any_more, place_above, all_three}
 use Rattle.checkpoint_store.proofs.so_far.SoFar.add_file.Goals as goal
 
@@ -60,9 +60,13 @@ returns-clause-so_far c =
       bytes = let total = sum_more record_size c.args.self.now.state.files.items c.args.active in
           omega (arith, was.bytes, c.file_size-size.ensures, total, ap (λ (l : List ActiveFile). sum (map record_size l)) items);
       within = omega (arith, c.if-self-size-gt-LIVE_BYTES_MAX.false);
+      few = let left = place_left k c.args.active placed in
+          omega (arith, left, ap length items, length-append c.args.self.now.state.files.items (c.args.active ∷ []));
+      head_end = was.head_end;
+      head_size = was.head_size;
       consistent = λ none.
           let grows = ap (λ (l : List ActiveFile). record (kept_of c.args.self.now.state) { files = l }) items in
           let below = All-weaker (λ (b : ActiveFile). b.file.number ≤ c.args.self.now.last_file) (λ b. b.file.number < c.args.active.file.number)
           (λ b le. omega (arith, le, above, was.files.last)) k.files was.files.below in
-          subst IsConsistent (sym grows) (file_joins k c.args.active (was.consistent none) none c.requires.file (returns-clause-joined c).0 below);
+          subst (IsConsistentIn c.args.self.now.version) (sym grows) (file_joins c.args.self.now.version k c.args.active (was.consistent none) none c.requires.file (returns-clause-joined c).0 below);
     }
