@@ -17,7 +17,7 @@ use Rattle.flowfile_record.specs.declared.stored.Placed.{Placed}
 use Rattle.record_codec.specs.ActiveFile.{active}
 use Rattle.record_codec.specs.Placeless.{placeless, placeless_active, placeless_entry}
 use Rattle.record_codec.specs.declared.entry.LogEntry.{LogEntry}
-use Rattle.record_codec.specs.declared.entry.LogEntry.TheVariants.{Begin, Session, Expire, SwapOut, SwapIn}
+use Rattle.record_codec.specs.declared.entry.LogEntry.TheVariants.{Begin, Session, Expire, SwapOut, SwapIn, Age}
 use Rattle.record_codec.specs.declared.entry.SessionEntry.{SessionEntry}
 use Rattle.kept_state.specs.Applied.{active_number, is_file_among, left_after, with_files, applied}
 use Rattle.kept_state.specs.Arrivals.{arrival_of}
@@ -48,10 +48,11 @@ part_of t _ = t
 
 session_from : (e : LogEntry) (t : SessionEntry) → placeless_entry e ≡ placeless_entry (Session t) → IsSessionOf e t
 session_from (Session s) t same = record { session = s; is = refl; same = ap (part_of t) same }
-session_from (Begin log) t same = absurd cc
+session_from (Begin version log) t same = absurd cc
 session_from (Expire e) t same = absurd cc
 session_from (SwapOut s) t same = absurd cc
 session_from (SwapIn connection batch) t same = absurd cc
+session_from (Age line) t same = absurd cc
 
 parts_same : (part : FlowFile → ℕ) → ((a : ActiveFile) → part (placeless_active a).file ≡ part a.file) → (placed : List ActiveFile) → map (λ a. part a.file) (map placeless_active placed) ≡ map (λ a. part a.file) placed
 parts_same part same [] = refl

@@ -12,7 +12,7 @@ use Rattle.flowfile_record.specs.declared.stored.Counted.{Counted}
 use Rattle.flowfile_record.specs.Stored.{Kept}
 use Rattle.record_codec.specs.Placeless.{placeless_entry}
 use Rattle.record_codec.specs.declared.entry.LogEntry.{LogEntry}
-use Rattle.record_codec.specs.declared.entry.LogEntry.TheVariants.{Begin, Session, Expire, SwapOut, SwapIn}
+use Rattle.record_codec.specs.declared.entry.LogEntry.TheVariants.{Begin, Session, Expire, SwapOut, SwapIn, Age}
 use Rattle.content_repo.specs.Claims.{content_in, HasSizes}
 use Rattle.flowfile_wal.specs.Calls.{InEach}
 use Rattle.kept_state.specs.Applied.{applied}
@@ -136,11 +136,12 @@ length-with_count None counts = refl
 length-with_count (Some g) counts = length-set counts g.processor g.count
 
 flow_stays : (k : Kept) (entry : LogEntry) → flow_in (applied no_files k entry) ≡ flow_in k
-flow_stays k (Begin log) = refl
+flow_stays k (Begin version log) = refl
 flow_stays k (Session s) = λ i. record { digest = k.flow; connections = k.connections; processors = length-with_count s.generator k.counts i }
 flow_stays k (Expire e) = refl
 flow_stays k (SwapOut s) = refl
 flow_stays k (SwapIn connection batch) = refl
+flow_stays k (Age line) = refl
 
 pub flow_after : (p : PreparedChange) (t u : StoreState) (f : store.Flow) → HasChange p t u → flow_in (kept_by t) ≡ f → flow_in (kept_by u) ≡ f
 flow_after p t u f change is = ap flow_in change.kept ∙ flow_stays (kept_by t) change.entry ∙ is

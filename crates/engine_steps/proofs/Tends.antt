@@ -12,7 +12,7 @@ use Rattle.flowfile_record.specs.Stored.{Kept}
 use Rattle.record_codec.specs.Placeless.{placeless_entry}
 use Rattle.record_codec.specs.declared.entry.ExpireEntry.{ExpireEntry}
 use Rattle.record_codec.specs.declared.entry.LogEntry.{LogEntry}
-use Rattle.record_codec.specs.declared.entry.LogEntry.TheVariants.{Begin, Session, Expire, SwapOut, SwapIn}
+use Rattle.record_codec.specs.declared.entry.LogEntry.TheVariants.{Begin, Session, Expire, SwapOut, SwapIn, Age}
 use Rattle.checkpoint_store.specs.Consistent.{IsConsistent}
 use Rattle.content_repo.specs.Claims.{content_in, IdleShortened}
 use Rattle.content_repo.specs.Slots.{SlotsHaveRoom}
@@ -154,11 +154,12 @@ pub record IsLeftBy (numbers : List ℕ) (k after : Kept) : Type 0 where
   pub flow_is : flow_in after ≡ flow_in k
 
 left_by : (k : Kept) (x : ExpireEntry) (entry : LogEntry) → placeless_entry entry ≡ Expire x → IsLeftBy x.numbers k (applied no_files k entry)
-left_by k x (Begin log) is = absurd cc
+left_by k x (Begin version log) is = absurd cc
 left_by k x (Session s) is = absurd cc
 left_by k x (Expire e) is = let same : e ≡ x = cc in record { files = ap (λ (y : ExpireEntry). left_after y.numbers k.files) same; flow_is = refl }
 left_by k x (SwapOut s) is = absurd cc
 left_by k x (SwapIn connection batch) is = absurd cc
+left_by k x (Age line) is = absurd cc
 
 pub kept_after : (p : PreparedChange) (s t : StoreState) (x : SettledExpiry) → HasChange p s t → p.entry ≡ expiry_entry (kept_by s) x.connection x.settled → IsLeftBy x.settled.gone (kept_by s) (kept_by t)
 kept_after p s t x changed is =

@@ -4,7 +4,6 @@ use Rattle.std.proofs.lemmas.List.{append-nil, take_at, drop_at, take_all, drop_
 use Rattle.std.proofs.lemmas.Bool.{cases_eq}
 use Rattle.disk_trait.specs.Files.{Overwritten, Torn}
 use Rattle.record_codec.specs.Block.{block}
-use Rattle.record_codec.specs.Frames.{frame}
 use Rattle.record_codec.specs.declared.entry.LogEntry.{LogEntry}
 use Rattle.record_codec.specs.declared.log.TheConstants.{OPEN_GATE, CLOSED_GATE}
 use Rattle.record_codec.specs.LogEntries.{log_of}

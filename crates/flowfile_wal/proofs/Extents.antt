@@ -1,10 +1,10 @@
 -- Where the blocks of a log and its last gate stand.
-use Rattle.std.proofs.Common.{◌≡◌, ℕ, zero, suc, ◌+◌, ◌<◌, ◌≤◌, ◌==◌, ◌&&◌, ltb, cond, Bool, true, false, List, [], ◌∷◌, ◌++◌, length, refl, sym, ap, ◌∙◌, arith}
+use Rattle.std.proofs.Common.{◌≡◌, ℕ, zero, suc, ◌+◌, ◌<◌, ◌≤◌, ◌==◌, ◌&&◌, ltb, cond, Bool, true, false, List, [], ◌∷◌, ◌++◌, length, refl, sym, ap, arith}
 use Rattle.std.specs.Prelude.{Option, None, Some, Result, Ok, Err}
 use Rattle.std.specs.List.{list_all}
 use Rattle.record_codec.specs.Block.{Reading, Whole, Cut, Long, Differs, reading_of}
 use Rattle.record_codec.specs.BlockEntries.{entries_in}
-use Rattle.record_codec.specs.LogEntries.{Cause, LogRead, LogDamage, ended, after, told, found_in, belongs, of_version, entries_at, gated, behind_gate, log_from, log_of}
+use Rattle.record_codec.specs.LogEntries.{Cause, LogRead, LogDamage, ended, after, told, found_in, belongs, of_version, entries_at, gated, behind_gate, log_from}
 use Rattle.record_codec.specs.declared.block.TheConstants.{BLOCK_OVERHEAD}
 use Rattle.record_codec.specs.declared.entry.LogEntry.{LogEntry}
 use Rattle.record_codec.specs.declared.log.TheConstants.{OPEN_GATE}

@@ -1,5 +1,5 @@
 -- What a log's bytes say, by what is read of them.
-use Rattle.std.proofs.Common.{◌≡◌, ℕ, zero, suc, ◌+◌, ◌<◌, ◌≤◌, ◌==◌, ◌&&◌, ltb, cond, Bool, true, false, List, [], ◌∷◌, ◌++◌, length, length-append, take, drop, refl, sym, ap, subst, ◌∙◌, arith, eq-eqb}
+use Rattle.std.proofs.Common.{◌≡◌, ℕ, zero, suc, ◌+◌, ◌<◌, ◌≤◌, ◌==◌, ◌&&◌, cond, Bool, true, false, List, [], ◌∷◌, ◌++◌, length, length-append, take, drop, refl, sym, ap, subst, ◌∙◌, arith, eq-eqb}
 use Rattle.std.specs.Prelude.{IsTrue, Option, None, Some, Result, Ok, Err}
 use Rattle.std.proofs.lemmas.Bool.{and_parts, eqb-true, ltb-true, lt-ltb}
 use Rattle.std.proofs.lemmas.List.{length-take-le}
@@ -8,15 +8,13 @@ use Rattle.disk_trait.specs.declared.damage.Damage.{Damage}
 use Rattle.disk_trait.specs.declared.damage.Damage.TheVariants.{Form}
 use Rattle.disk_trait.specs.declared.file_name.FileKind.TheVariants.{Log}
 use Rattle.record_codec.specs.Block.{Reading, Whole, Cut, Long, Differs, reading_of}
-use Rattle.record_codec.specs.BlockEntries.{entries_in}
 use Rattle.record_codec.specs.Frames.{counts}
-use Rattle.record_codec.specs.LogEntries.{Cause, LogRead, LogDamage, ended, after, told, found_in, of_version, entries_at, gated, behind_gate, log_from, log_of, with_more}
+use Rattle.record_codec.specs.LogEntries.{Cause, LogRead, LogDamage, after, found_in, of_version, entries_at, gated, behind_gate, log_from, log_of, with_more}
 use Rattle.record_codec.specs.Version.{is_known}
-use Rattle.record_codec.specs.declared.block.TheConstants.{BLOCK_OVERHEAD}
 use Rattle.record_codec.specs.declared.entry.LogEntry.{LogEntry}
 use Rattle.record_codec.specs.declared.entry.LogEntry.TheVariants.{Begin, Session, Expire, SwapOut, SwapIn, Age}
 use Rattle.record_codec.specs.declared.log.TheConstants.{OPEN_GATE}
-use Rattle.record_codec.proofs.Blocks.{reading_of-longer, whole_fits}
+use Rattle.record_codec.proofs.Blocks.{reading_of-longer}
 use Rattle.record_codec.proofs.Logs.{opened}
 use Rattle.flowfile_wal.specs.Current.{CurrentLog, first_found, begun_by, version_begun, caused, log_read, log_by, log_begun, log_in}
 use Rattle.flowfile_wal.specs.Steps.{SameLog, with_block}

@@ -1,14 +1,11 @@
 -- What is in memory of a log, and the files that it stands for.
-use Rattle.std.proofs.Common.{◌≡◌, ℕ, ◌+◌, ◌<◌, ◌≤◌, true, List, [], ◌∷◌, length, refl, sym, ◌∙◌, ap, subst, arith}
-use Rattle.std.specs.Prelude.{IsTrue, Option, Some, Result, Ok}
+use Rattle.std.proofs.Common.{◌≡◌, ℕ, ◌+◌, ◌<◌, ◌≤◌, List, [], ◌∷◌, length, refl, sym, ◌∙◌, ap, subst, arith}
+use Rattle.std.specs.Prelude.{Option, Some, Ok}
 use Rattle.disk_trait.specs.Files.{Files, At, named}
-use Rattle.disk_trait.specs.declared.damage.Damage.{Damage}
 use Rattle.disk_trait.specs.declared.file_name.FileKind.TheVariants.{Log}
 use Rattle.record_codec.specs.Block.{block}
 use Rattle.record_codec.specs.EntryEncoding.{entry as encoding, kind_of}
-use Rattle.record_codec.specs.Frames.{begun_log}
-use Rattle.record_codec.specs.LogEntries.{LogRead, ended, told, found_in, with_more, log_of}
-use Rattle.record_codec.specs.BlockEntries.{entries_in}
+use Rattle.record_codec.specs.LogEntries.{ended, told, found_in, with_more, log_of}
 use Rattle.record_codec.specs.declared.block.TheConstants.{PAYLOAD_MAX}
 use Rattle.record_codec.specs.declared.entry.LogEntry.{LogEntry}
 use Rattle.record_codec.specs.declared.entry.LogEntry.TheVariants.{Begin}

@@ -1,5 +1,5 @@
 -- What a stop leaves of all files while the entries of a block are added to a log.
-use Rattle.std.proofs.Common.{◌≡◌, ◌≢◌, ◌⊎◌, inl, inr, ⊎_elim, ℕ, ◌+◌, List, [], ◌∷◌, ◌++◌, length, take, sym, ◌∙◌, ap, subst}
+use Rattle.std.proofs.Common.{◌≡◌, ◌≢◌, ◌⊎◌, inl, inr, ⊎_elim, ℕ, ◌+◌, List, [], ◌∷◌, ◌++◌, length, take, ◌∙◌, ap, subst}
 use Rattle.disk_trait.specs.Files.{Files, At, Overwritten, Torn, named}
 use Rattle.disk_trait.specs.Images.{After, IsOnly, Since}
 use Rattle.disk_trait.specs.declared.file_name.FileName.{FileName}

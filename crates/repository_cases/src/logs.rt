@@ -1,5 +1,5 @@
 //! Cases of logs: one is begun, and an entry appended to it.
-ghost use Rattle.std.specs.Prelude.{◌≡◌, ◌<◌, ℕ, [], IsTrue, IfOk};
+ghost use Rattle.std.specs.Prelude.{◌≡◌, ◌<◌, ℕ, List, [], ◌∷◌, IsTrue, IfOk};
 ghost use Rattle.disk_trait.specs.declared.file_name.FileName.{FileName as TheName};
 ghost use Rattle.flowfile_wal.specs.Steps.{IsFrame};
 ghost use Rattle.record_codec.specs.declared.entry.LogEntry.{LogEntry as Entry};
@@ -46,7 +46,7 @@ fn put_loaded(out: &mut String, alloc: Global, disk: &mut MemoryDisk, moment: u6
 // The block of a batch that is swapped in, with a closed gate behind it.
 fn frame_of(alloc: Global, batch: u64) -> Result<Vec<u8>, AllocError>
     requires { batch < NUMBER_LIMIT }
-    ensures { IfOk result (λ frame. IsFrame (SwapIn 0 batch) frame.items) }
+    ensures { IfOk result (λ frame. IsFrame FORMAT_VERSION (SwapIn 0 batch ∷ []) frame.items) }
 {
     let entry = LogEntry::SwapIn {
         connection: 0,
@@ -67,7 +67,7 @@ fn begun_and_appended<D: Disk>(
     frame: &[u8],
 ) -> Result<u64, &'static str>
     requires empty { IsTrue D.tells → (file : TheName) → D.held disk.old file ≡ [] }
-    requires frame { (entry : Entry) × IsFrame entry frame.now }
+    requires frame { (entries : List Entry) × IsFrame FORMAT_VERSION entries frame.now }
 {
     let Ok(()) = disk.sync() else {
         return Err("sync");
@@ -80,7 +80,7 @@ fn begun_and_appended<D: Disk>(
         return Err("begin");
     };
     logs_that_were_begun();
-    log.begun(disk, 1);
+    log.begun(disk, FORMAT_VERSION, 1);
     let Ok(moment) = log.append(disk, frame) else {
         return Err("append");
     };

@@ -8,7 +8,8 @@ use Rattle.disk_trait.specs.declared.file_name.FileKind.TheVariants.{Log}
 use Rattle.disk_trait.proofs.Search.{greatest_none}
 use Rattle.flowfile_record.specs.declared.limits.TheConstants.{STORE_LIMIT}
 use Rattle.flowfile_record.specs.declared.content.ContentRef.{ContentRef}
-use Rattle.flowfile_wal.specs.Current.{counts, current_number}
+use Rattle.record_codec.specs.Frames.{counts}
+use Rattle.flowfile_wal.specs.Current.{current_number}
 use Rattle.content_repo.specs.Claims.{content_in}
 use Rattle.machine_model.specs.State.{QueuedFile, State}
 use Rattle.machine_model.specs.Valid.{new_state}

@@ -5,7 +5,8 @@ use Rattle.disk_trait.specs.Files.{Files, named}
 use Rattle.disk_trait.specs.declared.file_name.FileKind.TheVariants.{Log, Snapshot, Claim, Events}
 use Rattle.disk_trait.specs.declared.file_name.FileName.{FileName}
 use Rattle.checkpoint_store.specs.Snapshot.{snapshot_file}
-use Rattle.flowfile_wal.specs.Current.{current_log, log_in, log_of_number, of_some, counts, current_number}
+use Rattle.record_codec.specs.Frames.{counts}
+use Rattle.flowfile_wal.specs.Current.{current_log, log_in, log_of_number, of_some, current_number}
 use Rattle.flowfile_wal.specs.Steps.{EndsClosed}
 use Rattle.flowfile_wal.proofs.Files.{same_number}
 use Rattle.prov_store.specs.Events.{events_file}

@@ -8,7 +8,7 @@ use Rattle.disk_trait.specs.Images.{After, Since}
 use Rattle.disk_trait.specs.declared.file_name.FileKind.TheVariants.{Log, Snapshot, Swap}
 use Rattle.disk_trait.proofs.Moments.{wider, step_after_step}
 use Rattle.record_codec.specs.declared.log.TheConstants.{OPEN_GATE}
-use Rattle.flowfile_wal.specs.Current.{counts}
+use Rattle.record_codec.specs.Frames.{counts}
 use Rattle.store_core.specs.declared.discard.Spared.TheVariants.{UpTo, Only}
 use Rattle.store_core.specs.Discard.{spares, CutsKind, HasCut, HasNoOthers, IsAbove, Discards}
 use Rattle.store_core.proofs.Cutting.{shortened_same, shortened_in_turn, shortened_to_none}

@@ -8,7 +8,8 @@ use Rattle.flowfile_record.specs.declared.content.ContentRef.{ContentRef}
 use Rattle.checkpoint_store.specs.Snapshot.{snapshot_file}
 use Rattle.content_repo.specs.Claims.{claim}
 use Rattle.content_repo.specs.Slots.{end_of}
-use Rattle.flowfile_wal.specs.Current.{current_log, log_in, log_of_number, of_some, counts, current_number}
+use Rattle.record_codec.specs.Frames.{counts}
+use Rattle.flowfile_wal.specs.Current.{current_log, log_in, log_of_number, of_some, current_number}
 use Rattle.flowfile_wal.specs.Steps.{EndsClosed}
 use Rattle.flowfile_wal.proofs.Files.{same_number}
 use Rattle.store_core.specs.Agreement.{SameContent}

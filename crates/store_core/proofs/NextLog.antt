@@ -12,13 +12,13 @@ use Rattle.flowfile_record.specs.Stored.{Kept}
 use Rattle.flowfile_record.specs.declared.stored.SwapBatch.{SwapBatch}
 use Rattle.record_codec.specs.declared.TheConstants.{FORMAT_VERSION}
 use Rattle.record_codec.specs.declared.log.TheConstants.{OPEN_GATE}
-use Rattle.record_codec.specs.Frames.{IsPassedOver}
+use Rattle.record_codec.specs.Frames.{counts, IsPassedOver}
 use Rattle.checkpoint_store.specs.Begun.{IsBegunOrNot, MayBegin, log_file}
 use Rattle.checkpoint_store.specs.Consistent.{IsConsistent}
 use Rattle.checkpoint_store.specs.Reading.{snapshot_of}
 use Rattle.checkpoint_store.specs.Snapshot.{snapshot, snapshot_file}
 use Rattle.checkpoint_store.proofs.ReadBack.{read_back}
-use Rattle.flowfile_wal.specs.Current.{CurrentLog, counts, current_log, current_number, log_in, log_of_number, of_some}
+use Rattle.flowfile_wal.specs.Current.{CurrentLog, current_log, current_number, log_in, log_of_number, of_some}
 use Rattle.flowfile_wal.specs.Steps.{LogState, IsClosedIn, IsReadyIn}
 use Rattle.flowfile_wal.proofs.Beginnings.{begun_in}
 use Rattle.flowfile_wal.proofs.States.{begun_ready}

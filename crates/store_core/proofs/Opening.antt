@@ -17,7 +17,8 @@ use Rattle.flowfile_record.specs.declared.event.Event.{Event}
 use Rattle.checkpoint_store.specs.Snapshot.{snapshot_file}
 use Rattle.content_repo.specs.Claims.{claim, content_in, OnClaims, ShortenedTo}
 use Rattle.content_repo.specs.Slots.{end_of, covered}
-use Rattle.flowfile_wal.specs.Current.{CurrentLog, counts, log_in, of_some, log_of_number, current_log, current_number}
+use Rattle.record_codec.specs.Frames.{counts}
+use Rattle.flowfile_wal.specs.Current.{CurrentLog, log_in, of_some, log_of_number, current_log, current_number}
 use Rattle.flowfile_wal.specs.Steps.{LogState, IsReadyIn, EndsClosed}
 use Rattle.flowfile_wal.proofs.Files.{same_number}
 use Rattle.kept_state.specs.Applied.{batches_that_matter}

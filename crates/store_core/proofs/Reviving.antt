@@ -13,13 +13,13 @@ use Rattle.disk_trait.proofs.Search.{greatest_found, greatest_is, greatest_none}
 use Rattle.flowfile_record.specs.Stored.{Kept}
 use Rattle.flowfile_record.specs.declared.content.ContentRef.{ContentRef}
 use Rattle.record_codec.specs.declared.log.TheConstants.{OPEN_GATE}
-use Rattle.record_codec.specs.Frames.{IsPassedOver, begun_log}
+use Rattle.record_codec.specs.Frames.{counts, IsPassedOver, begun_log}
 use Rattle.record_codec.specs.declared.TheConstants.{FORMAT_VERSION}
 use Rattle.checkpoint_store.specs.Begun.{log_file}
 use Rattle.checkpoint_store.specs.Snapshot.{snapshot, snapshot_file}
 use Rattle.content_repo.specs.Claims.{claim}
 use Rattle.content_repo.specs.Slots.{end_of}
-use Rattle.flowfile_wal.specs.Current.{counts, current_number, current_log, log_in, of_some, log_of_number}
+use Rattle.flowfile_wal.specs.Current.{current_number, current_log, log_in, of_some, log_of_number}
 use Rattle.flowfile_wal.specs.Steps.{LogState, SameLog, IsReadyIn, EndsClosed}
 use Rattle.flowfile_wal.proofs.Files.{alike, current_is}
 use Rattle.prov_store.specs.Events.{events_file}

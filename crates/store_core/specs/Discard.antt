@@ -4,7 +4,7 @@ use Rattle.disk_trait.specs.Files.{Files, Shortened, named}
 use Rattle.disk_trait.specs.declared.file_name.FileKind.{FileKind}
 use Rattle.disk_trait.specs.declared.file_name.FileKind.TheVariants.{Log, Snapshot, Swap, Claim, Events}
 use Rattle.disk_trait.specs.declared.file_name.FileName.{FileName}
-use Rattle.flowfile_wal.specs.Current.{counts}
+use Rattle.record_codec.specs.Frames.{counts}
 use Rattle.store_core.specs.declared.discard.Spared.{Spared}
 use Rattle.store_core.specs.declared.discard.Spared.TheVariants.{UpTo, Only}
 

@@ -51,7 +51,7 @@ impl Store {
             self.has_failed = error == StoreError::Disk;
             return Err(error);
         }
-        self.log.begun(disk, number + 1);
+        self.log.begun(disk, FORMAT_VERSION, number + 1);
         self.entries = 0;
         let Ok(()) = drop_log(disk, number) else {
             self.has_failed = true;

@@ -141,7 +141,7 @@ fn make<D: Disk>(
     discard(alloc, disk, None)?;
     checkpoint_store::write(alloc, disk, FIRST_LOG, FORMAT_VERSION, stored)?;
     checkpoint_store::begin(disk, FIRST_LOG, FORMAT_VERSION)?;
-    log.begun(disk, FIRST_LOG);
+    log.begun(disk, FORMAT_VERSION, FIRST_LOG);
     Ok(())
 }
 

@@ -3,7 +3,7 @@ use Rattle.disk_trait.specs.Files.{named}
 use Rattle.disk_trait.specs.Images.{Stays}
 use Rattle.disk_trait.specs.declared.file_name.FileKind.TheVariants.{Log}
 use Rattle.flowfile_wal.specs.Calls.{HaveEncodings}
-use Rattle.flowfile_wal.specs.Reads.{HasFirstBlock, LogIsReadTo}
+use Rattle.flowfile_wal.specs.Reads.{LogIsReadTo}
 use Rattle.flowfile_wal.proofs.read.read_log.Given as goal
 
 abbrev pub invariant-loop-entries : goal.invariant-loop-entries

@@ -1,8 +1,10 @@
-use Rattle.std.proofs.Common.{◌≡◌, ℕ, List, [], ◌∷◌, ◌++◌, length, ap, ◌∙◌, arith}
+use Rattle.std.proofs.Common.{◌≡◌, ℕ, List, [], ◌∷◌, ◌++◌, length, refl, ap, ◌∙◌, arith}
 use Rattle.record_codec.specs.Block.{block}
 use Rattle.record_codec.specs.EntryEncoding.{entry as encoding}
+use Rattle.record_codec.specs.declared.TheConstants.{FORMAT_VERSION}
 use Rattle.record_codec.specs.declared.entry.LogEntry.TheVariants.{SwapIn}
 use Rattle.record_codec.specs.declared.log.TheConstants.{CLOSED_GATE}
+use Rattle.flowfile_wal.proofs.OneEntry.{one_framed}
 use Rattle.repository_cases.proofs.CaseLogs.{swap_in_length}
 use Rattle.repository_cases.proofs.logs.frame_of.Goals as goal
 
@@ -18,9 +20,5 @@ returns c =
     let kind : c.kind.result ≡ 5 = c.kind.ensures in
     let framed : c.append_block.new.out.items ≡ block 5 (encoding entry) =
     c.in_ok-append_block.ensures.ok ∙ ap (λ (l : List ℕ). l ++ block c.kind.result c.as_slice.result.now) c.new-frame.ensures.items ∙ ap (λ (k : ℕ). block k c.as_slice.result.now) kind ∙ ap (block 5) payload in
-    record {
-      encodes = (omega arith, c.requires);
-      small = omega (arith, swap_in_length 0 c.args.batch);
-      later = λ same. absurd (omega (arith, same));
-      is = c.in_ok-push.ensures.items ∙ ap (λ (l : List ℕ). l ++ CLOSED_GATE ∷ []) framed;
-    }
+    one_framed FORMAT_VERSION entry c.push.new.self.items (omega arith, c.requires) (omega (arith, swap_in_length 0 c.args.batch)) (λ same. absurd (omega (arith, same))) refl
+    (c.in_ok-push.ensures.items ∙ ap (λ (l : List ℕ). l ++ CLOSED_GATE ∷ []) framed)

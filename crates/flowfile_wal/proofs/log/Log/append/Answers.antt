@@ -1,8 +1,8 @@
 use Rattle.std.proofs.Common.{◌≡◌, ◌+◌, ℕ, length, ◌∙◌, refl, sym, ap, subst}
 use Rattle.std.specs.Prelude.{Some}
 use Rattle.disk_trait.specs.Images.{Since}
-use Rattle.flowfile_wal.specs.Calls.{RestInEach, WithOrWithout, InEach}
-use Rattle.flowfile_wal.specs.Steps.{LogState, IsReadyIn, AddsEntries}
+use Rattle.flowfile_wal.specs.Calls.{WithOrWithout, InEach}
+use Rattle.flowfile_wal.specs.Steps.{LogState, AddsEntries}
 use Rattle.flowfile_wal.proofs.States.{gate_there, rest_in_each, ready_more}
 use Rattle.flowfile_wal.proofs.log.Log.append.Goals as goal
 
