@@ -9,7 +9,8 @@ use Rattle.std.specs.Int.{w16, w32, w64, to_be_bytes}
 use Rattle.std.specs.List.{flat_map}
 use Rattle.flowfile_record.specs.Encoding.{IsDigest, IsNumber, IsText, text}
 use Rattle.record_codec.specs.StoreHead.{IsHead}
-use Rattle.record_codec.proofs.Sizes.{head_size}
+use Rattle.record_codec.specs.declared.TheConstants.{FORMAT_VERSION}
+use Rattle.record_codec.proofs.StoreHeads.{head_size}
 use Rattle.checkpoint_store.specs.Consistent.{IsConsistent, IsBatchIn, IsFileIn}
 use Rattle.checkpoint_store.specs.Snapshot.{head_in}
 use Rattle.store_core.specs.Flow.{Flow}
@@ -19,31 +20,34 @@ module _ (digest name : List ℕ) (lot : ℕ) (is_digest : IsDigest digest) (is_
   abbrev pub one_connection : Flow
   one_connection = record { digest = digest; connections = name ∷ []; processors = 0 }
 
-  has_head : IsHead (head_in (kept_anew one_connection lot))
+  has_head : IsHead (head_in FORMAT_VERSION (kept_anew one_connection lot))
   has_head = record {
+    version = refl;
     store = mod-lt lot (omega arith);
     flow = is_digest;
     connections = (omega arith, All-cons IsText name [] is_text (All-nil IsText));
-    processors = refl;
+    processors = (omega arith, All-nil IsText);
     counts = (omega arith, All-nil IsNumber);
     next_number = omega arith;
     next_arrival = omega arith;
     last_event = omega arith;
-    line = refl;
+    line = (refl, omega arith);
     next_batch = omega arith;
+    first = λ first. (refl, refl);
   }
 
   pub anew_agrees : IsConsistent (kept_anew one_connection lot)
   anew_agrees = record {
     encoded = has_head;
     head_size =
-        let size = head_size (head_in (kept_anew one_connection lot)) is_digest in
+        let size = head_size (head_in FORMAT_VERSION (kept_anew one_connection lot)) is_digest in
         let named = length-append (to_be_bytes w16 (length name)) name in
         let one : length (flat_map text (name ∷ [])) ≡ length (text name) + 0 = ap length (flat_map-cons text name []) ∙ length-append (text name) [] in
         let texts_are = length-append (to_be_bytes w32 1) (flat_map text (name ∷ [])) in
         let counts_are = length-append (to_be_bytes w32 0) (flat_map (to_be_bytes w64) []) in
         let short = is_text.0 in
         omega (arith, size, named, one, texts_are, counts_are, short);
+    counts = λ second. absurd cc;
     connections = (All-nil _, tt);
     counters = record { next_number = omega arith; next_arrival = omega arith; next_batch = omega arith };
     files = All-nil (IsFileIn (kept_anew one_connection lot));

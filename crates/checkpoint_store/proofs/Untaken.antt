@@ -5,7 +5,7 @@ use Rattle.std.proofs.lemmas.Bool.{cases_lt, ltb-false, le-ltb, eqb-true, and_pa
 use Rattle.std.proofs.lemmas.Bool.Decides.{nat_tests}
 use Rattle.std.proofs.lemmas.List.{length-drop, length-take, take-take, take_all}
 use Rattle.flowfile_record.specs.Field.{IsBytes}
-use Rattle.flowfile_record.specs.Reading.{Reading, ◌>>=◌, ◌then◌, made, such, whole, byte_at, uint_at, raw_at, number_at, first_at, text_at, numbers_at}
+use Rattle.flowfile_record.specs.Reading.{Reading, ◌>>=◌, ◌then◌, made, such, whole, byte_at, uint_at, raw_at, number_at, first_at, text_at}
 use Rattle.flowfile_record.specs.Stored.{Kept}
 use Rattle.flowfile_record.specs.declared.error.CodecError.{CodecError}
 use Rattle.flowfile_record.specs.declared.error.CodecError.TheVariants as codec

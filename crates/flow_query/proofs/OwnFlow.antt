@@ -7,7 +7,7 @@ use Rattle.disk_trait.specs.Files.{Files}
 use Rattle.disk_trait.specs.declared.damage.Damage.{Damage}
 use Rattle.disk_trait.specs.declared.damage.Damage.TheVariants.{Form}
 use Rattle.disk_trait.specs.declared.file_name.FileName.{FileName}
-use Rattle.flowfile_record.specs.Reading.{Reading, ◌then◌, ◌>>=◌, whole, raw_at, number_at, numbers_at}
+use Rattle.flowfile_record.specs.Reading.{◌>>=◌, whole, raw_at, number_at, numbers_at}
 use Rattle.flowfile_record.specs.Stored.{Kept}
 use Rattle.flowfile_record.specs.declared.limits.TheConstants.{DIGEST_SIZE}
 use Rattle.flowfile_record.specs.declared.stored.ActiveFile.{ActiveFile}
@@ -17,9 +17,10 @@ use Rattle.record_codec.specs.ActiveFile.{active_file_at}
 use Rattle.record_codec.specs.Block.{Reading as Block, Whole, Cut, Long, Differs, reading_of}
 use Rattle.record_codec.specs.Snapshot.{kind_code}
 use Rattle.record_codec.specs.SnapshotReading.{batch_at, ending_at}
-use Rattle.record_codec.specs.StoreHeadReading.{head_at, store_at}
+use Rattle.record_codec.specs.StoreHeadReading.{head_at, store_at, processors_at, line_at}
 use Rattle.record_codec.specs.Texts.{texts_at}
 use Rattle.record_codec.specs.Version.{version_at}
+use Rattle.record_codec.specs.declared.TheConstants.{FORMAT_VERSION}
 use Rattle.record_codec.specs.declared.block.TheConstants.{BLOCK_OVERHEAD}
 use Rattle.record_codec.specs.declared.head.Head.{Head}
 use Rattle.record_codec.specs.declared.snapshot.SnapshotKind.TheVariants as kinds
@@ -52,19 +53,11 @@ kept_is k = Ok k
 kept_inj : (k l : Kept) → kept_is k ≡ kept_is l → k ≡ l
 kept_inj k l is = cc
 
--- two fields that were read, one behind the other
-record Both {A B : Type 0} (first : Reading A) (second : Reading B) (bytes : List ℕ) (x : (A × B) × List ℕ) : Type 0 where
-  one : A × List ℕ
-  other : B × List ℕ
-  first_is : first bytes ≡ read one
-  second_is : second one.1 ≡ read other
-  is : ((one.0, other.0), other.1) ≡ x
-
-both_of : {A B : Type 0} (first : Reading A) (second : Reading B) (bytes : List ℕ) (x : (A × B) × List ℕ) → (first then second) bytes ≡ read x → Both first second bytes x
-both_of {A} {B} first second bytes x is =
-    let one = bind_ok (first bytes) (λ (a : A × List ℕ). second a.1 >>= (λ (b : B × List ℕ). read ((a.0, b.0), b.1))) x is in
-    let other = bind_ok (second one.0.1) (λ (b : B × List ℕ). read ((one.0.0, b.0), b.1)) x one.2 in
-    record { one = one.0; other = other.0; first_is = one.1; second_is = other.1; is = ok_is ((one.0.0, other.0.0), other.0.1) x other.2 }
+-- a field that was read, for what follows it
+after_field : {A B : Type 0} (r : Result A ℕ) (f : A → Result B ℕ) (y : B) (Goal : Type 0) → (r >>= f) ≡ read y → ((a : A) → r ≡ read a → f a ≡ read y → Goal) → Goal
+after_field r f y Goal is follows =
+    let a = bind_ok r f y is in
+    follows a.0 a.1 a.2
 
 raw_long : (size : ℕ) (bytes : List ℕ) (x : List ℕ × List ℕ) → raw_at size bytes ≡ read x → length x.0 ≡ size
 unfolding raw_at
@@ -72,41 +65,24 @@ raw_long size bytes x is =
     let fits = guard_fails (nat_lt (length bytes) size) (length bytes) (take size bytes, drop size bytes) x is in
     ap (λ (p : List ℕ × List ℕ). length p.0) (sym fits.1) ∙ length-take-le size bytes (ltb-false (length bytes) size fits.0)
 
-abbrev lists_at : Reading (List (List ℕ) × (List ℕ × (ℕ × (ℕ × (ℕ × ℕ)))))
-lists_at = texts_at then numbers_at then number_at then number_at then number_at then number_at
-
-abbrev front_at : Reading (ℕ × (ℕ × (List ℕ × (List (List ℕ) × (List ℕ × (ℕ × (ℕ × (ℕ × ℕ))))))))
-front_at = version_at then store_at then raw_at DIGEST_SIZE then lists_at
-
-front_long : (payload : List ℕ) (x : (ℕ × (ℕ × (List ℕ × (List (List ℕ) × (List ℕ × (ℕ × (ℕ × (ℕ × ℕ)))))))) × List ℕ) → front_at payload ≡ read x → length x.0.1.1.0 ≡ DIGEST_SIZE
-front_long payload x is =
-    let version = both_of version_at (store_at then raw_at DIGEST_SIZE then lists_at) payload x is in
-    let store = both_of store_at (raw_at DIGEST_SIZE then lists_at) version.one.1 version.other version.second_is in
-    let digest = both_of (raw_at DIGEST_SIZE) lists_at store.one.1 store.other store.second_is in
-    ap (λ (y : (ℕ × (ℕ × (List ℕ × (List (List ℕ) × (List ℕ × (ℕ × (ℕ × (ℕ × ℕ)))))))) × List ℕ). length y.0.1.1.0) (sym version.is)
-    ∙ ap (λ (y : (ℕ × (List ℕ × (List (List ℕ) × (List ℕ × (ℕ × (ℕ × (ℕ × ℕ))))))) × List ℕ). length y.0.1.0) (sym store.is)
-    ∙ ap (λ (y : (List ℕ × (List (List ℕ) × (List ℕ × (ℕ × (ℕ × (ℕ × ℕ)))))) × List ℕ). length y.0.0) (sym digest.is)
-    ∙ raw_long DIGEST_SIZE store.one.1 digest.one digest.first_is
-
-abbrev head_of : ℕ × (ℕ × (List ℕ × (List (List ℕ) × (List ℕ × (ℕ × (ℕ × (ℕ × ℕ))))))) → Head
-head_of h = record {
-  store = h.1.0;
-  flow = h.1.1.0;
-  connections = h.1.1.1.0;
-  processors = [];
-  counts = h.1.1.1.1.0;
-  next_number = h.1.1.1.1.1.0;
-  next_arrival = h.1.1.1.1.1.1.0;
-  last_event = h.1.1.1.1.1.1.1.0;
-  line = 0;
-  next_batch = h.1.1.1.1.1.1.1.1;
-}
-
 head_long : (payload : List ℕ) (x : Head × List ℕ) → head_at payload ≡ read x → length x.0.flow ≡ DIGEST_SIZE
 unfolding head_at
 head_long payload x is =
-    let fields = bind_ok (front_at payload) (λ (a : (ℕ × (ℕ × (List ℕ × (List (List ℕ) × (List ℕ × (ℕ × (ℕ × (ℕ × ℕ)))))))) × List ℕ). read (head_of a.0, a.1)) x is in
-    ap (λ (y : Head × List ℕ). length y.0.flow) (sym (ok_is (head_of fields.0.0, fields.0.1) x fields.2)) ∙ front_long payload fields.0 fields.1
+    after_field (version_at payload) _ x Goal is (λ version v is.
+    after_field (store_at version.1) _ x Goal is (λ store s is.
+    after_field (raw_at DIGEST_SIZE store.1) _ x Goal is (λ flow digest is.
+    after_field (texts_at flow.1) _ x Goal is (λ connections c is.
+    after_field (processors_at version.0 connections.1) _ x Goal is (λ processors p is.
+    after_field (numbers_at processors.1) _ x Goal is (λ counts n is.
+    after_field (number_at counts.1) _ x Goal is (λ next_number a is.
+    after_field (number_at next_number.1) _ x Goal is (λ next_arrival b is.
+    after_field (number_at next_arrival.1) _ x Goal is (λ last_event l is.
+    after_field (line_at version.0 last_event.0 last_event.1) _ x Goal is (λ line m is.
+    after_field (number_at line.1) _ x Goal is (λ next_batch o is.
+      ap (λ (y : Head × List ℕ). length y.0.flow) (sym (ok_is _ x is)) ∙ raw_long DIGEST_SIZE store.1 flow digest)))))))))))
+  where
+    Goal : Type 0
+    Goal = length x.0.flow ≡ DIGEST_SIZE
 
 whole_long : (payload : List ℕ) (h : Head) → whole head_at payload ≡ read h → length h.flow ≡ DIGEST_SIZE
 whole_long payload h is =
@@ -124,16 +100,16 @@ one_of : {A : Type 0} (test : Bool) (x y : Option A) (z : A) → cond test x y �
 one_of true x y z is = inl is
 one_of false x y z is = inr is
 
-head_named : (r : Result Head ℕ) (k : Kept) → head_next r ≡ Some k → (h : Head) × (r ≡ read h) × (k.flow ≡ h.flow)
+head_named : (r : Result Head ℕ) (k : Kept) → head_next FORMAT_VERSION r ≡ Some k → (h : Head) × (r ≡ read h) × (k.flow ≡ h.flow)
 head_named (Ok h) k is = (h, refl, ap (λ (x : Kept). x.flow) (sym (some_if _ (kept_of_head h) k is)))
 head_named (Err left) k is = absurd cc
 
 abbrev no_kept : Option Kept
 no_kept = None
 
-first_long : (kind : ℕ) (payload : List ℕ) (k : Kept) → first_block_kept kind payload ≡ Some k → length k.flow ≡ DIGEST_SIZE
+first_long : (kind : ℕ) (payload : List ℕ) (k : Kept) → first_block_kept FORMAT_VERSION kind payload ≡ Some k → length k.flow ≡ DIGEST_SIZE
 first_long kind payload k is =
-    elim (one_of _ (head_next (whole head_at payload)) no_kept k is) [
+    elim (one_of _ (head_next FORMAT_VERSION (whole head_at payload)) no_kept k is) [
       | inl head ↦ let named = head_named (whole head_at payload) k head in ap length named.2 ∙ whole_long payload named.0 named.1
       | inr none ↦ absurd cc
     ]
@@ -210,9 +186,9 @@ blocks_same (suc most) file at k bytes found is =
     let block = says_of file at (next_in k) (reading_of bytes) (λ next size. go_on k size (λ more n. blocks_from most file (at + n) more (drop n bytes)) next) found is in
     block_same most file at k bytes found (λ size more rest. blocks_same most file (at + size) more (drop size bytes) found rest) block.value block.kind block.size block.payload block.is block.follows
 
-snapshot_long : (file : FileName) (bytes : List ℕ) (k : Kept) → snapshot_of file bytes ≡ kept_is k → length k.flow ≡ DIGEST_SIZE
+snapshot_long : (file : FileName) (bytes : List ℕ) (k : Kept) → snapshot_of FORMAT_VERSION file bytes ≡ kept_is k → length k.flow ≡ DIGEST_SIZE
 snapshot_long file bytes k is =
-    let head = says_of file 0 first_block_kept (reading_of bytes) (λ first size. blocks_from (suc (length bytes)) file size first (drop size bytes)) k is in
+    let head = says_of file 0 (first_block_kept FORMAT_VERSION) (reading_of bytes) (λ first size. blocks_from (suc (length bytes)) file size first (drop size bytes)) k is in
     ap length (blocks_same (suc (length bytes)) file head.size head.value (drop head.size bytes) k head.follows) ∙ first_long head.kind head.payload head.value head.is
 
 -- ---- what is kept
@@ -228,7 +204,7 @@ agreed_of flow file (Err damage) k is = is
 snapshot_seen : (flow : Flow) (file : FileName) (bytes : List ℕ) (k : Kept) → snapshot_for flow file bytes ≡ kept_is k → snapshot_for no_flow file bytes ≡ kept_is k
 unfolding snapshot_for
 snapshot_seen flow file bytes k is =
-    let read_is = agreed_of flow file (snapshot_of file bytes) k is in
+    let read_is = agreed_of flow file (snapshot_of FORMAT_VERSION file bytes) k is in
     let long = snapshot_long file bytes k read_is in
     agreed_snapshot no_flow file bytes k read_is (agrees_with_no_flow k (omega (arith, long)))
 

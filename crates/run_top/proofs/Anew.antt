@@ -14,7 +14,8 @@ use Rattle.std.specs.List.{flat_map, list_all}
 use Rattle.std.specs.Prelude.{◌&&◌, ◌||◌, nat_lt, replicate, slice_get}
 use Rattle.flowfile_record.specs.Encoding.{IsDigest, IsNumber, IsText, text}
 use Rattle.record_codec.specs.StoreHead.{IsHead}
-use Rattle.record_codec.proofs.Sizes.{head_size}
+use Rattle.record_codec.specs.declared.TheConstants.{FORMAT_VERSION}
+use Rattle.record_codec.proofs.StoreHeads.{head_size}
 use Rattle.checkpoint_store.specs.Consistent.{AreDistinctBy, IsConsistent, IsBatchIn, IsFileIn}
 use Rattle.checkpoint_store.specs.Snapshot.{head_in}
 use Rattle.store_core.specs.Flow as store
@@ -118,23 +119,25 @@ module _ (flow : Flow) (lot : ℕ) (sound : IsSound flow) (digest : IsDigest flo
   abbrev counts : List ℕ
   counts = replicate (length flow.processors) 0
 
-  has_head : IsHead (head_in (kept_anew (identity_of flow) lot))
+  has_head : IsHead (head_in FORMAT_VERSION (kept_anew (identity_of flow) lot))
   has_head =
       let few = sound.connection_count in
       let some = sound.processor_count in
       let named = length-map flow.connections (λ (connection : Connection). connection.id) in
       let counted = length-replicate {A = ℕ} (length flow.processors) 0 in
       record {
+        version = refl;
         store = mod-lt lot (omega arith);
         flow = digest;
         connections = (omega (arith, few, named), are_texts flow flow.connections sound.connections);
-        processors = refl;
+        processors = (omega arith, All-nil IsText);
         counts = (omega (arith, some, counted), All-replicate IsNumber (length flow.processors) 0 (omega arith));
         next_number = omega arith;
         next_arrival = omega arith;
         last_event = omega arith;
-        line = refl;
+        line = (refl, omega arith);
         next_batch = omega arith;
+        first = λ first. (refl, refl);
       }
 
   pub new_is_consistent : IsConsistent (kept_anew (identity_of flow) lot)
@@ -143,12 +146,13 @@ module _ (flow : Flow) (lot : ℕ) (sound : IsSound flow) (digest : IsDigest flo
     head_size =
         let few = sound.connection_count in
         let some = sound.processor_count in
-        let size = head_size (head_in (kept_anew (identity_of flow) lot)) digest in
+        let size = head_size (head_in FORMAT_VERSION (kept_anew (identity_of flow) lot)) digest in
         let named = ids_size flow flow.connections sound.connections in
         let counted = counts_size (length flow.processors) in
         let texts_are = length-append (to_be_bytes w32 (length (ids flow.connections))) (flat_map text (ids flow.connections)) in
         let counts_are = length-append (to_be_bytes w32 (length counts)) (flat_map (to_be_bytes w64) counts) in
         omega (arith, few, some, size, named, counted, texts_are, counts_are);
+    counts = λ second. absurd cc;
     connections = are_distinct (ids flow.connections) sound.connection_ids;
     counters = record { next_number = omega arith; next_arrival = omega arith; next_batch = omega arith };
     files = All-nil (IsFileIn (kept_anew (identity_of flow) lot));

@@ -1,4 +1,4 @@
-use Rattle.std.proofs.Common.{◌≡◌, List, [], ℕ, length, ap, sym, subst, arith, rules}
+use Rattle.std.proofs.Common.{List, length, ap, sym, subst, arith, rules}
 use Rattle.flowfile_record.specs.declared.stored.ActiveFile.{ActiveFile}
 use Rattle.flowfile_record.specs.declared.stored.SwapBatch.{SwapBatch}
 use Rattle.record_codec.specs.Snapshot.{kind_code}
