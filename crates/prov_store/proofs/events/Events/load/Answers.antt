@@ -28,8 +28,8 @@ returns-in_err-read_file-clause-damaged g c damage is told =
     let inv = c.loop-number.invariant in
     let p = err_from_is_err_and c.from_residual.result c.from_residual.ensures.1 in
     let same : c.in_err-read_file.field-0.0 ≡ Damaged damage = cc (p.1, p.2, is) in
-    all_damaged c.loop-number.number c.args.end (g.D.Disk.held c.loop-number.disk) (g.D.Disk.held c.args.disk.now) damage inv.stays.files c.loop-number-test.true
-    (λ more. subst (λ (n : ℕ). events_of_files (c.loop-number.number + suc more) n 0 (g.D.Disk.held c.loop-number.disk) ≡ Err damage) inv.end
+    all_damaged c.loop-number.number c.args.line c.args.end (g.D.Disk.held c.loop-number.disk) (g.D.Disk.held c.args.disk.now) damage inv.stays.files c.loop-number-test.true
+    (λ more. subst (λ (n : ℕ). events_of_files (c.loop-number.number + suc more) LINE n 0 (g.D.Disk.held c.loop-number.disk) ≡ Err damage) inv.end
     (c.in_err-read_file.ensures.damaged damage (ap Err same) told more))
 
 pub invariant_of-result : goal.invariant_of-result
@@ -69,5 +69,5 @@ returns-in_err-read_file-clause-memory g c is told some =
 pub returns-in_err-find_later-clause-memory : goal.returns-in_err-find_later-clause-memory
 returns-in_err-find_later-clause-memory g c is told some =
     let inv = c.loop-number.invariant in
-    first_file_whole c.loop-number.number c.loop-number.loading.end (g.D.Disk.held c.args.disk.now) inv.loaded.events (inv.loaded.says told)
+    first_file_whole c.loop-number.number c.loop-number.loading.line c.loop-number.loading.end (g.D.Disk.held c.args.disk.now) inv.loaded.events (inv.loaded.says told)
     (omega (arith, c.loop-number-test.false)) (omega (arith, some, inv.end))
