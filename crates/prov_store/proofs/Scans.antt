@@ -158,15 +158,16 @@ found_between first last f n m events numbered fits to from below above =
 -- ---- event by event
 
 -- what is skipped next
-pub record Skip (files : Files) (start : Cursor) (i : ℕ) (cursor : Cursor) : Type 0 where
+pub record Skip (files : Files) (start : Cursor) (i : ℕ) (cursor : Cursor) (events : List Event) : Type 0 where
   pub event : Event
   pub size : ℕ
   pub there : event_there files cursor ≡ Ok (event, size)
   pub reaches : cursor.at + size ≡ start.at + blocks_size (i + 1) (bytes_there files start)
+  pub next : take (i + 1) events ≡ take i events ++ event ∷ []
 
 pub skip_one : (files : Files) (start : Cursor) (i many : ℕ) (cursor : Cursor) (events : List Event) → cursor ≡ record start { at = cursor.at; number = start.number + i }
     → cursor.at ≡ start.at + blocks_size i (bytes_there files start) → i < many → events_from many start.file start.at start.number (bytes_there files start) ≡ Ok events
-    → Skip files start i cursor
+    → Skip files start i cursor events
 skip_one files start i many cursor events is reaches lt all =
     let bytes = bytes_there files start in
     let split : many ≡ i + suc (many - i - 1) = omega (arith, lt) in
@@ -179,6 +180,11 @@ skip_one files start i many cursor events is reaches lt all =
       size = stands.0.1;
       there = sym (there_is files start i cursor is reaches (event_there files cursor) refl) ∙ stands.1;
       reaches = omega (arith, reaches, more.size);
+      next =
+          let longer : many ≡ i + 1 + (many - i - 1) = omega (arith, lt) in
+          let so_many = fewer_events (i + 1) (many - i - 1) start.file start.at start.number bytes events
+          (ap (λ (n : ℕ). events_from n start.file start.at start.number bytes) (sym longer) ∙ all) in
+          cc (so_many, more.says);
     }
 
 -- ---- one file

@@ -173,11 +173,11 @@ fn head_of(bytes: &[u8], have: u64) -> Option<EventHead>
     ensures none { result ≡ None → (head : TheHead) → IsHead bytes.now have head → ⊥ }
 {
     let header = &bytes[..HEADER_SIZE as usize];
-    match (
-        size_by_header(header, have),
-        EventKind::from_code(bytes[HEAD_SIZE as usize - 1]),
-    ) {
-        (Ok(size), Some(kind)) => Some(EventHead { kind, size }),
-        _ => None,
-    }
+    let Ok(size) = size_by_header(header, have) else {
+        return None;
+    };
+    let Some(kind) = EventKind::from_code(bytes[HEAD_SIZE as usize - 1]) else {
+        return None;
+    };
+    Some(EventHead { kind, size })
 }
