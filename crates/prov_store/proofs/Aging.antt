@@ -13,11 +13,11 @@ use Rattle.flowfile_record.specs.declared.event.Event.{Event}
 use Rattle.flowfile_record.specs.declared.event.EventKind.{EventKind}
 use Rattle.flowfile_record.specs.declared.limits.TheConstants.{EVENTS_PER_FILE}
 use Rattle.prov_store.specs.Aging.{AreUncounted}
-use Rattle.prov_store.specs.Events.{count_in, events_file, events_in, covered_bytes, covered_size}
+use Rattle.prov_store.specs.Events.{count_in, first_event, events_file, events_from, events_of_files, events_in, covered_bytes, covered_size}
 use Rattle.prov_store.specs.State.{EventsState, AreNumberedFrom, AreFewer, HasEvents, HasStale, EventsAreReady, IsEventLine, KeepsEvents, CutsStale, count_of_code, counts_of, files_between}
 use Rattle.prov_store.specs.declared.events.Stale.{Stale}
 use Rattle.prov_store.proofs.Counting.{code_within, count_at, of_both, of_one, one_or_none}
-use Rattle.prov_store.proofs.InFiles.{Past, past_line, last_numbered, counts_past, none_below, no_bytes, no_size, covered_as, covered_alike, size_alike}
+use Rattle.prov_store.proofs.InFiles.{Past, past_line, split_files, first_file, last_numbered, counts_past, none_below, no_bytes, no_size, covered_as, covered_alike, size_alike}
 use Rattle.prov_store.proofs.Keeping.{stale_files}
 use Rattle.prov_store.proofs.Listing.{as_stale, all_uncovered, files_of_uncovered, length-uncovered}
 
@@ -156,6 +156,24 @@ counts_left gone left old new long is counted =
     let place : code - 1 ≡ k = omega arith in
     let less = counted code (omega arith) (omega (arith, lt)) in
     omega (arith, ap (slice_index new) place, less, ap (λ (l : List ℕ). slice_index l (code - 1)) is, count_at code (gone ++ left) (omega arith) (omega (arith, lt)), of_both code gone left))
+
+-- one file more is gone
+pub one_file_gone : (line end k : ℕ) (files now : Files) (old before new : List ℕ) (gone : List Event) → events_of_files (k + 1) line end 0 files ≡ Ok gone
+    → count_in line end k ≡ EVENTS_PER_FILE → now (events_file k) ≡ files (events_file k)
+    → ((front : List Event) → events_of_files k line end 0 files ≡ Ok front → AreUncounted front old before)
+    → ((here : List Event) → events_from EVENTS_PER_FILE (events_file k) 0 (first_event k) (now (events_file k)) ≡ Ok here → AreUncounted here before new)
+    → AreUncounted gone old new
+one_file_gone line end k files now old before new gone is full same earlier last =
+    let s = split_files k 1 line end 0 files gone is in
+    let place : 0 + k ≡ k = omega arith in
+    let f = first_file 0 line end k files s.back (ap (λ (j : ℕ). events_of_files 1 line end j files) (sym place) ∙ s.behind) in
+    let none : f.later ≡ [] = cc f.behind in
+    let back : s.back ≡ f.here = f.both ∙ ap (λ (l : List Event). f.here ++ l) none ∙ append-nil f.here in
+    let here : events_from EVENTS_PER_FILE (events_file k) 0 (first_event k) (now (events_file k)) ≡ Ok f.here =
+    ap (events_from EVENTS_PER_FILE (events_file k) 0 (first_event k)) same
+    ∙ ap (λ (n : ℕ). events_from n (events_file k) 0 (first_event k) (files (events_file k))) (sym full) ∙ f.first in
+    subst (λ (l : List Event). AreUncounted l old new) (ap (λ (l : List Event). s.front ++ l) (sym back) ∙ sym s.both)
+    (uncounted_more s.front f.here old before new (earlier s.front s.first) (last f.here here))
 
 pub fewer_same : (old : List ℕ) → AreFewer old old
 fewer_same old = record { long = refl; fewer = λ i. omega arith }
