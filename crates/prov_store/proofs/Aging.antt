@@ -1,6 +1,6 @@
 -- Events up to a line are forgotten.
-use Rattle.std.proofs.Common.{◌≡◌, ◌≢◌, ◌⊎◌, inl, inr, ℕ, ◌+◌, ◌-◌, ◌*◌, ◌/◌, ◌%◌, ◌≤◌, ◌<◌, true, false, cond, List, [], ◌∷◌, ◌++◌, length, get_or, take, drop, refl, sym, ap, subst, ◌∙◌, arith}
-use Rattle.std.specs.Prelude.{Ok, All, Contains, ◌==◌, filter, nat_lt, map, slice_index, slice_set}
+use Rattle.std.proofs.Common.{◌≡◌, inl, inr, ℕ, ◌+◌, ◌-◌, ◌/◌, ◌%◌, ◌≤◌, ◌<◌, true, false, cond, List, [], ◌∷◌, ◌++◌, length, get_or, drop, refl, sym, ap, subst, ◌∙◌, arith}
+use Rattle.std.specs.Prelude.{Ok, All, Contains, ◌==◌, filter, nat_lt, slice_index, slice_set}
 use Rattle.std.specs.List.{range_with_len}
 use Rattle.std.proofs.lemmas.Bool.{cases_lt, cases_eq}
 use Rattle.std.proofs.lemmas.Bool.Decides.{nat_tests}
@@ -17,7 +17,7 @@ use Rattle.prov_store.specs.Events.{count_in, first_event, events_file, events_f
 use Rattle.prov_store.specs.State.{EventsState, AreNumberedFrom, AreFewer, HasEvents, HasStale, EventsAreReady, IsEventLine, KeepsEvents, CutsStale, count_of_code, counts_of, files_between}
 use Rattle.prov_store.specs.declared.events.Stale.{Stale}
 use Rattle.prov_store.proofs.Counting.{code_within, count_at, of_both, of_one, one_or_none}
-use Rattle.prov_store.proofs.InFiles.{Past, past_line, split_files, first_file, last_numbered, counts_past, none_below, no_bytes, no_size, covered_as, covered_alike, size_alike}
+use Rattle.prov_store.proofs.InFiles.{Past, past_line, split_files, first_file, last_numbered, counts_past, no_bytes, no_size, covered_as, covered_alike, size_alike}
 use Rattle.prov_store.proofs.Keeping.{stale_files}
 use Rattle.prov_store.proofs.Listing.{as_stale, all_uncovered, files_of_uncovered, length-uncovered}
 

@@ -1,10 +1,10 @@
 -- Files of events are read, event by event and file by file.
-use Rattle.std.proofs.Common.{◌≡◌, ℕ, suc, ◌+◌, ◌-◌, ◌*◌, ◌/◌, ◌≤◌, ◌<◌, Bool, IsTrue, inl, inr, List, [], ◌∷◌, ◌++◌, length, get_or, drop, sym, ap, subst, ◌∙◌, arith}
-use Rattle.std.specs.Prelude.{Result, Ok, Err, min, All, Contains}
+use Rattle.std.proofs.Common.{◌≡◌, ℕ, suc, ◌+◌, ◌-◌, ◌/◌, ◌≤◌, ◌<◌, Bool, IsTrue, inl, inr, List, [], ◌∷◌, ◌++◌, length, drop, sym, ap, subst, ◌∙◌, arith}
+use Rattle.std.specs.Prelude.{Result, Ok, Err, All, Contains}
 use Rattle.std.specs.List.{range_with_len}
 use Rattle.std.proofs.lemmas.Bool.{cases_lt}
 use Rattle.std.proofs.lemmas.List.{length-append, drop-drop, append-nil, take_all, map-append}
-use Rattle.std.proofs.lemmas.List.Elements.{All-push, All-append, Contains-append_left, Contains-append_right}
+use Rattle.std.proofs.lemmas.List.Elements.{All-push, Contains-append_left, Contains-append_right}
 use Rattle.disk_trait.proofs.FileLists.{contains_here}
 use Rattle.disk_trait.specs.Files.{Files}
 use Rattle.disk_trait.specs.declared.damage.Damage.{Damage}
@@ -19,7 +19,7 @@ use Rattle.prov_store.specs.declared.load.Loading.{Loading}
 use Rattle.prov_store.specs.declared.read.Cursor.{Cursor}
 use Rattle.flowfile_record.specs.declared.limits.TheConstants.{EVENTS_PER_FILE}
 use Rattle.prov_store.proofs.InFile.{read_of, with_first, events_behind, sizes_behind, size_of_first}
-use Rattle.prov_store.proofs.InFiles.{files_behind, no_size, range_both}
+use Rattle.prov_store.proofs.InFiles.{files_behind, range_both}
 use Rattle.prov_store.proofs.Counting.{counts_are}
 use Rattle.prov_store.proofs.Keeping.{stale_files}
 use Rattle.record_codec.specs.Block.{reading_of}

@@ -1,7 +1,6 @@
-use Rattle.std.proofs.Common.{◌≡◌, ℕ, suc, ◌+◌, ◌*◌, ◌≤◌, List, IsTrue, drop, refl, sym, ap, ◌∙◌, arith, rules}
+use Rattle.std.proofs.Common.{◌≡◌, ◌+◌, ◌*◌, List, IsTrue, ap, ◌∙◌, arith}
 use Rattle.std.specs.Prelude.{Ok}
 use Rattle.std.proofs.lemmas.Result.{on_ok_weaker}
-use Rattle.disk_trait.specs.Files.{Files}
 use Rattle.disk_trait.specs.Images.{next_moment}
 use Rattle.disk_trait.proofs.FileTables.{on_err}
 use Rattle.flowfile_record.specs.declared.event.Event.{Event}

@@ -1,4 +1,4 @@
-use Rattle.std.proofs.Common.{◌≡◌, ◌∙◌, refl, sym, arith}
+use Rattle.std.proofs.Common.{◌≡◌, ◌∙◌, sym, arith}
 use Rattle.prov_store.specs.Events.{count_in}
 use Rattle.prov_store.proofs.Aging.{later_keeps}
 use Rattle.prov_store.proofs.InFiles.{no_bytes}

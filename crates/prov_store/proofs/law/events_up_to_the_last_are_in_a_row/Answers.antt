@@ -1,4 +1,3 @@
-use Rattle.std.proofs.Common.{arith}
 use Rattle.prov_store.proofs.Aging.{past_in}
 use Rattle.prov_store.proofs.Encoded.{last_encoded}
 use Rattle.prov_store.proofs.InFiles.{last_numbered, none_past, fewer_in}

@@ -1,6 +1,5 @@
-use Rattle.std.proofs.Common.{◌≡◌, ℕ, ◌++◌, take}
-use Rattle.std.specs.Prelude.{nat_lt}
-use Rattle.prov_store.specs.Loading.{files_before, files_later}
+use Rattle.std.proofs.Common.{◌≡◌, ◌++◌, take}
+use Rattle.prov_store.specs.Loading.{files_later}
 use Rattle.prov_store.proofs.load.add_later.Given as goal
 
 abbrev pub invariant-loop-number : goal.invariant-loop-number

@@ -1,6 +1,6 @@
-use Rattle.std.proofs.Common.{◌≡◌, ◌-◌, None}
+use Rattle.std.proofs.Common.{◌-◌}
 use Rattle.std.specs.Prelude.{slice_index}
-use Rattle.prov_event.specs.EventReading.{all_kinds, of_code}
+use Rattle.prov_event.specs.EventReading.{all_kinds}
 use Rattle.prov_event.proofs.EventLaws.{none_is_found}
 use Rattle.prov_store.specs.declared.read.TheConstants.{HEAD_SIZE}
 use Rattle.prov_store.proofs.read.head_of.Goals as goal

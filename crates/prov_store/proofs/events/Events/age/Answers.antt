@@ -1,18 +1,16 @@
-use Rattle.std.proofs.Common.{◌≡◌, ℕ, ◌+◌, ◌-◌, ◌/◌, ◌%◌, ◌≤◌, ◌<◌, List, [], IsTrue, length, get_or, take, refl, sym, ap, subst, ◌∙◌, arith, rules}
-use Rattle.std.specs.Prelude.{Ok, All, Contains, filter, nat_lt}
+use Rattle.std.proofs.Common.{◌≡◌, ℕ, ◌+◌, ◌-◌, ◌/◌, ◌%◌, ◌≤◌, ◌<◌, List, [], length, get_or, refl, sym, ap, subst, ◌∙◌, arith}
+use Rattle.std.specs.Prelude.{Ok, Contains, filter, nat_lt}
 use Rattle.std.proofs.lemmas.List.{get_or_default}
-use Rattle.disk_trait.specs.Files.{Files, At, Shortened}
-use Rattle.disk_trait.specs.Images.{After, Since, next_moment, calls_later}
+use Rattle.disk_trait.specs.Images.{After, next_moment, calls_later}
 use Rattle.disk_trait.proofs.FileTables.{on_err}
 use Rattle.disk_trait.proofs.Moments.{one_call_more, more_calls, wider, nothing}
 use Rattle.disk_trait.specs.declared.file_name.FileName.{FileName}
 use Rattle.flowfile_record.specs.declared.event.Event.{Event}
 use Rattle.flowfile_record.specs.declared.limits.TheConstants.{EVENTS_PER_FILE}
 use Rattle.prov_store.specs.Aging.{AreUncounted}
-use Rattle.prov_store.specs.Events.{events_file, events_in, events_of_files}
-use Rattle.prov_store.specs.State.{EventsState, EventsAreReady, IsEventLine, HasNotAged, HasCalledAtMost, AreFewer, CutsStale, ChangesBy, counts_of, files_between}
-use Rattle.prov_store.specs.declared.events.Stale.{Stale}
-use Rattle.prov_store.proofs.Aging.{is_between, between_at, many_between, no_size_between, ages_keep, one_file_gone, uncounted_none, uncounted_more, counts_left, fewer_same, fewer_more, parted, aged, aged_has, aged_stale, left_past}
+use Rattle.prov_store.specs.Events.{events_file, events_of_files}
+use Rattle.prov_store.specs.State.{EventsState, EventsAreReady, IsEventLine, HasCalledAtMost, AreFewer, CutsStale, counts_of, files_between}
+use Rattle.prov_store.proofs.Aging.{is_between, between_at, many_between, no_size_between, ages_keep, one_file_gone, uncounted_none, counts_left, fewer_same, fewer_more, parted, aged, aged_has, aged_stale, left_past}
 use Rattle.prov_store.proofs.Cutting.{CutSoFar, SameSizes, cuts_nothing, none_cut, cuts_left, cut_more, cut_shortens, cuts_on, all_cut}
 use Rattle.prov_store.proofs.InFiles.{events_stay, none_of_files}
 use Rattle.prov_store.proofs.Keeping.{stale_files}

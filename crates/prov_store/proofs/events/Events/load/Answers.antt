@@ -1,4 +1,4 @@
-use Rattle.std.proofs.Common.{◌≡◌, ℕ, suc, ◌+◌, ◌/◌, ◌%◌, ◌<◌, refl, sym, ap, subst, ◌∙◌, arith, rules}
+use Rattle.std.proofs.Common.{◌≡◌, ℕ, suc, ◌+◌, ◌/◌, ◌%◌, refl, sym, ap, subst, ◌∙◌, arith, rules}
 use Rattle.std.specs.Prelude.{Err}
 use Rattle.std.proofs.lemmas.Result.{err_from_is_err_and}
 use Rattle.disk_trait.specs.Files.{Files}
@@ -6,7 +6,7 @@ use Rattle.prov_store.specs.Events.{events_file, events_of_files}
 use Rattle.prov_store.specs.Loading.{EventsAreLoaded, loaded_state}
 use Rattle.prov_store.specs.State.{AreLonger, EventsState, HasStale, IsEventLine}
 use Rattle.flowfile_record.specs.declared.limits.TheConstants.{EVENTS_PER_FILE}
-use Rattle.prov_store.specs.declared.error.EventsError.TheVariants.{Damaged, Memory}
+use Rattle.prov_store.specs.declared.error.EventsError.TheVariants.{Damaged}
 use Rattle.prov_store.proofs.Listing.{none_longer}
 use Rattle.prov_store.proofs.Loaded.{none_loaded, all_damaged, few_counted, has_events, same_stale}
 use Rattle.prov_store.proofs.Wholes.{first_file_whole}
