@@ -67,7 +67,7 @@ module _ (flow : Flow) (tells : Bool) {D : Type 0} (held : D → Files) (moment 
       holds = λ f c left. work.kept.holds f c (before c left);
       log = λ f c left. work.kept.log f c (before c left);
       sizes = λ f told. subst (HasSizes s.slots) (sym stays.files) (work.kept.sizes f told);
-      trimmed = λ f told. subst (IsTrimmed s.events.end) (sym stays.files) (work.kept.trimmed f told);
+      trimmed = λ f told. subst (IsTrimmed s.events.line s.events.end) (sym stays.files) (work.kept.trimmed f told);
     };
   }
     where
