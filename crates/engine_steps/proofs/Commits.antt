@@ -45,7 +45,7 @@ use Rattle.engine_steps.specs.declared.error.EngineError.{EngineError}
 module _ (flow : Flow) (tells : Bool) {D : Type 0} (held : D → Files) (moment : D → ℕ) (images : D → ℕ → Files → Type 0) where
   kept_roomy : (s t : StoreState) (room : ℕ) (disk : D) → t ≡ with_room room s → IsKeptOn tells held moment images s disk → IsKeptOn tells held moment images t disk
   kept_roomy s t room disk is kept = subst (λ (u : StoreState). IsKeptOn tells held moment images u disk) (sym is) (record {
-    holds = λ works c now. let h = kept.holds works c now in record { kept = h.kept; contents = h.contents; events = h.events };
+    holds = λ works c now. let h = kept.holds works c now in record { kept = h.kept; contents = h.contents; events = h.events; line = h.line };
     log = λ works c now. let l = kept.log works c now in record { ready = l.ready; entries = l.entries };
     sizes = kept.sizes;
     trimmed = kept.trimmed;

@@ -202,7 +202,7 @@ module _ {D : Type 0} (tells : Bool) (held : D → Files) (moment : D → ℕ) (
     holds = λ f c left.
         let after = at_the_end moment images old new (After (Renews s number) (images old (moment old))) since c left in
         let h = holds_renewed s number after.0 c after.2 (kept.holds unfailed after.0 after.1) in
-        record { kept = h.kept; contents = h.contents; events = h.events };
+        record { kept = h.kept; contents = h.contents; events = h.events; line = h.line };
     log = λ f c left.
         let after = at_the_end moment images mid new (Dropping moment images number mid) second c left in
         has_next_log s number c may (taken_dropped number (number + 1) (kept_by s) after.0 c (omega arith) (taken after.0 after.1) after.2);
@@ -220,7 +220,7 @@ kept_unless {D = D} tells held moment images s now failed old mid view unfailed 
     record {
       holds = λ f c left.
           let h = kept.holds unfailed c (subst (λ (d : D). images d (moment d) c) (same f) left) in
-          record { kept = h.kept; contents = h.contents; events = h.events };
+          record { kept = h.kept; contents = h.contents; events = h.events; line = h.line };
       log = λ f c left.
           let h = kept.log unfailed c (subst (λ (d : D). images d (moment d) c) (same f) left) in
           record { ready = h.ready; entries = h.entries };

@@ -42,7 +42,7 @@ working_let_go s slots works counts held sizes = record {
 pub kept_let_go : {D : Type 0} (tells : Bool) (held : D → Files) (moment : D → ℕ) (images : D → ℕ → Files → Type 0) (s : StoreState) (slots : List Slot) (disk : D) → ((k : ℕ) → size_of slots k ≡ size_of s.slots k)
     → IsKeptOn tells held moment images s disk → IsKeptOn tells held moment images (let_go s slots) disk
 kept_let_go tells held moment images s slots disk sizes kept = record {
-  holds = λ f c left. let h = kept.holds f c left in record { kept = h.kept; contents = h.contents; events = h.events };
+  holds = λ f c left. let h = kept.holds f c left in record { kept = h.kept; contents = h.contents; events = h.events; line = h.line };
   log = λ f c left. let h = kept.log f c left in record { ready = h.ready; entries = h.entries };
   sizes = λ f told k. kept.sizes f told k ∙ sym (sizes k);
   trimmed = kept.trimmed;
