@@ -12,7 +12,7 @@ use Rattle.flowfile_record.specs.declared.limits.TheConstants.{NUMBER_LIMIT}
 use Rattle.flowfile_record.proofs.FieldLaws.{bind_ok, guard_fails, guard_holds, ok_is}
 use Rattle.prov_event.specs.EventReading.{all_kinds, of_code, known, kind_at, counted_number_at, front_at, back_at, event_at}
 use Rattle.prov_event.specs.declared.TheConstants.{EVENT_KIND}
-use Rattle.prov_store.specs.Reading.{IsHead, IsThere, event_there}
+use Rattle.prov_store.specs.Reading.{IsEventHead, IsThere, event_there}
 use Rattle.prov_store.specs.declared.read.Cursor.{Cursor}
 use Rattle.prov_store.specs.declared.read.EventHead.{EventHead}
 use Rattle.prov_store.specs.declared.read.TheConstants.{HEAD_SIZE}
@@ -116,7 +116,7 @@ kind_stands payload e is =
 -- the event's kind and the block's size are told by its head
 pub head_is : (tells : Bool) (files : Files) (cursor : Cursor) (bytes : List ℕ) (have : ℕ) (event : Event) (size : ℕ) → IsThere tells files cursor → IsTrue tells
     → have ≡ cursor.size - cursor.at → bytes ≡ take HEAD_SIZE (drop cursor.at (files cursor.file)) → event_there files cursor ≡ Ok (event, size)
-    → IsHead bytes have (record { kind = event.kind; size = size })
+    → IsEventHead bytes have (record { kind = event.kind; size = size })
 head_is tells files cursor bytes have event size there told rest is found =
     let all = drop cursor.at (files cursor.file) in
     let read = read_of cursor.file cursor.at cursor.number (reading_of all) (event, size) found in
@@ -146,8 +146,8 @@ same_head None a b first second = cc
 same_head (Some h) a b first second = cc
 
 -- one head is told
-pub one_head : (found : Option EventHead) (bytes : List ℕ) (have : ℕ) (head : EventHead) → ((h : EventHead) → found ≡ Some h → IsHead bytes have h)
-    → (found ≡ None → (h : EventHead) → IsHead bytes have h → ⊥) → IsHead bytes have head → found ≡ Some head
+pub one_head : (found : Option EventHead) (bytes : List ℕ) (have : ℕ) (head : EventHead) → ((h : EventHead) → found ≡ Some h → IsEventHead bytes have h)
+    → (found ≡ None → (h : EventHead) → IsEventHead bytes have h → ⊥) → IsEventHead bytes have head → found ≡ Some head
 one_head None bytes have head some none is = absurd (none refl head is)
 one_head (Some h) bytes have head some none is =
     let other = some h refl in

@@ -17,7 +17,7 @@ event_there files cursor =
     event_by cursor.file cursor.at cursor.number (reading_of (drop cursor.at (files cursor.file)))
 
 -- what the first bytes of an event's block say, where so many stand from there on
-pub record IsHead (bytes : List ℕ) (have : ℕ) (head : EventHead) : Type 0 where
+pub record IsEventHead (bytes : List ℕ) (have : ℕ) (head : EventHead) : Type 0 where
   pub size : sized (from_be_bytes w32 (take 4 bytes)) have ≡ Ok head.size
   pub kind : of_code (slice_index bytes (HEAD_SIZE - 1)) all_kinds ≡ Some head.kind
 

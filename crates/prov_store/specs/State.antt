@@ -41,8 +41,8 @@ counts_of events = map (λ code. count_of_code code events) (range_with_len 1 12
 -- ---- in memory
 
 -- The line, up to which events are forgotten; the number of the last event; where the next one goes in its file; how
--- many past the line there are of each kind; and the files that have bytes behind what is covered, each with the size of
--- that.
+-- many past the line there are of each kind; and the files that have bytes behind what is covered, each with the size
+-- of that.
 pub record EventsState : Type 0 where
   pub line : ℕ
   pub end : ℕ
@@ -156,8 +156,8 @@ files_for last count =
 
 -- ---- what the answers of calls say
 
--- These are the events past a line and up to a last one that the files have, with the files that are longer than what is
--- covered.
+-- These are the events past a line and up to a last one that the files have, with the files that are longer than what
+-- is covered.
 pub record IsFoundOn (tells : Bool) (files : Files) (past last : ℕ) (state : EventsState) : Type 0 where
   pub line : state.line ≡ past
   pub end : state.end ≡ last
@@ -179,8 +179,8 @@ pub record HasTrimmed {D : Type 0} (tells : Bool) (held : D → Files) (moment :
   pub state : s_new ≡ record s_old { stale = [] }
   pub cuts : moment new ≡ calls_later (length s_old.stale) (moment old)
 
--- The events up to a line are forgotten, and the others stand in the files with nothing else: their files are cut, by one
--- call each.
+-- The events up to a line are forgotten, and the others stand in the files with nothing else: their files are cut, by
+-- one call each.
 pub record HasAged {D : Type 0} (tells : Bool) (held : D → Files) (moment : D → ℕ) (line : ℕ)
     (s_old s_new : EventsState) (old new : D) : Type 0 where
   pub ready : IsTrue tells → EventsAreReady s_new (held new)

@@ -18,8 +18,8 @@ use disk_trait::{Disk, Failed};
 use flowfile_record::{EVENTS_PER_FILE, EventCounts};
 
 impl Events {
-    /// Forgets the events up to a line: the counts are those of the later ones, and the files of the forgotten ones are cut
-    /// to nothing, by one call each. It takes no memory: of each block that goes the head is read again.
+    /// Forgets the events up to a line: the counts are those of the later ones, and the files of the forgotten ones are
+    /// cut to nothing, by one call each. It takes no memory: of each block that goes the head is read again.
     pub fn age<D: Disk>(&mut self, disk: &mut D, line: u64) -> Result<(), Failed>
         requires line { IsEventLine line self.old.end }
         requires past { self.old.line < line }

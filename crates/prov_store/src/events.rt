@@ -13,7 +13,8 @@ pub struct Stale {
     pub size: u64,
 }
 
-/// The events of a store, past a line and up to a last one. It holds no disk: each call is handed the one that it was loaded from.
+/// The events of a store, past a line and up to a last one. It holds no disk: each call is handed the one that it was
+/// loaded from.
 #[derive(Debug, Drop)]
 pub struct Events {
     // The events up to this one are forgotten.

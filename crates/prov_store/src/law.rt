@@ -8,8 +8,8 @@ ghost use Rattle.prov_event.specs.Encoding.{IsEvent};
 ghost use Rattle.prov_store.specs.Events.{events_file, events_in, covered_size};
 ghost use Rattle.prov_store.specs.State.{EventsState, AreNumberedFrom, HasEvents, EventsAreReady, IsEventLine, SameEvents, KeepsEvents, GrowsBehind, CutsStale, files_between};
 
-/// Files that have the same bytes of the events past a line and up to a last one have the same events, and what calls leave
-/// has.
+/// Files that have the same bytes of the events past a line and up to a last one have the same events, and what calls
+/// leave has.
 pub fn covered_events_stay()
     ensures same { (line last : ℕ) (old new : Files) (events : List Event) → SameEvents line last old new
         → events_in old line last ≡ Ok events → events_in new line last ≡ Ok events }
@@ -38,8 +38,8 @@ pub fn events_are_kept_step_by_step()
         → KeepsEvents line last old new → KeepsEvents later last old new }
 {}
 
-/// The events past a line and up to a last one are numbered from the one behind the line to the last, each with an encoding.
-/// Those up to an earlier one come first, and those past a later line are the end.
+/// The events past a line and up to a last one are numbered from the one behind the line to the last, each with an
+/// encoding. Those up to an earlier one come first, and those past a later line are the end.
 pub fn events_up_to_the_last_are_in_a_row()
     ensures numbered { (files : Files) (line last : ℕ) (events : List Event) → IsEventLine line last
         → events_in files line last ≡ Ok events → AreNumberedFrom (line + 1) events × (length events ≡ last - line) }

@@ -31,7 +31,8 @@ struct Loading {
 
 impl Events {
     /// Reads the events past a line and up to a last one, and finds the files that are longer than these. Of the files
-    /// before the line it asks for their names alone. It writes nothing, and beside its lists it takes memory for one block.
+    /// before the line it asks for their names alone. It writes nothing, and beside its lists it takes memory for one
+    /// block.
     pub fn load<D: Disk>(
         alloc: Global,
         disk: &mut D,

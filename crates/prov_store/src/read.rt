@@ -7,7 +7,7 @@ ghost use Rattle.flowfile_record.specs.declared.event.Event.{Event as TheEvent};
 ghost use Rattle.prov_event.specs.EventReading.{event_takes_memory};
 ghost use Rattle.record_codec.specs.Block.{reading_of};
 ghost use Rattle.prov_store.specs.Events.{events_file, event_in, event_by};
-ghost use Rattle.prov_store.specs.Reading.{event_there, HasWhole, IsHead, IsThere};
+ghost use Rattle.prov_store.specs.Reading.{event_there, HasWhole, IsEventHead, IsThere};
 ghost use Rattle.prov_store.specs.declared.read.EventHead.{EventHead as TheHead};
 
 use crate::EventsError;
@@ -169,8 +169,8 @@ pub fn read_head_at<D: Disk>(disk: &mut D, cursor: Cursor) -> Result<Option<Even
 // What these bytes say of the event whose block begins with them, where so many stand from there on.
 fn head_of(bytes: &[u8], have: u64) -> Option<EventHead>
     requires long { length bytes.now ≡ HEAD_SIZE }
-    ensures some { (head : TheHead) → result ≡ Some head → IsHead bytes.now have head }
-    ensures none { result ≡ None → (head : TheHead) → IsHead bytes.now have head → ⊥ }
+    ensures some { (head : TheHead) → result ≡ Some head → IsEventHead bytes.now have head }
+    ensures none { result ≡ None → (head : TheHead) → IsEventHead bytes.now have head → ⊥ }
 {
     let header = &bytes[..HEADER_SIZE as usize];
     let Ok(size) = size_by_header(header, have) else {

@@ -28,8 +28,8 @@ struct Scan {
 }
 
 impl Events {
-    /// The events past the line numbered from one to another, both included, as far as there are such. Of the files that
-    /// have some it reads the headers of the blocks before them, and nothing behind them.
+    /// The events past the line numbered from one to another, both included, as far as there are such. Of the files
+    /// that have some it reads the headers of the blocks before them, and nothing behind them.
     pub fn scan<D: Disk>(
         &self,
         alloc: Global,
@@ -110,7 +110,8 @@ impl Scan {
             (min self.old.last (first_event (number + 1) - 1))) }
         ensures same { SameScan self.old self.new }
         ensures undamaged { (damage : TheDamage) → IsErrOf result (EventsError.Damaged damage) → IsTrue D.tells
-            → (here : List TheEvent) → events_of_file self.old.line self.old.end number (D.held disk.old) ≡ Ok here → ⊥ }
+            → (here : List TheEvent)
+            → events_of_file self.old.line self.old.end number (D.held disk.old) ≡ Ok here → ⊥ }
         ensures stays { Stays D.held D.moment D.images disk.old disk.new }
         ensures cause { CountsFaults (D.faults disk.old) (D.faults disk.new) (IsErrOf result EventsError.Disk) }
     {
