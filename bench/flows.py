@@ -34,8 +34,9 @@ COMPARED = [
     ("merge", LINES, "parts of 10,000 lines joined", "by a loop"),
 ]
 
-# How many fragments of 100 wholes are queued.
+# How many fragments of 100 wholes are queued, and what is picked of them.
 FRAGMENTS = [1_000, 10_000]
+PICKED = [("picks", "ten picks of a whole"), ("waits", "ten picks that find no whole, one of each missing")]
 
 # How many files the flow makes, and three expressions over a file's name.
 FILES = 10_000
@@ -104,9 +105,10 @@ def main():
             tell(text, took, other, beside)
         took, beside = mean(times, updated, runner, in_memory(given.folder))
         tell(f"{FILES:,} files made and updated by three expressions", took, "by none", beside)
-        once, more = (mean(times, said, program, folder, "picks", count)[0] for count in FRAGMENTS)
-        print(f"ten picks of a whole, from {FRAGMENTS[0]:,} fragments of 100 wholes {once:,} microseconds, from "
-              f"{FRAGMENTS[1]:,} {more:,}; ratio {more / once:.2f}", flush=True)
+        for word, text in PICKED:
+            once, more = (mean(times, said, program, folder, word, count)[0] for count in FRAGMENTS)
+            print(f"{text}, from {FRAGMENTS[0]:,} fragments of 100 wholes {once:,} microseconds, from "
+                  f"{FRAGMENTS[1]:,} {more:,}; ratio {more / max(once, 1):.2f}", flush=True)
 
 
 main()

@@ -17,12 +17,13 @@ use std::env;
 use std::fs::Files;
 
 /// What is measured, and how much of it there is where the word is `check`.
-const PARTS: [(&str, u32); 5] = [
+const PARTS: [(&str, u32); 6] = [
     ("split", 20_000),
     ("replace", 20_000),
     ("route", 20_000),
     ("merge", 20_000),
     ("picks", 200),
+    ("waits", 200),
 ];
 
 fn main(rt: HostRuntime) -> Result<()> {
@@ -56,7 +57,8 @@ fn measure<R: Files + Alloc<A = Global>>(
         "replace" => contents::measure_replace(rt, alloc, much),
         "route" => contents::measure_route(rt, alloc, much),
         "merge" => contents::measure_merge(rt, alloc, much),
-        "picks" => queues::measure(rt, alloc, much),
+        "picks" => queues::measure(rt, alloc, much, 0),
+        "waits" => queues::measure(rt, alloc, much, 1),
         _ => bail!("`{part}` measures nothing"),
     }
 }

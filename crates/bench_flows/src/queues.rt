@@ -1,8 +1,8 @@
 //! What a queue of fragments picks.
-ghost use Rattle.std.specs.Prelude.{◌≡◌, IfOk};
+ghost use Rattle.std.specs.Prelude.{◌≡◌};
 
 use crate::measured::{Compared, Measured, processor_time, since};
-use anyhow::{Result, bail};
+use anyhow::Result;
 use flow_queue::{Queue, QueueLimits, TakeRule};
 use flowfile_record::{Attributes, ContentRef, DIGEST_SIZE, FlowFile};
 use prioritizer::Order;
@@ -25,13 +25,15 @@ const LIMITS: QueueLimits = QueueLimits {
     swap: 20_000,
 };
 
-/// Picks a whole of so many fragments of 100 wholes, ten times. The fragments that it picks are counted.
+/// Picks a whole of so many fragments of 100 wholes, ten times. Of each whole so many are missing. The fragments that it
+/// picks are counted.
 pub fn measure<R: Files + Alloc<A = Global>>(
     rt: &R,
     alloc: Global,
     fragments: u32,
+    missing: u32,
 ) -> Result<Compared> {
-    let queue = queue(alloc, fragments)?;
+    let queue = queue(alloc, fragments, missing)?;
     let start = processor_time(rt);
     let count = pick_often(alloc, &queue)?;
     let took = since(rt, start);
@@ -45,19 +47,18 @@ fn pick_often(alloc: Global, queue: &Queue) -> Result<u64> {
     let mut count = 0u64;
     for _ in 0..PICKS {
         let mut numbers = Vec::new(alloc);
-        if !queue.pick(TakeRule::Defragment, 1, &mut numbers)? {
-            bail!("no whole is there");
-        }
+        queue.pick(TakeRule::Defragment, 1, &mut numbers)?;
         count = count.saturating_add(numbers.len() as u64);
     }
     Ok(count)
 }
 
-// A queue of so many fragments, which don't stand in turn.
-fn queue(alloc: Global, fragments: u32) -> Result<Queue> {
+// A queue of so many fragments, which come one by one and not in turn.
+fn queue(alloc: Global, fragments: u32, missing: u32) -> Result<Queue> {
     let mut queue = Queue::new(alloc, Order::new(Vec::new(alloc)), LIMITS);
     for place in 0..fragments {
-        let file = fragment(alloc, u64::from(place), u64::from(fragments))?;
+        let attributes = attributes(alloc, place, fragments, missing)?;
+        let file = fragment(u64::from(place), attributes);
         queue.reserve(1)?;
         queue.put(file);
     }
@@ -65,33 +66,33 @@ fn queue(alloc: Global, fragments: u32) -> Result<Queue> {
 }
 
 // The fragment at a place. Its number and its arrival are the place.
-fn fragment(alloc: Global, place: u64, fragments: u64) -> Result<FlowFile>
-    ensures number { IfOk result (λ file. file.number ≡ place) }
-    ensures arrival { IfOk result (λ file. file.arrival ≡ place) }
+fn fragment(place: u64, attributes: Attributes) -> FlowFile
+    ensures number { result.number ≡ place }
+    ensures arrival { result.arrival ≡ place }
 {
-    let attributes = attributes(alloc, place, fragments)?;
     let content = ContentRef {
         slot: 0,
         offset: 0,
         size: 1,
         digest: [0; DIGEST_SIZE],
     };
-    Ok(FlowFile {
+    FlowFile {
         number: place,
         attributes,
         content,
         entered: 1,
         penalty_end: 0,
         arrival: place,
-    })
+    }
 }
 
 // What tells of which whole it is a fragment.
-fn attributes(alloc: Global, place: u64, fragments: u64) -> Result<Attributes> {
-    let shuffled = place.wrapping_mul(STRIDE) % fragments.max(1);
+fn attributes(alloc: Global, place: u32, fragments: u32, missing: u32) -> Result<Attributes> {
+    let fragments = u64::from(fragments);
+    let shuffled = u64::from(place).wrapping_mul(STRIDE) % fragments.max(1);
     let whole = shuffled % WHOLES;
     let index = shuffled / WHOLES + 1;
-    let count = fragments / WHOLES;
+    let count = fragments / WHOLES + u64::from(missing);
     let mut attributes = Attributes::new(alloc);
     put(alloc, &mut attributes, "fragment.count", "", count)?;
     put(

@@ -150,13 +150,14 @@ differ-marked number in_flight (held ∷ files) differ =
         (λ e. All-head (Differ (held_view held)) (held_view other) (views_of others) h (sym (ap (λ (f : FlowFile). f.arrival) (same_file number in_flight held)) ∙ e ∙ ap (λ (f : FlowFile). f.arrival) (same_file number in_flight other)))
         (behind others (All-tail (Differ (held_view held)) (held_view other) (views_of others) h))
 
-sum-marked : (number : ℕ) (in_flight : Bool) (files : List Held) → sum_by held_bytes (map (marks number in_flight) files) ≡ sum_by held_bytes files
-sum-marked number in_flight [] = refl
-sum-marked number in_flight (held ∷ files) =
-    let one = sum_by-cons held_bytes (marks number in_flight held) (map (marks number in_flight) files) in
-    let other = sum_by-cons held_bytes held files in
-    let same = ap (λ (f : FlowFile). f.content.size) (same_file number in_flight held) in
-    let rest = sum-marked number in_flight files in
+pub sum-marked : (size : FlowFile → ℕ) (number : ℕ) (in_flight : Bool) (files : List Held) → sum_by (λ held. size held.file) (map (marks number in_flight) files) ≡ sum_by (λ held. size held.file) files
+sum-marked size number in_flight [] = refl
+sum-marked size number in_flight (held ∷ files) =
+    let size_of : Held → ℕ = λ h. size h.file in
+    let one = sum_by-cons size_of (marks number in_flight held) (map (marks number in_flight) files) in
+    let other = sum_by-cons size_of held files in
+    let same = ap size (same_file number in_flight held) in
+    let rest = sum-marked size number in_flight files in
     omega arith
 
 pub sound-mark : (number : ℕ) (in_flight : Bool) (files : List Held) (bytes : ℕ) → AreSound files bytes → AreSound (with_flight number in_flight files) bytes
@@ -167,7 +168,7 @@ sound-mark number in_flight files bytes are = record {
   };
   sizes = All-map Fits64 (marks number in_flight) files
       (All-weaker Fits64 (λ held. Fits64 (marks number in_flight held)) (λ held lt. subst (λ (f : FlowFile). f.content.size < 2 ^ 64) (sym (same_file number in_flight held)) lt) files are.sizes);
-  sum = are.sum ∙ sym (sum-marked number in_flight files);
+  sum = are.sum ∙ sym (sum-marked (λ (file : FlowFile). file.content.size) number in_flight files);
 }
 
 pub length-mark : (number : ℕ) (in_flight : Bool) (files : List Held) → length (with_flight number in_flight files) ≡ length files

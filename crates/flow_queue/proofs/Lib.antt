@@ -3,11 +3,13 @@ pub mod AtRest
 pub mod Batches
 pub mod Bins
 pub mod Compared
+pub mod Counting
 pub mod Crosses
 pub mod Expiring
 pub mod Fields
 pub mod ForCallers
 pub mod InOrder
+pub mod NoWhole
 pub mod Numbered
 pub mod OutBatch
 pub mod Parts

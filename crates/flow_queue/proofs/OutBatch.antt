@@ -1,17 +1,17 @@
 -- The batch that has to go out: the last of the numbers of files that rest.
-use Rattle.std.proofs.Common.{◌≡◌, ◌≢◌, inl, inr, ℕ, zero, suc, ◌+◌, ◌-◌, ◌<◌, ◌≤◌, ◌==◌, not, nat_le, Bool, true, false, cond, List, [], ◌∷◌, length, map, drop, Option, Some, None, Result, Ok, Err, is_some, refl, sym, ap, ◌∙◌, subst, arith}
-use Rattle.std.specs.Prelude.{All, IfOk, IsSome, OnOk, OnErr, filter}
+use Rattle.std.proofs.Common.{◌≡◌, ◌≢◌, ℕ, ◌+◌, ◌-◌, ◌<◌, ◌≤◌, ◌==◌, not, nat_le, Bool, true, false, cond, List, [], ◌∷◌, length, drop, Option, Some, None, Result, Ok, Err, is_some, refl, sym, ap, ◌∙◌, subst, arith}
+use Rattle.std.specs.Prelude.{All, IfOk, OnOk, filter}
 use Rattle.std.specs.List.{AllPairs}
 use Rattle.std.specs.Option.{option_map, option_map_or, unwrap_or}
 use Rattle.std.proofs.lemmas.Bool.{true≢false, le-leb, lt-leb}
 use Rattle.std.proofs.lemmas.List.{drop-map, length-map}
-use Rattle.std.proofs.lemmas.List.Elements.{All-nil, All-map, All-drop, All-weaker, filter_passes}
+use Rattle.std.proofs.lemmas.List.Elements.{All-nil, All-drop, All-weaker, filter_passes}
 use Rattle.std.proofs.lemmas.List.Filters.{length-filter_both}
 use Rattle.std.proofs.lemmas.List.Kept.{AllPairs-cons}
 use Rattle.std.proofs.lemmas.List.Sorted.{length_permutation}
 use Rattle.flowfile_record.specs.NumberedItems.{item_of, AscendsByNumber}
 use Rattle.machine_model.specs.declared.flow.QueueLimits.{QueueLimits}
-use Rattle.machine_model.specs.Due.{batch_size, last_batch, numbers_of}
+use Rattle.machine_model.specs.Due.{batch_size, numbers_of}
 use Rattle.machine_model.specs.Files.{are_distinct}
 use Rattle.machine_model.specs.Order.{in_order}
 use Rattle.machine_model.specs.View.{FileView, at_rest}
@@ -21,7 +21,7 @@ use Rattle.machine_model.proofs.Ordered.{in_order-permutes, pairs_nil}
 use Rattle.machine_model.proofs.Tally.{bit, many, tally-filter, tally-map}
 use Rattle.flow_queue.specs.declared.held.Held.{Held}
 use Rattle.flow_queue.specs.Picking.{Picks}
-use Rattle.flow_queue.specs.Queue.{QueueState, AreApart, held_number, held_view, views_of, flight_of, IsAtRest}
+use Rattle.flow_queue.specs.Queue.{QueueState, AreApart, held_number, held_view, views_of, IsAtRest}
 use Rattle.flow_queue.specs.Ranked.{IsRanked}
 use Rattle.flow_queue.specs.Swapping.{MayGoOut, batch_due, is_resting, last_of, resting_among}
 use Rattle.flow_queue.proofs.InOrder.{filter-mapped}

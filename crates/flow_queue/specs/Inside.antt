@@ -4,6 +4,7 @@ use Rattle.std.specs.VecDeque.{deque_capacity}
 use Rattle.flow_queue.specs.declared.held.Held.{Held}
 use Rattle.flow_queue.specs.declared.queue.Queue.TheInside.{Inside}
 use Rattle.flow_queue.specs.Ages.{HasAges, HasAgeRoom}
+use Rattle.flow_queue.specs.Counts.{AreCountsOf, count_places}
 use Rattle.flow_queue.specs.Queue.{QueueState, AreApart, held_bytes}
 use Rattle.flow_queue.specs.Ranked.{IsRanked}
 
@@ -23,8 +24,8 @@ pub record AreSound (files : List Held) (bytes : ℕ) : Type 0 where
   pub sizes : All (λ held. held_bytes held < 2 ^ 64) files
   pub sum : bytes ≡ sum_by held_bytes files
 
--- The numbers stand in the order of the queue, and where files expire from the oldest on; those of as many more files as
--- there is room for have capacity, and so has a batch where there is room for one.
+-- The numbers stand in the order of the queue, and where files expire from the oldest on. Those of as many more files as
+-- there is room for have capacity, the counts have room for these, and a batch has it where there is room for one.
 pub record IsSoundQueue (queue : Inside) : Type 0 where
   pub files : AreSound queue.files.items queue.bytes
   pub ranked : IsRanked queue.order queue.files.items queue.by_rank.items
@@ -32,4 +33,6 @@ pub record IsSoundQueue (queue : Inside) : Type 0 where
   pub oldest_first : queue.oldest_first ≡ []
   pub ages : HasAges queue.limits queue.files.items queue.by_age.items
   pub age_room : HasAgeRoom queue.limits (length queue.files.items + queue.files.room) (deque_capacity queue.by_age)
+  pub counts : AreCountsOf queue.counts queue.files.items
+  pub count_room : length queue.files.items + queue.files.room ≤ count_places queue.counts
   pub batch_room : queue.batch_room ≡ true → 0 < queue.batches.room

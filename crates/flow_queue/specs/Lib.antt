@@ -1,4 +1,5 @@
 pub mod Ages
+pub mod Counts
 pub mod Fragments
 pub mod Inside
 pub mod Picking

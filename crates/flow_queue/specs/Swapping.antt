@@ -1,5 +1,5 @@
 -- Batches of a queue's files: which one is due, and what swapping them out and in changes.
-use Rattle.std.specs.Prelude.{◌≡◌, ◌≢◌, ℕ, ◌+◌, ◌-◌, Bool, true, false, not, List, ◌∷◌, length, map, filter, All, Option, Some, None, drop, is_some, nat_le, sum_by, if◌then◌else◌}
+use Rattle.std.specs.Prelude.{◌≡◌, ◌≢◌, ℕ, ◌+◌, ◌-◌, Bool, true, false, not, List, length, map, filter, All, Option, Some, None, drop, is_some, nat_le, sum_by, if◌then◌else◌}
 use Rattle.std.specs.List.{AllPairs}
 use Rattle.std.specs.Option.{option_map_or}
 use Rattle.flowfile_record.specs.NumberedItems.{item_of, with_item, with_items, without_item}

@@ -4,6 +4,7 @@ ghost use Rattle.prioritizer.specs.Order.{order_cmp};
 ghost use Rattle.prioritizer.specs.Standing.{standing_of as standing};
 ghost use Rattle.machine_model.specs.Order.{standing_of, goes_before, is_eligible};
 ghost use Rattle.machine_model.specs.View.{is_penalised, is_expired};
+ghost use Rattle.flow_queue.specs.Counts.{has_penalty};
 ghost use Rattle.flow_queue.specs.Queue.{held_view, held_bytes};
 
 use flowfile_record::{FlowFile, Numbered};
@@ -32,6 +33,12 @@ impl Held {
         ensures { result ≡ held_bytes self.now }
     {
         self.file.content.size
+    }
+
+    pub(crate) fn has_penalty(&self) -> bool
+        ensures { result ≡ has_penalty self.now }
+    {
+        self.file.penalty_end > 0
     }
 
     fn rank(&self) -> Rank<'_>

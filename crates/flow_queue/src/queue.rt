@@ -5,11 +5,13 @@ ghost use Rattle.flow_queue.specs.Queue.{IsApart, AreApart, queue_with_file, wit
 mod ages;
 mod bins;
 mod choosing;
+mod counts;
 mod ranked;
 mod swapping;
 mod wholes;
 
 use self::ages::{put_age, reserve_ages, take_age};
+use self::counts::Counts;
 use self::ranked::{put_number, take_number};
 use crate::batch::Batch;
 use crate::held::Held;
@@ -32,6 +34,8 @@ pub struct Queue {
     // Where files expire, their numbers from the oldest on, with the same capacity.
     by_age: VecDeque<u64>,
     oldest_first: Order,
+    // How many belong to each whole, and have an end of a penalty.
+    counts: Counts,
     // Those of their contents.
     bytes: u128,
     batches: NumberedList<Batch>,
@@ -74,6 +78,7 @@ impl Queue {
             by_rank: VecDeque::new(alloc),
             by_age: VecDeque::new(alloc),
             oldest_first: Order::new(Vec::new(alloc)),
+            counts: Counts::new(alloc),
             bytes: 0,
             batches: NumberedList::new(alloc),
             batch_room: false,
@@ -93,6 +98,7 @@ impl Queue {
         self.by_rank.reserve(count as usize)?;
         reserve_ages(&mut self.by_age, &self.limits, count)?;
         self.batches.reserve(1)?;
+        self.counts.reserve(self.files.len() + u64::from(count))?;
         self.files.reserve(u64::from(count))?;
         self.batch_room = true;
         Ok(())
@@ -118,6 +124,7 @@ impl Queue {
             &self.oldest_first,
             &held,
         );
+        self.counts.enter(&held);
         self.files.put(held);
         self.bytes += u128::from(size);
     }
@@ -172,6 +179,7 @@ impl Queue {
         let Some(held) = self.files.take(number) else {
             unreachable!()
         };
+        self.counts.leave(&held);
         self.bytes -= u128::from(held.size());
         held.file
     }

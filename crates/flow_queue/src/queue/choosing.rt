@@ -1,5 +1,5 @@
 //! What a queue answers.
-ghost use Rattle.std.specs.Prelude.{◌≡◌, ◌&&◌, ◌||◌, nat_lt, min, [], ◌∷◌, None, length, map, filter, All, IfOk, IfSome, IsOk, OnOk, OnErr, is_some};
+ghost use Rattle.std.specs.Prelude.{◌≡◌, ℕ, ◌&&◌, ◌||◌, nat_lt, min, [], ◌∷◌, None, false, length, map, filter, All, IfOk, IfSome, IsOk, OnOk, OnErr, is_some};
 ghost use Rattle.std.specs.List.{reduce};
 ghost use Rattle.std.specs.Option.{option_map};
 ghost use Rattle.machine_model.specs.Due.{expired_numbers};
@@ -16,7 +16,7 @@ use super::ranked::{best_of, first_eligible};
 use super::swapping::{bytes_short_of, files_short_of};
 use super::wholes::pick_whole;
 use crate::held::Held;
-use flowfile_record::NumberedList;
+use flowfile_record::{CONTENT_MAX, NumberedList};
 use machine_model::{QueueLimits, TakeRule};
 use std::alloc::AllocError;
 use std::collections::VecDeque;
@@ -50,7 +50,23 @@ impl Queue {
         // Memory is taken where there are files to pick from.
         ensures free { offered rule moment self.now ≡ [] → IsOk result }
     {
+        if !self.may_pick(rule) {
+            return Ok(false);
+        }
         pick_by(rule, &self.by_rank, &self.files, &self.limits, moment, list)
+    }
+
+    // Whether a rule may pick a file at any moment, by what is counted of the files.
+    fn may_pick(&self, rule: TakeRule) -> bool
+        ensures { result ≡ false → (moment : ℕ) → picked rule moment self.now ≡ None }
+    {
+        match rule {
+            TakeRule::Bin { min, max: _ } => {
+                u64::from(min) <= self.files.len() || self.bytes > u128::from(CONTENT_MAX)
+            }
+            TakeRule::Defragment => self.counts.may_have_whole(),
+            TakeRule::Source | TakeRule::One => true,
+        }
     }
 
     /// The numbers of the files that expired by a moment and that no session works on, ascending.
@@ -84,6 +100,9 @@ impl Queue {
     pub fn next_penalty_end(&self, moment: u64) -> Option<u64>
         ensures { result ≡ next_penalty_end moment (queue_as_seen self.now).active }
     {
+        if !self.counts.has_penalties() {
+            return None;
+        }
         next_end(&self.files, moment)
     }
 }

@@ -6,11 +6,13 @@ ghost use Rattle.std.specs.VecDeque.{deque_capacity};
 ghost use Rattle.flowfile_record.specs.NumberedItems.{AscendsByNumber, item_of};
 ghost use Rattle.machine_model.specs.Due.{batch_size, lowest_batch};
 ghost use Rattle.machine_model.specs.Files.{are_distinct};
+ghost use Rattle.flow_queue.specs.Counts.{AreCountsOf, count_places};
 ghost use Rattle.flow_queue.specs.Picking.{Picks, PicksAll};
 ghost use Rattle.flow_queue.specs.Queue.{queue_as_seen, held_number, held_bytes, without_file};
 ghost use Rattle.flow_queue.specs.Swapping.{batch_due, batch_in, last_of, number_of_batch, with_batch, MayGoOut, swapped_out_of, IsBatchOf, MayComeIn, swapped_into, files_staying, is_resting, resting_among, is_held, without_batch};
 
 use super::Queue;
+use super::counts::Counts;
 use crate::batch::Batch;
 use crate::held::Held;
 use flowfile_record::{FlowFile, NumberedList};
@@ -56,7 +58,7 @@ impl Queue {
         requires room { self.old.batch_room ≡ true }
         ensures { self.new ≡ swapped_out_of self.old batch numbers.now }
     {
-        let bytes = take_files(&mut self.files, numbers);
+        let bytes = take_files(&mut self.files, &mut self.counts, numbers);
         keep_standing(&mut self.by_rank, &self.files);
         keep_standing(&mut self.by_age, &self.files);
         self.bytes -= bytes;
@@ -192,7 +194,9 @@ fn is_resting(number: u64, files: &NumberedList<Held>) -> bool
 }
 
 // Takes files out, and tells how many bytes their contents have together.
-fn take_files(files: &mut NumberedList<Held>, numbers: &[u64]) -> u128
+fn take_files(files: &mut NumberedList<Held>, counts: &mut Counts, numbers: &[u64]) -> u128
+    requires counted { AreCountsOf counts.old files.old.items }
+    requires few { length files.old.items < 2 ^ 63 }
     requires ascends { AscendsByNumber held_number files.old.items }
     requires there { All (λ number. IsSome (item_of held_number number files.old.items)) numbers.now }
     requires distinct { are_distinct numbers.now ≡ true }
@@ -201,10 +205,13 @@ fn take_files(files: &mut NumberedList<Held>, numbers: &[u64]) -> u128
     ensures room { files.new.room ≡ files.old.room + length numbers.now }
     ensures count { length files.new.items + length numbers.now ≡ length files.old.items }
     ensures bytes { sum_by held_bytes files.old.items ≡ result + sum_by held_bytes files.new.items }
+    ensures counted { AreCountsOf counts.new files.new.items }
+    ensures places { count_places counts.new ≡ count_places counts.old }
 {
     let mut bytes = 0;
     for number in numbers {
         let held = take_held(files, *number);
+        counts.leave(&held);
         bytes += u128::from(held.size());
     }
     bytes

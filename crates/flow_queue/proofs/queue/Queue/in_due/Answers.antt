@@ -1,4 +1,4 @@
-use Rattle.std.proofs.Common.{◌≡◌, length, min, map, ◌∙◌, ap, arith}
+use Rattle.std.proofs.Common.{length, min, map, ◌∙◌, ap, arith}
 use Rattle.std.specs.List.{reduce}
 use Rattle.flow_queue.specs.Swapping.{number_of_batch}
 use Rattle.flow_queue.proofs.Batches.{lowest-in}

@@ -1,11 +1,13 @@
 use Rattle.std.proofs.Common.{◌≡◌, ◌-◌, Some, [], length, refl, sym, ◌∙◌, ap, subst, arith}
 use Rattle.flowfile_record.specs.NumberedItems.{item_of}
 use Rattle.flowfile_record.proofs.ByNumber.{length-without}
+use Rattle.flow_queue.specs.Counts.{AreCountsOf}
 use Rattle.flow_queue.specs.Inside.{AreSound}
 use Rattle.flow_queue.specs.Queue.{held_number, without_file}
+use Rattle.flow_queue.proofs.Counting.{counts-taken}
 use Rattle.flow_queue.proofs.Fields.{size-within, sound-leave}
 use Rattle.flow_queue.proofs.ForCallers.{its-number}
-use Rattle.flow_queue.proofs.Ranks.{still-ranked}
+use Rattle.flow_queue.proofs.Ranks.{ranked-length, still-ranked}
 use Rattle.flow_queue.proofs.queue.Queue.leave.Goals as goal
 
 pub take_number-requires-clause-there : goal.take_number-requires-clause-there
@@ -19,6 +21,12 @@ take_age-requires-clause-there c =
     let files = c.self.inside.files.items in
     let found : item_of held_number c.args.number files ≡ Some c.in-Some.held.now = sym c.in-Some.ensures in
     ap (λ m. item_of held_number m files) (its-number c.args.number c.in-Some.held.now files found) ∙ found
+
+pub leave-requires-clause-few : goal.leave-requires-clause-few
+leave-requires-clause-few c =
+    let queue = c.self.inside in
+    let long = ranked-length queue.order queue.files.items queue.by_rank.items c.self.invariant.ranked in
+    omega (arith, c.self.invariant.counts.all, long, queue.by_rank.ok.0, queue.by_rank.small.0, queue.by_rank.small.1)
 
 pub overflow_sub-self : goal.overflow_sub-self
 overflow_sub-self c =
@@ -45,5 +53,8 @@ invariant_of-self c =
       oldest_first = c.self.invariant.oldest_first;
       ages = λ expire. still-ranked [] _ _ _ _ without refl (c.take_age.ensures.ages expire);
       age_room = λ expire. omega (arith, c.self.invariant.age_room expire, left, ap length c.in-Some-take.ensures.items, c.in-Some-take.ensures.room, c.take_age.ensures.capacity);
+      counts = subst (AreCountsOf c.leave.new.self) (sym c.in-Some-take.ensures.items)
+          (c.leave.ensures.counted (without_file n files) (counts-taken queue.counts n c.in-Some-take.held files c.self.invariant.files.apart.numbers taken c.self.invariant.counts));
+      count_room = omega (arith, c.self.invariant.count_room, left, ap length c.in-Some-take.ensures.items, c.in-Some-take.ensures.room, c.leave.ensures.places);
       batch_room = c.self.invariant.batch_room;
     }

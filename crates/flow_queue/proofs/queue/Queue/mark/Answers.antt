@@ -1,8 +1,10 @@
 use Rattle.std.proofs.Common.{◌≡◌, Some, [], length, refl, sym, ◌∙◌, ap, subst, arith}
 use Rattle.flowfile_record.specs.NumberedItems.{item_of, with_item}
 use Rattle.flow_queue.specs.declared.held.Held.{Held}
+use Rattle.flow_queue.specs.Counts.{AreCountsOf}
 use Rattle.flow_queue.specs.Inside.{AreSound}
 use Rattle.flow_queue.specs.Queue.{held_number, with_flight, without_file}
+use Rattle.flow_queue.proofs.Counting.{counts-marked}
 use Rattle.flow_queue.proofs.Fields.{same_state, sound-mark, length-mark}
 use Rattle.flow_queue.proofs.ForCallers.{its-number, none-left}
 use Rattle.flow_queue.proofs.Numbered.{changed-with}
@@ -34,6 +36,8 @@ invariant_of-self c =
       oldest_first = c.self.invariant.oldest_first;
       ages = λ expire. still-ranked [] _ _ _ _ is refl (ranked-mark [] files queue.by_age.items c.self.invariant.files.apart (c.self.invariant.ages expire) c.args.number c.args.in_flight);
       age_room = λ expire. omega (arith, c.self.invariant.age_room expire, ap length is, length-mark c.args.number c.args.in_flight files, c.put.ensures.room, c.in-Some.ensures.room);
+      counts = subst (AreCountsOf queue.counts) (sym is) (counts-marked queue.counts c.args.number c.args.in_flight files c.self.invariant.counts);
+      count_room = omega (arith, c.self.invariant.count_room, ap length is, length-mark c.args.number c.args.in_flight files, c.put.ensures.room, c.in-Some.ensures.room);
       batch_room = c.self.invariant.batch_room;
     }
 

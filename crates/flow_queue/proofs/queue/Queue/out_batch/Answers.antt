@@ -1,4 +1,4 @@
-use Rattle.std.proofs.Common.{◌≡◌, [], None, sym, ◌∙◌, ap, subst, arith}
+use Rattle.std.proofs.Common.{[], sym, ◌∙◌, ap, subst, arith}
 use Rattle.std.specs.Prelude.{is_some, length}
 use Rattle.std.specs.Option.{unwrap_or}
 use Rattle.flow_queue.specs.Inside.{queue_in}

@@ -1,8 +1,10 @@
 use Rattle.std.proofs.Common.{◌+◌, ◌<◌, ◌^◌, [], false, length, refl, sym, ◌∙◌, ap, subst, arith}
 use Rattle.flowfile_record.proofs.ByNumber.{length-with}
 use Rattle.flow_queue.specs.declared.held.Held.{Held}
+use Rattle.flow_queue.specs.Counts.{AreCountsOf}
 use Rattle.flow_queue.specs.Inside.{AreSound}
 use Rattle.flow_queue.specs.Queue.{IsApart, held_number}
+use Rattle.flow_queue.proofs.Counting.{can-enter, counts-with}
 use Rattle.flow_queue.proofs.Fields.{new-number, sum_fits, sound-put}
 use Rattle.flow_queue.proofs.Ranks.{ranked-length, still-ranked}
 use Rattle.flow_queue.proofs.queue.Queue.put.Goals as goal
@@ -24,6 +26,13 @@ put_age-requires-clause-room c expire =
     let queue = c.self.inside in
     let long = ranked-length [] queue.files.items queue.by_age.items (c.self.invariant.ages expire) in
     omega (arith, c.self.invariant.age_room expire, long, c.requires.room, ap (λ q. q.spare) c.self.view_is)
+
+pub enter-requires-clause-room : goal.enter-requires-clause-room
+enter-requires-clause-room c =
+    let queue = c.self.inside in
+    let long = ranked-length queue.order queue.files.items queue.by_rank.items c.self.invariant.ranked in
+    can-enter queue.counts queue.files.items queue.files.room c.self.invariant.counts c.self.invariant.count_room (omega (arith, c.requires.room, ap (λ q. q.spare) c.self.view_is))
+    (omega (arith, long, queue.by_rank.ok.0, queue.by_rank.small.0, queue.by_rank.small.1))
 
 pub put-requires-clause-new : goal.put-requires-clause-new
 put-requires-clause-new c =
@@ -51,5 +60,7 @@ invariant_of-self c =
       oldest_first = c.self.invariant.oldest_first;
       ages = λ expire. still-ranked [] _ _ _ _ c.put.ensures.items refl (c.put_age.ensures.ages expire);
       age_room = λ expire. omega (arith, c.self.invariant.age_room expire, ap length c.put.ensures.items, length-with held_number new files, c.put.ensures.room, c.put_age.ensures.capacity);
+      counts = subst (AreCountsOf c.enter.new.self) (sym c.put.ensures.items) (counts-with c.enter.new.self c.args.file files (c.enter.ensures.counted files c.self.invariant.counts));
+      count_room = omega (arith, c.self.invariant.count_room, ap length c.put.ensures.items, length-with held_number new files, c.put.ensures.room, c.enter.ensures.places);
       batch_room = c.self.invariant.batch_room;
     }

@@ -1,6 +1,7 @@
-use Rattle.std.proofs.Common.{◌≡◌, inl, inr, ◌<◌, ◌⊎◌, false, [], length, refl, sym, ap, subst, ◌∙◌, arith}
+use Rattle.std.proofs.Common.{◌≡◌, inl, inr, ◌<◌, ◌⊎◌, false, [], length, sym, ap, subst, arith}
 use Rattle.std.specs.VecDeque.{deque_capacity}
 use Rattle.std.proofs.lemmas.Bool.{cases_lt}
+use Rattle.flow_queue.specs.Counts.{AreCountsOf, count_places}
 use Rattle.flow_queue.specs.Inside.{AreSound}
 use Rattle.flow_queue.proofs.Fields.{on-err}
 use Rattle.flow_queue.proofs.Ranks.{more-room, ranked-length, still-ranked}
@@ -28,19 +29,24 @@ pub invariant_of-self-2 : goal.invariant_of-self-2
 invariant_of-self-2 c =
     let queue = c.self.inside in
     let long = ranked-length queue.order queue.files.items queue.by_rank.items c.self.invariant.ranked in
-    let roomy = more-room c.reserve-3.result queue.files.room c.reserve-3.new.self.room c.from.result (length queue.files.items) (deque_capacity c.reserve.new.self) c.reserve-3.ensures.ok c.reserve-3.ensures.err
-    (omega (arith, c.in_ok-reserve.ensures.ok, c.in_ok-reserve.ensures.len, long, queue.by_rank.ok.0, c.from.ensures))
+    let roomy = more-room c.reserve-4.result queue.files.room c.reserve-4.new.self.room c.from-2.result (length queue.files.items) (deque_capacity c.reserve.new.self) c.reserve-4.ensures.ok c.reserve-4.ensures.err
+    (omega (arith, c.in_ok-reserve.ensures.ok, c.in_ok-reserve.ensures.len, long, queue.by_rank.ok.0, c.from-2.ensures))
     (omega (arith, c.self.invariant.room, c.in_ok-reserve.ensures.capacity)) in
     let age-roomy = λ (expire : 0 < queue.limits.expiration).
-    more-room c.reserve-3.result queue.files.room c.reserve-3.new.self.room c.from.result (length queue.files.items) (deque_capacity c.reserve_ages.new.ages) c.reserve-3.ensures.ok c.reserve-3.ensures.err
-    (omega (arith, c.in_ok-reserve_ages.ensures.room expire, ranked-length [] queue.files.items queue.by_age.items (c.self.invariant.ages expire), c.from.ensures))
+    more-room c.reserve-4.result queue.files.room c.reserve-4.new.self.room c.from-2.result (length queue.files.items) (deque_capacity c.reserve_ages.new.ages) c.reserve-4.ensures.ok c.reserve-4.ensures.err
+    (omega (arith, c.in_ok-reserve_ages.ensures.room expire, ranked-length [] queue.files.items queue.by_age.items (c.self.invariant.ages expire), c.from-2.ensures))
     (omega (arith, c.self.invariant.age_room expire, c.in_ok-reserve_ages.ensures.none_lost)) in
+    let places = more-room c.reserve-4.result queue.files.room c.reserve-4.new.self.room c.from-2.result (length queue.files.items) (count_places c.reserve-3.new.self) c.reserve-4.ensures.ok c.reserve-4.ensures.err
+    (omega (arith, c.in_ok-reserve-3.ensures.room, c.len.ensures.len, c.from.ensures, c.from-2.ensures))
+    (omega (arith, c.self.invariant.count_room, c.in_ok-reserve-3.ensures.none_lost)) in
     record {
-      files = subst (λ fs. AreSound fs queue.bytes) (sym c.reserve-3.ensures.items) c.self.invariant.files;
-      ranked = still-ranked queue.order _ _ _ _ c.reserve-3.ensures.items c.in_ok-reserve.ensures.items c.self.invariant.ranked;
-      room = omega (arith, roomy, ap length c.reserve-3.ensures.items);
+      files = subst (λ fs. AreSound fs queue.bytes) (sym c.reserve-4.ensures.items) c.self.invariant.files;
+      ranked = still-ranked queue.order _ _ _ _ c.reserve-4.ensures.items c.in_ok-reserve.ensures.items c.self.invariant.ranked;
+      room = omega (arith, roomy, ap length c.reserve-4.ensures.items);
       oldest_first = c.self.invariant.oldest_first;
-      ages = λ expire. still-ranked [] _ _ _ _ c.reserve-3.ensures.items c.in_ok-reserve_ages.ensures.same (c.self.invariant.ages expire);
-      age_room = λ expire. omega (arith, age-roomy expire, ap length c.reserve-3.ensures.items);
+      ages = λ expire. still-ranked [] _ _ _ _ c.reserve-4.ensures.items c.in_ok-reserve_ages.ensures.same (c.self.invariant.ages expire);
+      age_room = λ expire. omega (arith, age-roomy expire, ap length c.reserve-4.ensures.items);
+      counts = subst (AreCountsOf c.reserve-3.new.self) (sym c.reserve-4.ensures.items) (c.in_ok-reserve-3.ensures.counted queue.files.items c.self.invariant.counts);
+      count_room = omega (arith, places, ap length c.reserve-4.ensures.items);
       batch_room = λ is. omega (arith, c.in_ok-reserve-2.ensures.ok);
     }

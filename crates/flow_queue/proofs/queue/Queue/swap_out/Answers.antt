@@ -1,14 +1,20 @@
-use Rattle.std.proofs.Common.{◌≡◌, ℕ, ◌+◌, ◌-◌, ◌<◌, ◌≤◌, ◌^◌, Bool, false, Option, Some, None, List, [], not, length, refl, sym, ◌∙◌, ap, subst, arith}
-use Rattle.std.specs.Prelude.{All, IsSome, filter, sum_by}
+use Rattle.std.proofs.Common.{◌≡◌, ℕ, ◌-◌, Bool, [], not, length, refl, sym, ◌∙◌, ap, subst, arith}
+use Rattle.std.specs.Prelude.{filter, sum_by}
 use Rattle.std.proofs.lemmas.Bool.{true≢false}
 use Rattle.machine_model.specs.Files.{is_number_among}
 use Rattle.flow_queue.specs.Inside.{AreSound}
 use Rattle.flow_queue.specs.Queue.{held_bytes}
 use Rattle.flow_queue.specs.Swapping.{files_going, files_staying, is_held, with_batch}
 use Rattle.flow_queue.proofs.Fields.{same_state}
-use Rattle.flow_queue.proofs.Ranks.{still-ranked}
+use Rattle.flow_queue.proofs.Ranks.{ranked-length, still-ranked}
 use Rattle.flow_queue.proofs.Swapped.{bytes-parted, ranked-kept, sound-kept}
 use Rattle.flow_queue.proofs.queue.Queue.swap_out.Goals as goal
+
+pub take_files-bytes-requires-clause-few : goal.take_files-bytes-requires-clause-few
+take_files-bytes-requires-clause-few c =
+    let queue = c.self.inside in
+    let long = ranked-length queue.order queue.files.items queue.by_rank.items c.self.invariant.ranked in
+    omega (arith, long, queue.by_rank.ok.0, queue.by_rank.small.0, queue.by_rank.small.1)
 
 pub invariant_of-self : goal.invariant_of-self
 invariant_of-self c =
@@ -28,6 +34,8 @@ invariant_of-self c =
       ages = λ expire. still-ranked [] _ _ _ _ taken (c.keep_standing-2.ensures.numbers ∙ ap (λ fs. filter (is_held fs) queue.by_age.items) taken)
           (ranked-kept [] files queue.by_age.items c.self.invariant.files.apart (c.self.invariant.ages expire) stays);
       age_room = λ expire. omega (arith, c.self.invariant.age_room expire, c.take_files-bytes.ensures.room, c.take_files-bytes.ensures.count, c.keep_standing-2.ensures.capacity);
+      counts = c.take_files-bytes.ensures.counted;
+      count_room = omega (arith, c.self.invariant.count_room, c.take_files-bytes.ensures.room, c.take_files-bytes.ensures.count, c.take_files-bytes.ensures.places);
       batch_room = λ is. absurd (true≢false (sym is));
     }
 

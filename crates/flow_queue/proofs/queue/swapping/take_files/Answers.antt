@@ -1,12 +1,14 @@
-use Rattle.std.proofs.Common.{◌≡◌, ◌+◌, ◌<◌, ◌^◌, true, get_or, drop, length, sym, ap, ◌∙◌, subst, arith}
+use Rattle.std.proofs.Common.{◌≡◌, ℕ, ◌+◌, true, get_or, drop, length, length-drop, sym, ap, ◌∙◌, subst, arith}
 use Rattle.std.specs.Prelude.{All, IsSome, sum_by}
 use Rattle.std.proofs.lemmas.List.{drop_more, drop_all}
 use Rattle.std.proofs.lemmas.List.Elements.{All-head, All-tail}
 use Rattle.flowfile_record.specs.NumberedItems.{item_of, AscendsByNumber}
 use Rattle.flowfile_record.proofs.ByNumber.{length-without}
 use Rattle.machine_model.specs.Files.{are_distinct}
+use Rattle.flow_queue.specs.Counts.{AreCountsOf}
 use Rattle.flow_queue.specs.Queue.{held_number, held_bytes}
 use Rattle.flow_queue.specs.Swapping.{files_staying}
+use Rattle.flow_queue.proofs.Counting.{counts-taken}
 use Rattle.flow_queue.proofs.Fields.{one_gone}
 use Rattle.flow_queue.proofs.Numbered.{ascends-filter}
 use Rattle.flow_queue.proofs.Swapped.{staying-cons, staying-none, distinct-parts, still-there}
@@ -20,6 +22,9 @@ take_held-held-requires c =
     let rest = drop_more ns i 0 c.loop-number-test.true in
     All-head (λ n. IsSome (item_of held_number n files)) (get_or ns i 0) (drop (i + 1) ns)
     (subst (All (λ n. IsSome (item_of held_number n files))) rest c.loop-number.invariant.there)
+
+pub leave-requires-clause-few : goal.leave-requires-clause-few
+leave-requires-clause-few c = omega (arith, c.loop-number.invariant.counted.all, c.loop-number.invariant.count, c.requires.few, length-drop {A = ℕ})
 
 pub overflow_add-bytes : goal.overflow_add-bytes
 overflow_add-bytes c =
@@ -48,6 +53,9 @@ loop-number-preserved c =
       files = ap (files_staying later) taken ∙ sym (staying-cons n later files) ∙ ap (λ l. files_staying l files) (sym rest) ∙ c.loop-number.invariant.files;
       room = omega (arith, c.loop-number.invariant.room, ap length rest, c.take_held-held.ensures.room);
       count = omega (arith, c.loop-number.invariant.count, ap length rest, ap length taken, fewer);
+      counted = subst (AreCountsOf c.leave.new.self) (sym taken)
+          (c.leave.ensures.counted _ (counts-taken c.loop-number.counts n held files c.loop-number.invariant.ascends c.take_held-held.ensures.held c.loop-number.invariant.counted));
+      places = c.leave.ensures.places ∙ c.loop-number.invariant.places;
       bytes = omega (arith, c.loop-number.invariant.bytes, gone, ap (sum_by held_bytes) taken, c.from-bytes.ensures, c.size.ensures);
     }
 

@@ -2,6 +2,7 @@ use Rattle.std.proofs.Common.{◌≡◌, ◌+◌, true, drop, length}
 use Rattle.std.specs.Prelude.{All, IsSome, sum_by}
 use Rattle.flowfile_record.specs.NumberedItems.{item_of, AscendsByNumber}
 use Rattle.machine_model.specs.Files.{are_distinct}
+use Rattle.flow_queue.specs.Counts.{AreCountsOf, count_places}
 use Rattle.flow_queue.specs.Queue.{held_number, held_bytes}
 use Rattle.flow_queue.specs.Swapping.{files_staying}
 use Rattle.flow_queue.proofs.queue.swapping.take_files.Given as goal
@@ -15,5 +16,7 @@ invariant-loop-number l = record {
   files : files_staying (drop l.number-index l.numbers) l.files.items ≡ files_staying l.numbers l.initial.files.items;
   room : l.files.room + length (drop l.number-index l.numbers) ≡ l.initial.files.room + length l.numbers;
   count : length l.files.items + length l.numbers ≡ length l.initial.files.items + length (drop l.number-index l.numbers);
+  counted : AreCountsOf l.counts l.files.items;
+  places : count_places l.counts ≡ count_places l.initial.counts;
   bytes : l.bytes + sum_by held_bytes l.files.items ≡ sum_by held_bytes l.initial.files.items;
 }
