@@ -13,7 +13,8 @@ import printed
 import store_format
 import store_reader
 from store_format import (CLOSED, EVENT, GET, GROUP, OPEN, PUT, SWAP_IN, Age, Batch, Begin, Content, Damage, Expire,
-                          Group, Session, SwapOut, Writer, block, entry, event_payload, events_files, frame, log, snapshot)
+                          Group, Session, SwapOut, Writer, block, entry, event_payload, events_files, frame, log,
+                          snapshot)
 from store_reader import state_of
 from support import (DAMAGED, DONE, ROOT, Report, find_program, names, need, need_status, options, photo, put_store,
                      read_files, run, work_folder, write_files)
@@ -352,7 +353,8 @@ DAMAGE = {
     "no Head": (store(snapshot=EMPTY[HEAD_SIZE:]), ended(kind="snapshot")),
     "two Heads": (store(snapshot=EMPTY[:HEAD_SIZE] + EMPTY), ended(at=HEAD_SIZE, kind="snapshot")),
     "a store id of 2^60": (head(store=2**60), ended(kind="snapshot")),
-    "a Head of the second version": (head(version=store_format.SECOND, processors=("get", "put")), ended(kind="snapshot")),
+    "a Head of the second version": (
+        head(version=store_format.SECOND, processors=("get", "put")), ended(kind="snapshot")),
     "a next number of 0": (head(next_number=0), ended(kind="snapshot")),
     "a next arrival of 0": (head(next_arrival=0), ended(kind="snapshot")),
     "a next batch of 0": (head(next_batch=0), ended(kind="snapshot")),
