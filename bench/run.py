@@ -32,7 +32,7 @@ import time
 sys.path.insert(0, str(pathlib.Path(__file__).resolve().parent.parent / "tests"))
 sys.dont_write_bytecode = True
 
-import store_format
+import store_reader
 from support import (DONE, THE_TEXT, find_program, need, need_status, new_folder, options, read_files, run, work_folder,
                      write_files)
 
@@ -308,7 +308,7 @@ def tries(program, parent, milliseconds):
         ended = run(program, folder)
         need_status(ended, DONE)
         need(read_files(folder / "out") == {"a": b"before"}, "out changed")
-        state = store_format.state_of(store_format.files_in(folder / "store"))
+        state = store_reader.state_of(store_reader.files_in(folder / "store"))
         # Each log but the current one had so many entries. The first entry took the file, the last one let it expire.
         return (state.log - 1) * LOG_ENTRIES + len(state.entries) - 2, ended
 

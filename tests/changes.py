@@ -18,6 +18,7 @@ import stat
 import subprocess
 
 import store_format
+import store_reader
 from support import (DAMAGED, DONE, INBOX, MARK, MARKER, OUTBOX, THE_TEXT, Report, find_program, names, need, new_folder,
                      none_aside, options, read_files, run, stopped_in, work_folder, write_files)
 
@@ -40,7 +41,7 @@ class Cases:
         with work_folder(self.parent) as folder:
             write_files(folder / "in", FILES)
             status, calls = stopped_in(self.program, folder, "in/a", "pread64", 1, change)
-            state = store_format.state_of(store_format.files_in(folder / "store"))
+            state = store_reader.state_of(store_reader.files_in(folder / "store"))
             need(not isinstance(state, store_format.Damage), f"the store is damaged: {state}")
             need(state.queued() == [], f"{state.queued()} wait")
             found = status, calls.count("openat"), read_files(folder / "in"), read_files(folder / "out")

@@ -12,6 +12,7 @@ import subprocess
 import time
 
 import store_format
+import store_reader
 from flow_texts import flow, generator, let_go, queue, state_of
 from store_format import CREATE, DROP, SEND
 from support import (DONE, Report, find_program, in_memory, names, need, need_status, options, parse_seeded, read_files,
@@ -27,7 +28,7 @@ def text_of(count):
 
 
 def size_of(folder, *kinds):
-    return sum(len(content) for name, content in store_format.files_in(folder / "store").items()
+    return sum(len(content) for name, content in store_reader.files_in(folder / "store").items()
                if name.partition("-")[0] in kinds)
 
 

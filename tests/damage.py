@@ -2,7 +2,7 @@
 """Changes each byte of each file of a small store, and cuts each file at each length, and opens it with the program.
 
 The store is written from the format alone: two files wait, one in the snapshot and one by an entry, and an entry let
-a third one go. The program has to end as the reader in store_format.py says: with 4, or with 3 where it is another
+a third one go. The program has to end as the reader in store_reader.py says: with 4, or with 3 where it is another
 flow's store, and then nothing was written anywhere; or with 0, and then it delivers the files of the state that the
 bytes stand for. Since a digest tells a changed byte, each byte that a digest covers is changed once more with the
 digest made anew: so the fields themselves are tried.
@@ -17,7 +17,9 @@ import random
 
 import printed
 import store_format
-from store_format import CLAIM_OPEN, NUMBER_LIMIT, SLOTS, Content, Damage, FlowFile, Writer, state_of
+import store_reader
+from store_format import CLAIM_OPEN, NUMBER_LIMIT, SLOTS, Content, Damage, FlowFile, Writer
+from store_reader import state_of
 from support import (DAMAGED, DONE, LIMIT, REFUSED, THE_TEXT, Report, find_program, in_memory, names, need, need_status,
                      options, parse_seeded, photo, put_store, read_files, run, work_folder, write_files)
 
@@ -116,10 +118,10 @@ def waits_for_long(files):
 
 
 def holds_nothing(folder, what="the store"):
-    files = store_format.files_in(folder / "store")
+    files = store_reader.files_in(folder / "store")
     state = state_of(files)
     need(not isinstance(state, Damage), f"{what}: {state}")
-    need(not state.files and not store_format.claims_in(files), f"{what}: it holds a file, or a claim")
+    need(not state.files and not store_reader.claims_in(files), f"{what}: it holds a file, or a claim")
 
 
 def all_cases(program, parent, cases, step):
@@ -197,7 +199,7 @@ def numbers_are_used_up(program, parent):
                 (folder / "in" / name).unlink()
             need_status(run(program, folder), DONE)
             need(read_files(folder / "out") == {"waits": b"delivered"}, f"out holds {names(folder / 'out')}")
-            state = state_of(store_format.files_in(folder / "store"))
+            state = state_of(store_reader.files_in(folder / "store"))
             need(not isinstance(state, Damage) and not state.files, f"the store holds {state}")
             need(all(getattr(state, name) == value for name, value in fields.items()), "a counter changed")
 

@@ -4,6 +4,7 @@ import collections
 import json
 
 import store_format
+import store_reader
 from support import need
 
 
@@ -38,9 +39,9 @@ def processor(name, kind, properties=None, terminated=(), **fields):
 
 
 def state_of(folder):
-    state = store_format.state_of(store_format.files_in(folder / "store"))
+    state = store_reader.state_of(store_reader.files_in(folder / "store"))
     need(not isinstance(state, store_format.Damage), f"the store is damaged: {state}")
-    untold = store_format.untold(state)
+    untold = store_reader.untold(state)
     need(not untold, f"the events don't tell of the files {untold[:5]}")
     return state
 

@@ -13,6 +13,7 @@ import time
 
 import printed
 import store_format
+import store_reader
 from flow_texts import flow, generator, kinds, let_go, processor, put, queue, source, state_of, told
 from store_format import CLONE, CREATE, DROP, EXPIRED, RECEIVE, SEND, Expire, Writer
 from support import (BLOCKED, DAMAGED, DONE, LIMIT, REFUSED, SOURCE, THE_TEXT, USAGE, Report, find_program,
@@ -46,7 +47,7 @@ def ring(penalty=0, more=(), **fields):
 def most_in_queues(folder, text):
     """How many files each connection had at most, by the log of a new store."""
     state = state_of(folder)
-    replay = store_format.Replay(store_format.new_state(state.store, store_format.flow_of(text)))
+    replay = store_reader.Replay(store_format.new_state(state.store, store_format.flow_of(text)))
     most = collections.Counter()
     for entry in state.entries:
         need(replay.apply(entry), f"an entry doesn't fit: {entry}")
@@ -55,7 +56,7 @@ def most_in_queues(folder, text):
 
 
 def claims(folder):
-    return store_format.claims_in(store_format.files_in(folder / "store"))
+    return store_reader.claims_in(store_reader.files_in(folder / "store"))
 
 
 
@@ -574,14 +575,14 @@ def names_in(folder):
 def entries_now(folder):
     """How many entries the log has, while a run may be writing it."""
     try:
-        return len(store_format.entries_of(1, (folder / "store" / "log-1").read_bytes())[0])
-    except (OSError, store_format.Damaged):
+        return len(store_reader.entries_of(1, (folder / "store" / "log-1").read_bytes())[0])
+    except (OSError, store_reader.Damaged):
         return 0
 
 
 def state_of_written(folder):
     """The state of a store, which may have begun with files of which no event tells that they came."""
-    state = store_format.state_of(store_format.files_in(folder / "store"))
+    state = store_reader.state_of(store_reader.files_in(folder / "store"))
     need(not isinstance(state, store_format.Damage), f"the store is damaged: {state}")
     return state
 

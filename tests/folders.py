@@ -11,6 +11,7 @@ import time
 
 import printed
 import store_format
+import store_reader
 from support import (DISK, DONE, INBOX, MARK, MARKER, MEMORY, OUTBOX, SINK, SOURCE, THE_TEXT, USAGE, Report,
                      find_program, make_foreign_aside, names, need, need_status, new_folder, none_aside, options,
                      parse_seeded, photo, process_state, put_flow, read_files, run, run_for, start, wait_for,
@@ -64,7 +65,7 @@ class Cases:
         with self.folder() as folder:
             self.delivers(folder, {})
             need(names(folder) == ["flow.json", "in", "out", "store"], "the three folders aren't made")
-            files = store_format.files_in(folder / "store")
+            files = store_reader.files_in(folder / "store")
             state = state_of(folder)
             need(files == store_format.Writer(state.store).files(), "the store isn't a new one")
 
@@ -448,7 +449,7 @@ def leave_aside(folder):
 
 
 def state_of(folder):
-    state = store_format.state_of(store_format.files_in(folder / "store"))
+    state = store_reader.state_of(store_reader.files_in(folder / "store"))
     need(not isinstance(state, store_format.Damage), f"the store is damaged: {state}")
     return state
 
@@ -458,7 +459,7 @@ def waiting(folder):
 
 
 def claims(folder):
-    return store_format.claims_in(store_format.files_in(folder / "store"))
+    return store_reader.claims_in(store_reader.files_in(folder / "store"))
 
 
 def main():

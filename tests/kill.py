@@ -15,6 +15,7 @@ import statistics
 import time
 
 import store_format
+import store_reader
 from support import (DONE, MARKER, Report, find_program, make_foreign_aside, names, need, options, parse_seeded, photo,
                      read_files, run_for, start, unmarked_aside, work_folder, write_files)
 
@@ -29,9 +30,9 @@ def sizes(count):
 
 def held(folder):
     """The state of the store's files."""
-    state = store_format.state_of(store_format.files_in(folder / "store"))
+    state = store_reader.state_of(store_reader.files_in(folder / "store"))
     need(not isinstance(state, store_format.Damage), f"the store is damaged: {state}")
-    untold = store_format.untold(state)
+    untold = store_reader.untold(state)
     need(not untold, f"the events don't tell of the files {untold[:5]}")
     return state
 

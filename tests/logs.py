@@ -2,7 +2,7 @@
 """Opens stores that are written from the format alone, whole, cut short and damaged, with the built program.
 
 Of a store that a stop may leave, the files that wait are delivered, its log is mended, and what doesn't matter goes.
-A damaged store gives status 4, and nothing is written anywhere. Of each damage the reader in store_format.py has to
+A damaged store gives status 4, and nothing is written anywhere. Of each damage the reader in store_reader.py has to
 say the same as the table here.
 """
 
@@ -11,8 +11,11 @@ import struct
 
 import printed
 import store_format
-from store_format import (CLOSED, EVENT, GET, OPEN, PUT, SWAP_IN, Batch, Begin, Content, Damage, Expire, Session,
-                          SwapOut, Writer, block, event_payload, events_files, frame, log, snapshot, state_of)
+import store_reader
+from store_format import (CLOSED, EVENT, GET, GROUP, OPEN, PUT, SWAP_IN, Age, Batch, Begin, Content, Damage, Expire,
+                          Group, Session, SwapOut, Writer, block, entry, event_payload, events_files, frame, log,
+                          snapshot)
+from store_reader import state_of
 from support import (DAMAGED, DONE, ROOT, Report, find_program, names, need, need_status, options, photo, put_store,
                      read_files, run, work_folder, write_files)
 
@@ -148,7 +151,22 @@ def numbered_anew():
     return writer.files() | {"events-1": block(EVENT, event_payload(last))}
 
 
+def grouped():
+    """The three files come in, and the first one goes, all behind one gate."""
+    writer = three().put()
+    return writer.files() | {"log-1": log(1, Group(tuple(writer.entries)))}
+
+
+def items(*entries):
+    """A log with one of these items behind its first entry, in a group whatever they are."""
+    payload = struct.pack(">I", len(entries)) + b"".join(
+        struct.pack(">BI", kind, len(payload)) + payload for kind, payload in entries)
+    return store(of(1, [A, OPEN + block(GROUP, payload)]))
+
+
 NONE = {}
+REST = frame(Group(tuple(THREE.entries[1:])))
+PAYLOADS = [entry(value) for value in THREE.entries]
 
 # The files of a store, and what is delivered from it.
 SOUND = {
@@ -166,6 +184,11 @@ SOUND = {
                                  {"c": b"3"}),
     "the same name twice, the later one counts": (twice(), {"a": b"two"}),
     "all were let go": (three().put().put().put().files(), NONE),
+    "three entries behind one gate": (store(log(1, Group(tuple(THREE.entries)))), ABC),
+    "an entry, and two behind one gate": (store(log(1, THREE.entries[0], Group(tuple(THREE.entries[1:])))), ABC),
+    "a group that takes a file in and lets it go": (grouped(), first("b", "größe")),
+    "a group behind a closed gate": (
+        store(closed(log(1, THREE.entries[0], Group(tuple(THREE.entries[1:]))), REST)), first("a")),
     "three files in the snapshot, the first was let go": (in_snapshot(), first("b", "größe")),
     "an entry that lets a file go and places one": (one_entry(), {"b": b"two"}),
     "files under no name or a bad one are dropped": (
@@ -272,6 +295,18 @@ DAMAGE = {
     "a Begin of version 0, as the first path has it": (
         store(OPEN + block(1, struct.pack(">BQ", 0, 1)) + CLOSED), ended()),
     "a Begin that stands twice": (store(of(1, [A, BEGIN])), ended(at=ATS[2])),
+    "a Begin of the second version": (store(frame(Begin(1, store_format.SECOND)) + A + CLOSED), ended()),
+    "a group in place of the Begin": (store(frame(Group((Begin(1), *THREE.entries))) + CLOSED), ended()),
+    "a group of one entry": (items(PAYLOADS[1]), ended(at=ATS[2])),
+    "a group of none": (items(), ended(at=ATS[2])),
+    "a group with a Begin": (items(PAYLOADS[1], (1, BEGIN[6:-32])), ended(at=ATS[2])),
+    "a group in a group": (items(PAYLOADS[1], (GROUP, REST[6:-32])), ended(at=ATS[2])),
+    "a group whose second entry has a byte left over": (
+        items(PAYLOADS[1], (2, PAYLOADS[2][1] + b"\0")), ended(at=ATS[2])),
+    "a group with a byte left over": (store(of(1, [A, OPEN + block(GROUP, REST[6:-32] + b"\0")])), ended(at=ATS[2])),
+    "one bit of a group": (store(flipped(BEGIN + A + REST + CLOSED, ATS[2] + 70)), ended(at=ATS[2], cause="Digest")),
+    "an aging in a log of the first version": (store(log(1, *THREE.entries, Age(0))), ended(at=ATS[4])),
+    "an aging in a group": (store(log(1, Group((*THREE.entries, Age(0))))), ended(at=ATS[1])),
     "a kind that there isn't": (store(of(1, [A, OPEN + block(30)])), ended(at=ATS[2])),
     "an entry with a byte left over": (store(of(1, [OPEN + block(2, A[6:-32] + b"\0")])), ended(at=ATS[1])),
     "an entry with a byte missing": (store(of(1, [OPEN + block(2, A[6:-33])])), ended(at=ATS[1])),
@@ -294,6 +329,7 @@ DAMAGE = {
     # The entries' fit.
     "a file goes that isn't there": (store(of(1, [DROP])), ended(at=ATS[1])),
     "a file goes twice": (store(of(1, [A, B, C, DROP, DROP])), ended(at=ATS[4] + len(DROP))),
+    "the second entry of a group doesn't fit": (items(PAYLOADS[1], PAYLOADS[1]), ended(at=ATS[2])),
     "a file goes twice in one entry": (changed(1, gone=(1, 1)), ended(at=ATS[2])),
     "a number that is taken": (changed(1, number=1), ended(at=ATS[2])),
     "an arrival that is taken": (changed(1, arrival=1), ended(at=ATS[2])),
@@ -317,6 +353,8 @@ DAMAGE = {
     "no Head": (store(snapshot=EMPTY[HEAD_SIZE:]), ended(kind="snapshot")),
     "two Heads": (store(snapshot=EMPTY[:HEAD_SIZE] + EMPTY), ended(at=HEAD_SIZE, kind="snapshot")),
     "a store id of 2^60": (head(store=2**60), ended(kind="snapshot")),
+    "a Head of the second version": (
+        head(version=store_format.SECOND, processors=("get", "put")), ended(kind="snapshot")),
     "a next number of 0": (head(next_number=0), ended(kind="snapshot")),
     "a next arrival of 0": (head(next_arrival=0), ended(kind="snapshot")),
     "a next batch of 0": (head(next_batch=0), ended(kind="snapshot")),
@@ -380,7 +418,7 @@ DAMAGE = {
 
 def is_at_rest(folder):
     """The store stands for no file, its log for that state alone, and there is no file that doesn't matter."""
-    files = store_format.files_in(folder / "store")
+    files = store_reader.files_in(folder / "store")
     state = state_of(files)
     need(not isinstance(state, Damage), f"the store is damaged: {state}")
     need(state.log is not None and not state.files, "the store isn't an empty one")
@@ -448,7 +486,7 @@ def example(program, parent):
         write_files(folder / "in", {"a.txt": b"hi"})
         need_status(run(program, folder), DONE)
         state = is_at_rest(folder)
-        files = store_format.files_in(folder / "store")
+        files = store_reader.files_in(folder / "store")
     got, put = state.entries
     again = Writer(state.store, got.moment).get("a.txt", b"hi")
     again.moment = put.moment

@@ -18,6 +18,7 @@ import shutil
 import subprocess
 
 import store_format
+import store_reader
 from support import (DONE, Report, Wrong, age, find_program, in_memory, names, need, new_folder, options, parse_seeded,
                      put_flow, read_files, run, unmarked_aside, write_files)
 
@@ -274,9 +275,9 @@ def lay(top, path):
 
 def is_empty(files):
     """Whether a store's files stand for no file, its events tell of each that there was, and no claim is left."""
-    state = store_format.state_of(files)
-    return (not isinstance(state, store_format.Damage) and not state.files and not store_format.claims_in(files)
-            and not store_format.untold(state))
+    state = store_reader.state_of(files)
+    return (not isinstance(state, store_format.Damage) and not state.files and not store_reader.claims_in(files)
+            and not store_reader.untold(state))
 
 
 def recovers(program, parent, top, what):
@@ -295,7 +296,7 @@ def recovers(program, parent, top, what):
         # A folder aside whose marker the stop took isn't known as one, and stays.
         if names(folder / "out") != sorted([*FILES, *unmarked_aside(folder / "out")]):
             return f"{what}: out holds {names(folder / 'out')}"
-        left = store_format.files_in(folder / "store")
+        left = store_reader.files_in(folder / "store")
         if not is_empty(left):
             return f"{what}: a file still waits, or a claim is left: {sorted(left)}"
     return None

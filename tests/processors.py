@@ -12,6 +12,7 @@ import random
 import subprocess
 
 import store_format
+import store_reader
 from flow_texts import flow, generator, kinds, let_go, processor, queue, source, state_of, told
 from store_format import ATTRIBUTES_MODIFIED, CLONE, CONTENT_MODIFIED, CREATE, DROP, RECEIVE, ROUTE, SEND
 from support import (DONE, REFUSED, Report, find_program, in_memory, names, need, need_status, options, parse_seeded,
@@ -207,7 +208,7 @@ class Cases:
 
 def state_of_any(folder):
     """What a killed run left stands for a state."""
-    state = store_format.state_of(store_format.files_in(folder / "store"))
+    state = store_reader.state_of(store_reader.files_in(folder / "store"))
     need(not isinstance(state, store_format.Damage), f"the store is damaged: {state}")
 
 

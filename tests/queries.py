@@ -13,6 +13,7 @@ import time
 
 import printed
 import store_format
+import store_reader
 from flow_texts import flow, generator, let_go, processor, queue, source
 from support import (ABSENT, DAMAGED, DISK, DONE, SINK, SOURCE, USAGE, Report, find_program, in_memory, names, need,
                      need_status, new_folder, options, parse_seeded, photo, process_state, run, wait_for,
@@ -93,7 +94,7 @@ class Cases:
                                     for n in range(self.count // 20)}
                     | {f"{n}.txt": random.randbytes(n * 37 % 1000) for n in range(self.count // 20)})
         need_status(run(self.program, folder), DONE)
-        state = store_format.state_of(store_format.files_in(folder / "store"), store_format.flow_of(WAITS))
+        state = store_reader.state_of(store_reader.files_in(folder / "store"), store_format.flow_of(WAITS))
         need(state.files and state.events, f"the store has nothing to ask for: {state}")
         return state
 
@@ -137,7 +138,7 @@ class Cases:
         with work_folder(self.parent, text) as folder:
             write_files(folder / "in", {"whole": b"one\ntwo\nthree\n"})
             need_status(run(self.program, folder), DONE)
-            state = store_format.state_of(store_format.files_in(folder / "store"), store_format.flow_of(text))
+            state = store_reader.state_of(store_reader.files_in(folder / "store"), store_format.flow_of(text))
             need(state.next_number == 6, f"there are other files: {state.next_number}")
             for number in range(1, 6):
                 self.says(folder, ["lineage", store_format.uuid_of(state.store, number)], expected_lineage(state, number))
@@ -157,12 +158,12 @@ class Cases:
     def damaged(self):
         with work_folder(self.parent, WAITS) as folder:
             state = self.waiting(folder)
-            for name, data in sorted(store_format.files_in(folder / "store").items()):
+            for name, data in sorted(store_reader.files_in(folder / "store").items()):
                 if not data:
                     continue
                 at = random.randrange(len(data))
                 (folder / "store" / name).write_bytes(data[:at] + bytes([data[at] ^ 1]) + data[at + 1:])
-                found = store_format.state_of(store_format.files_in(folder / "store"), store_format.flow_of(WAITS))
+                found = store_reader.state_of(store_reader.files_in(folder / "store"), store_format.flow_of(WAITS))
                 if isinstance(found, store_format.Damage):
                     one = store_format.uuid_of(state.store, 1)
                     for words in (["check"], ["queues"], ["events"], ["content", one], ["lineage", one]):
@@ -211,7 +212,7 @@ class Cases:
                     [queue("made", "make", "note")])
         with work_folder(in_memory(self.parent), text) as folder:
             need_status(run(self.program, folder), DONE)
-            state = store_format.state_of(store_format.files_in(folder / "store"), store_format.flow_of(text))
+            state = store_reader.state_of(store_reader.files_in(folder / "store"), store_format.flow_of(text))
             yield folder, "".join(expected_line(state, event) for event in state.events)
 
     def start(self, folder, *words, **fields):
@@ -323,7 +324,7 @@ class Cases:
             need(ended.returncode == SINK, f"a run into a full device ended with {ended.returncode}")
             need([names(untold / part) for part in ("in", "out")] == [names(told / part) for part in ("in", "out")],
                  "in and out aren't as behind a run that could print")
-            states = [store_format.state_of(store_format.files_in(folder / "store"), store_format.flow_of(WAITS))
+            states = [store_reader.state_of(store_reader.files_in(folder / "store"), store_format.flow_of(WAITS))
                       for folder in (told, untold)]
             need(printed.summary(states[0], 0) == printed.summary(states[1], 0), "the stores have different states")
             reader, writer = os.pipe()
@@ -352,7 +353,7 @@ class Cases:
             text = flow([generator("make", count), let_go("put", "replace")], [queue("made", "make", "put")])
             with work_folder(in_memory(self.parent), text) as folder:
                 need_status(run(self.program, folder), DONE)
-                state = store_format.state_of(store_format.files_in(folder / "store"), store_format.flow_of(text))
+                state = store_reader.state_of(store_reader.files_in(folder / "store"), store_format.flow_of(text))
                 ended = run(self.program, folder, ["events"])
                 need_status(ended, DONE)
                 need(ended.said.decode() == "".join(expected_line(state, event) for event in state.events),

@@ -10,8 +10,7 @@ import random
 import processors
 from flow_texts import flow, generator, kinds, let_go, processor, queue, source, told
 from processors import through
-from store_format import (ATTRIBUTES_MODIFIED, CLONE, CONTENT_MODIFIED, CREATE, DROP, FORK, JOIN, RECEIVE, ROUTE,
-                          SEND)
+from store_format import ATTRIBUTES_MODIFIED, CLONE, CONTENT_MODIFIED, CREATE, DROP, FORK, JOIN, RECEIVE, ROUTE, SEND
 from support import (Report, find_program, in_memory, names, need, options, parse_seeded, read_files, work_folder,
                      write_files)
 

@@ -10,6 +10,7 @@ import subprocess
 import sys
 
 import store_format
+import store_reader
 from flow_texts import flow, let_go, processor, queue, source
 from pictures import Drawn, is_flow, is_lineage, random_flow, random_lineage
 from queries import TELLS_KIN, closure
@@ -124,7 +125,7 @@ class Cases:
                     | {"many.lines": b"".join(b"%d\n" % line for line in range(1, count + 1)), "none.txt": b""})
         ended = run(self.program, folder)
         need(ended.status in (DONE, BLOCKED), f"the run ended with {ended.status}")
-        state = store_format.state_of(store_format.files_in(folder / "store"), store_format.flow_of(TEXT))
+        state = store_reader.state_of(store_reader.files_in(folder / "store"), store_format.flow_of(TEXT))
         need(len(state.files) >= count + 8, f"the store holds {len(state.files)} files")
         return state
 
