@@ -7,8 +7,6 @@
 mod batch;
 mod held;
 mod queue;
-#[cfg(test)]
-mod tests;
 
 pub use machine_model::{QueueLimits, TakeRule};
 pub use queue::Queue;

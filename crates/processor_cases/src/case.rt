@@ -104,7 +104,8 @@ fn file(alloc: Global, file: &Value, number: u64) -> Result<Taken>
     })
 }
 
-fn attributes(alloc: Global, pairs: &Value) -> Result<Attributes> {
+/// The attributes of a list of pairs.
+pub fn attributes(alloc: Global, pairs: &Value) -> Result<Attributes> {
     let mut attributes = Attributes::new(alloc);
     for pair in items(pairs)? {
         let value = text(alloc, item(pair, 1)?)?;
@@ -139,7 +140,8 @@ pub fn given(alloc: Global, case: &Value) -> Result<Given>
     })
 }
 
-fn number_or_zero(case: &Value, name: &str) -> Result<u64> {
+/// The number of a member, or 0.
+pub fn number_or_zero(case: &Value, name: &str) -> Result<u64> {
     match case.get(name) {
         Some(value) => number(value),
         None => Ok(0),

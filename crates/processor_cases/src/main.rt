@@ -1,9 +1,10 @@
-//! Tries the processors on cases: each line of the input is one case, a JSON object, and each line of the output says
+//! Tries the processors and queues on cases: each line of the input is one case, a JSON object, and each line of the output says
 //! what came out of it.
 #![tactic(auto)]
 
 mod case;
 mod json;
+mod queue;
 mod words;
 mod work;
 
@@ -25,6 +26,9 @@ fn main(rt: HostRuntime) -> Result<()> {
 }
 
 fn answer_of(alloc: Global, case: &Value) -> Result<String> {
+    if case.get("rule").is_some() {
+        return queue::answer_in_words(alloc, case);
+    }
     let outcome = work::outcome_of(alloc, case)?;
     words::outcome_in_words(alloc, &outcome)
 }

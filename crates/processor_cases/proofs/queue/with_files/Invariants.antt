@@ -1,0 +1,7 @@
+use Rattle.std.proofs.Common.{◌<◌}
+use Rattle.std.specs.Prelude.{All}
+use Rattle.processor_cases.proofs.queue.with_files.Given as goal
+
+-- the files so far have the places before this one
+abbrev pub invariant-loop-place : goal.invariant-loop-place
+invariant-loop-place l = All (λ held. (held.file.number < l.place) × (held.file.arrival < l.place)) l.queue.files
