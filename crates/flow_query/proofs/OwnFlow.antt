@@ -79,7 +79,7 @@ head_long payload x is =
     after_field (number_at next_arrival.1) _ x Goal is (λ last_event l is.
     after_field (line_at version.0 last_event.0 last_event.1) _ x Goal is (λ line m is.
     after_field (number_at line.1) _ x Goal is (λ next_batch o is.
-      ap (λ (y : Head × List ℕ). length y.0.flow) (sym (ok_is _ x is)) ∙ raw_long DIGEST_SIZE store.1 flow digest)))))))))))
+    ap (λ (y : Head × List ℕ). length y.0.flow) (sym (ok_is _ x is)) ∙ raw_long DIGEST_SIZE store.1 flow digest)))))))))))
   where
     Goal : Type 0
     Goal = length x.0.flow ≡ DIGEST_SIZE
