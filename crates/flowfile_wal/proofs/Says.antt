@@ -9,7 +9,7 @@ use Rattle.disk_trait.specs.declared.damage.Damage.TheVariants.{Form}
 use Rattle.disk_trait.specs.declared.file_name.FileKind.TheVariants.{Log}
 use Rattle.record_codec.specs.Block.{Reading, Whole, Cut, Long, Differs, reading_of}
 use Rattle.record_codec.specs.Frames.{counts}
-use Rattle.record_codec.specs.LogEntries.{Cause, LogRead, LogDamage, after, found_in, of_version, entries_at, gated, behind_gate, log_from, log_of, with_more}
+use Rattle.record_codec.specs.LogEntries.{Cause, LogRead, LogDamage, after, entries_found, of_version, entries_at, gated, behind_gate, log_from, log_of, log_with_more}
 use Rattle.record_codec.specs.Version.{is_known}
 use Rattle.record_codec.specs.declared.entry.LogEntry.{LogEntry}
 use Rattle.record_codec.specs.declared.entry.LogEntry.TheVariants.{Begin, Session, Expire, SwapOut, SwapIn, Age}
@@ -155,15 +155,15 @@ first version number size bytes read counted is reads =
     (sym (behind ∙ ap (λ (f : Found). behind_gate 0 f (λ n. log_from version n 1 rest)) found) ∙ reads)
 
 -- a first block is found again, whatever stands behind it
-found_again : (rest tail : List ℕ) (n : ℕ) (reading : Reading) (found : List LogEntry × ℕ) → reading_of rest ≡ reading → found_in reading ≡ Ok found → found.1 ≤ n → n ≤ length rest
-    → found_in (reading_of (take n rest ++ tail)) ≡ Ok found
+found_again : (rest tail : List ℕ) (n : ℕ) (reading : Reading) (found : List LogEntry × ℕ) → reading_of rest ≡ reading → entries_found reading ≡ Ok found → found.1 ≤ n → n ≤ length rest
+    → entries_found (reading_of (take n rest ++ tail)) ≡ Ok found
 found_again rest tail n (Whole kind payload) found is e le within =
-    ap found_in (reading_of-longer rest tail n kind payload is (omega (arith, found_size kind payload found e, le)) within) ∙ e
+    ap entries_found (reading_of-longer rest tail n kind payload is (omega (arith, found_size kind payload found e, le)) within) ∙ e
 found_again rest tail n (Cut need have) found is e le within = absurd cc
 found_again rest tail n (Long size) found is e le within = absurd cc
 found_again rest tail n (Differs stored sum) found is e le within = absurd cc
 
-again_open : (rest tail : List ℕ) (end : ℕ) (found : List LogEntry × ℕ) → found_in (reading_of rest) ≡ Ok found → 1 + found.1 ≤ end → end ≤ 1 + length rest
+again_open : (rest tail : List ℕ) (end : ℕ) (found : List LogEntry × ℕ) → entries_found (reading_of rest) ≡ Ok found → 1 + found.1 ≤ end → end ≤ 1 + length rest
     → (counts (take end (OPEN_GATE ∷ rest) ++ tail) ≡ true) × (first_found (take end (OPEN_GATE ∷ rest) ++ tail) ≡ Ok found)
 again_open rest tail zero found is from to = absurd (omega arith)
 again_open rest tail (suc n) found is from to =
@@ -207,16 +207,16 @@ module _ (number : ℕ) (bytes : List ℕ) (log : CurrentLog) (counted : counts 
 
   -- a log of which the entries of one block more are read has them
   pub more_log : (new tail : List ℕ) (entries : List LogEntry) (size : ℕ) → new ≡ take log.end bytes ++ tail
-      → ((read : LogRead) → log_of log.version bytes ≡ ok read → read.end ≡ log.end → log_of log.version new ≡ ok (with_more read entries size))
+      → ((read : LogRead) → log_of log.version bytes ≡ ok read → read.end ≡ log.end → log_of log.version new ≡ ok (log_with_more read entries size))
       → (counts new ≡ true) × (log_in number new ≡ says (with_block log entries (size + 1)))
   more_log new tail entries size goes more =
-      let now = goes_on new tail (ok (with_more r.read entries size)) goes (more r.read r.reads end_is) in
+      let now = goes_on new tail (ok (log_with_more r.read entries size)) goes (more r.read r.reads end_is) in
       let put = gated r.read.end entries in
       let behind : drop 1 (r.read.entries ++ put) ≡ drop 1 r.read.entries ++ put =
       ap (λ (es : List (ℕ × LogEntry)). drop 1 (es ++ put)) f.entries ∙ ap (λ (es : List (ℕ × LogEntry)). drop 1 es ++ put) (sym f.entries) in
       let gate : r.read.end + 1 + size ≡ r.read.end + (size + 1) = omega arith in
       let before : CurrentLog = record { number = number; version = log.version; entries = drop 1 r.read.entries; end = r.read.end } in
-      let whole : log_read number log.version (ok (with_more r.read entries size)) ≡ says (with_block before entries (size + 1)) =
+      let whole : log_read number log.version (ok (log_with_more r.read entries size)) ≡ says (with_block before entries (size + 1)) =
       ap (λ (es : List (ℕ × LogEntry)). says (record { number = number; version = log.version; entries = es; end = r.read.end + 1 + size })) behind
       ∙ ap (λ (n : ℕ). says (record { number = number; version = log.version; entries = drop 1 r.read.entries ++ put; end = n })) gate in
       (now.0, now.1 ∙ whole ∙ ap (λ (l : CurrentLog). says (with_block l entries (size + 1))) (sym r.is))

@@ -46,11 +46,11 @@ told size (Some entries) = Ok (entries, size)
 told size None = Err Form
 
 -- the entries in front of the bytes behind an open gate, and the size of their block
-abbrev pub found_in : Reading → Result (List LogEntry × ℕ) Cause
-found_in (Whole kind payload) = told (length payload + BLOCK_OVERHEAD) (entries_in kind payload)
-found_in (Cut need have) = Err (Short need have)
-found_in (Long size) = Err Form
-found_in (Differs stored found) = Err (Digest stored found)
+abbrev pub entries_found : Reading → Result (List LogEntry × ℕ) Cause
+entries_found (Whole kind payload) = told (length payload + BLOCK_OVERHEAD) (entries_in kind payload)
+entries_found (Cut need have) = Err (Short need have)
+entries_found (Long size) = Err Form
+entries_found (Differs stored found) = Err (Digest stored found)
 
 -- Events age out in the second version alone.
 abbrev pub belongs : (version : ℕ) → LogEntry → Bool
@@ -68,7 +68,7 @@ of_version version (Err cause) = Err cause
 
 -- the entries of a log of this version in front of the bytes behind an open gate, and the size of their block
 abbrev pub entries_at : (version : ℕ) → List ℕ → Result (List LogEntry × ℕ) Cause
-entries_at version bytes = of_version version (found_in (reading_of bytes))
+entries_at version bytes = of_version version (entries_found (reading_of bytes))
 
 -- ---- a log
 
@@ -105,8 +105,8 @@ pub record IsFirstDamage (version : ℕ) (bytes : List ℕ) (damage : LogDamage)
   pub cause : entries_at version (drop (damage.at + 1) bytes) ≡ Err damage.cause
 
 -- a log with the entries of one block more, which has this size
-abbrev pub with_more : LogRead → List LogEntry → ℕ → LogRead
-with_more read entries size = record {
+abbrev pub log_with_more : LogRead → List LogEntry → ℕ → LogRead
+log_with_more read entries size = record {
   entries = read.entries ++ gated read.end entries;
   end = read.end + 1 + size;
 }

@@ -3,7 +3,7 @@ ghost use Rattle.std.specs.Prelude.{◌≡◌, ◌≢◌, ℕ, ◌≤◌, IsTrue
 ghost use Rattle.std.specs.List.{list_all};
 ghost use Rattle.record_codec.specs.Block.{block};
 ghost use Rattle.record_codec.specs.BlockEntries.{entries_in};
-ghost use Rattle.record_codec.specs.LogEntries.{LogRead, LogDamage, belongs, log_of, with_more, IsFirstDamage};
+ghost use Rattle.record_codec.specs.LogEntries.{LogRead, LogDamage, belongs, log_of, log_with_more, IsFirstDamage};
 ghost use Rattle.record_codec.specs.declared.entry.LogEntry.{LogEntry as Entry};
 
 use crate::PAYLOAD_MAX;
@@ -33,7 +33,7 @@ pub fn an_open_gate_adds_entries()
         → log_of version bytes ≡ Ok read → entries_in kind payload ≡ Some entries
         → IsTrue (list_all (belongs version) entries) → length payload ≤ PAYLOAD_MAX
         → log_of version (take read.end bytes ++ OPEN_GATE ∷ (block kind payload ++ CLOSED_GATE ∷ []))
-        ≡ Ok (with_more read entries (length (block kind payload))) }
+        ≡ Ok (log_with_more read entries (length (block kind payload))) }
 {}
 
 /// The damage of a log is the first one, and where there is a first damage, the log has it.
