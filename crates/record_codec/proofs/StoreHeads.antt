@@ -1,5 +1,5 @@
 -- What is read of a head is encoded so, and what is encoded so is read again.
-use Rattle.std.proofs.Common.{◌≡◌, ◌≢◌, ℕ, ◌+◌, ◌%◌, ◌^◌, ◌<◌, ◌≤◌, ◌&&◌, ◌||◌, eqb, nat_lt, nat_le, Bool, true, false, cond, List, [], ◌++◌, length, IsTrue, Result, Ok, Err, refl, sym, ap, subst, ◌∙◌, append_assoc, length-append, arith}
+use Rattle.std.proofs.Common.{◌≡◌, ◌≢◌, ℕ, ◌+◌, ◌%◌, ◌^◌, ◌<◌, ◌&&◌, ◌||◌, eqb, nat_lt, nat_le, Bool, true, false, cond, List, [], ◌++◌, length, IsTrue, Result, Ok, Err, refl, sym, ap, subst, ◌∙◌, append_assoc, length-append, arith}
 use Rattle.std.specs.Prelude.{is_ok}
 use Rattle.std.specs.Int.{w64, to_be_bytes}
 use Rattle.std.proofs.lemmas.Bool.{ltb-true, lt-ltb, leb-true, le-leb, eqb-true, ne_eqb, and_parts}
@@ -39,8 +39,8 @@ field_if true value r s F field = field
 field_if {A = A} false value r s F field =
     record {
       takes = λ bytes x fits e.
-        let is = ok_is (value, bytes) x e in
-        subst (λ (y : A × List ℕ). Takes bytes [] y.1 × (y.0 ≡ value)) is (record { parts = refl; rest_fits = fits }, refl);
+          let is = ok_is (value, bytes) x e in
+          subst (λ (y : A × List ℕ). Takes bytes [] y.1 × (y.0 ≡ value)) is (record { parts = refl; rest_fits = fits }, refl);
       again = λ a rest has. ap (λ (v : A). pair v rest) (sym has);
     }
   where
@@ -62,8 +62,8 @@ line_field : (last : ℕ) → IsNumber last → IsField (such (is_line last) (ui
 line_field last small =
     said_is (such (is_line last) (uint_at w64)) (to_be_bytes w64) (λ n. (n < 2 ^ 64) × IsTrue (is_line last n)) (IsEventLine last) (such_is (is_line last) (uint_at w64) (to_be_bytes w64) (λ n. n < 2 ^ 64) u64_is)
     (λ n h.
-      let both = and_parts (eqb (n % EVENTS_PER_FILE) 0) (nat_le n last) h.1 in
-      (eqb-true _ _ both.0, leb-true n last both.1))
+    let both = and_parts (eqb (n % EVENTS_PER_FILE) 0) (nat_le n last) h.1 in
+    (eqb-true _ _ both.0, leb-true n last both.1))
     (λ n h. (omega (arith, h.1, small), is n h))
   where
     is : (n : ℕ) → IsEventLine last n → is_line last n ≡ true
@@ -139,35 +139,35 @@ head_takes bytes x fits e =
     read_on number_at (to_be_bytes w64) IsNumber Goal _ r7 x number_is tb.rest_fits e (λ last_event r8 tl hl e.
     read_on (line_at version last_event) (λ l. in_second version (to_be_bytes w64 l)) (HasLine version last_event) Goal _ r8 x (line_is version last_event hl) tl.rest_fits e (λ line r9 tm hm e.
     read_on number_at (to_be_bytes w64) IsNumber Goal _ r9 x number_is tm.rest_fits e (λ next_batch rest to ho e.
-      let h : Head = record {
-        version = version;
-        store = store;
-        flow = flow;
-        connections = connections;
-        processors = processors;
-        counts = counts;
-        next_number = next_number;
-        next_arrival = next_arrival;
-        last_event = last_event;
-        line = line;
-        next_batch = next_batch;
-      } in
-      let is : IsHead h = record {
-        version = hv.1;
-        store = hs;
-        flow = hf;
-        connections = hc;
-        processors = in_both (eqb version SECOND_VERSION) (no_texts processors) hp;
-        counts = hn;
-        next_number = ha;
-        next_arrival = hb;
-        last_event = hl;
-        line = in_both (eqb version SECOND_VERSION) (no_line last_event line) hm;
-        next_batch = ho;
-        first = λ first. (in_first (AreTexts processors) (processors ≡ []) version hp first, in_first (IsEventLine last_event line) (line ≡ 0) version hm first);
-      } in
-      subst (λ (y : Head × List ℕ). Takes bytes (head y.0) y.1 × IsHead y.0) (ok_is (h, rest) x e)
-      (head_of_parts h bytes r0 r1 r2 r3 r4 r5 r6 r7 r8 r9 rest tv ts tf tc tp tn ta tb tl tm to, is))))))))))))
+    let h : Head = record {
+      version = version;
+      store = store;
+      flow = flow;
+      connections = connections;
+      processors = processors;
+      counts = counts;
+      next_number = next_number;
+      next_arrival = next_arrival;
+      last_event = last_event;
+      line = line;
+      next_batch = next_batch;
+    } in
+    let is : IsHead h = record {
+      version = hv.1;
+      store = hs;
+      flow = hf;
+      connections = hc;
+      processors = in_both (eqb version SECOND_VERSION) (no_texts processors) hp;
+      counts = hn;
+      next_number = ha;
+      next_arrival = hb;
+      last_event = hl;
+      line = in_both (eqb version SECOND_VERSION) (no_line last_event line) hm;
+      next_batch = ho;
+      first = λ first. (in_first (AreTexts processors) (processors ≡ []) version hp first, in_first (IsEventLine last_event line) (line ≡ 0) version hm first);
+    } in
+    subst (λ (y : Head × List ℕ). Takes bytes (head y.0) y.1 × IsHead y.0) (ok_is (h, rest) x e)
+    (head_of_parts h bytes r0 r1 r2 r3 r4 r5 r6 r7 r8 r9 rest tv ts tf tc tp tn ta tb tl tm to, is))))))))))))
   where
     Goal : Type 0
     Goal = Takes bytes (head x.0) x.1 × IsHead x.0
@@ -266,6 +266,7 @@ at_processors bytes rest front read second first =
   where
     none : List ℕ → Result (List ℕ × List ℕ) ℕ
     none rest = Err (length rest)
+
     behind : Connected × List ℕ → Result (List ℕ × List ℕ) ℕ
     behind x = cond (eqb x.0.0 SECOND_VERSION) (first_at text_at x.1) (none x.1)
 
@@ -303,17 +304,18 @@ front_of_head bytes x e =
     step_on (number_at next_arrival.1) _ x Goal e (λ last_event le e.
     step_on (line_at version.0 last_event.0 last_event.1) _ x Goal e (λ line me e.
     step_on (number_at line.1) _ x Goal e (λ next_batch oe e.
-      let same : version.0 ≡ x.0.version = ap (λ (y : Head × List ℕ). y.0.version) (ok_is _ x e) in
-      record {
-        rest = version.1;
-        version_read = ve ∙ ap (λ (v : ℕ). ok_with v version.1) same;
-        store = store;
-        store_read = se;
-        flow = flow;
-        flow_read = fe;
-      })))))))))))
+    let same : version.0 ≡ x.0.version = ap (λ (y : Head × List ℕ). y.0.version) (ok_is _ x e) in
+    record {
+      rest = version.1;
+      version_read = ve ∙ ap (λ (v : ℕ). ok_with v version.1) same;
+      store = store;
+      store_read = se;
+      flow = flow;
+      flow_read = fe;
+    })))))))))))
   where
     Goal : Type 0
     Goal = HasFront bytes x.0.version
+
     ok_with : ℕ → List ℕ → Result (ℕ × List ℕ) ℕ
     ok_with v rest = Ok (v, rest)

@@ -35,19 +35,22 @@ head_at bytes = do
   last_event ← number_at next_arrival.1
   line ← line_at version.0 last_event.0 last_event.1
   next_batch ← number_at line.1
-  Ok (record {
-    version = version.0;
-    store = store.0;
-    flow = flow.0;
-    connections = connections.0;
-    processors = processors.0;
-    counts = counts.0;
-    next_number = next_number.0;
-    next_arrival = next_arrival.0;
-    last_event = last_event.0;
-    line = line.0;
-    next_batch = next_batch.0;
-  }, next_batch.1)
+  Ok (
+    record {
+      version = version.0;
+      store = store.0;
+      flow = flow.0;
+      connections = connections.0;
+      processors = processors.0;
+      counts = counts.0;
+      next_number = next_number.0;
+      next_arrival = next_arrival.0;
+      last_event = last_event.0;
+      line = line.0;
+      next_batch = next_batch.0;
+    },
+    next_batch.1,
+  )
 
 -- ---- where memory is taken: for the first item of a list
 

@@ -1,5 +1,5 @@
 //! The entries that a block of a log holds.
-ghost use Rattle.std.specs.Prelude.{◌≡◌, ℕ, ◌<◌, ◌^◌, List, [], ◌∷◌, map, All, IsTrue, IfOk, IfSome, IsErr, Some, vec_len};
+ghost use Rattle.std.specs.Prelude.{◌≡◌, List, [], ◌∷◌, map, All, IsTrue, IfOk, IfSome, IsErr, Some};
 ghost use Rattle.std.specs.Option.{option_map};
 ghost use Rattle.record_codec.specs.BlockEntries.{entry_read, entries_of, entries_in, entries_take_memory};
 ghost use Rattle.record_codec.specs.EntryReading.{takes_memory};

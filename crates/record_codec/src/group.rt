@@ -1,15 +1,15 @@
 //! Groups: several entries behind one gate.
 //!
 //! The payload of a group's block is a list of items, and an item is an entry's kind and its encoding.
-ghost use Rattle.std.specs.Prelude.{◌≡◌, ℕ, ◌+◌, ◌<◌, ◌≤◌, ◌^◌, List, ◌++◌, length, vec_len, vec_capacity, IsTrue, is_ok, IfOk, IsErrOf, IsOk, OnOk, OnErr, Ok};
+ghost use Rattle.std.specs.Prelude.{◌≡◌, ◌+◌, ◌<◌, ◌≤◌, ◌^◌, List, ◌++◌, length, vec_len, vec_capacity, IsTrue, is_ok, IfOk, IsErrOf, IsOk, OnOk, OnErr, Ok};
 ghost use Rattle.flowfile_record.specs.Field.{HasOneEncoding};
 ghost use Rattle.flowfile_record.specs.Reading.{Reads, Gives, Answers, answer, whole, items_at};
 ghost use Rattle.record_codec.specs.Group as encoding;
 ghost use Rattle.record_codec.specs.Group.{IsItem, IsGroup};
 ghost use Rattle.record_codec.specs.GroupReading.{payload_at, item_kind_at, several_at, item_at, group_at, first_item_at};
-ghost use Rattle.record_codec.specs.declared.block.TheConstants.{PAYLOAD_MAX};
 ghost use Rattle.record_codec.specs.declared.group.Item.{Item as TheItem};
 
+use crate::PAYLOAD_MAX;
 use flowfile_record::fields::{FieldError, Unread, put, put_u8, put_u32, read_u8, read_u32};
 use flowfile_record::{Bytes, CodecError, Sequence};
 use std::alloc::{AllocError, Global};
