@@ -45,7 +45,7 @@ use Rattle.engine_steps.specs.declared.error.EngineError.{EngineError}
 module _ (flow : Flow) (tells : Bool) {D : Type 0} (held : D → Files) (moment : D → ℕ) (images : D → ℕ → Files → Type 0) where
   kept_roomy : (s t : StoreState) (room : ℕ) (disk : D) → t ≡ with_room room s → IsKeptOn tells held moment images s disk → IsKeptOn tells held moment images t disk
   kept_roomy s t room disk is kept = subst (λ (u : StoreState). IsKeptOn tells held moment images u disk) (sym is) (record {
-    holds = λ works c now. let h = kept.holds works c now in record { kept = h.kept; contents = h.contents; events = h.events };
+    holds = λ works c now. let h = kept.holds works c now in record { kept = h.kept; contents = h.contents; events = h.events; line = h.line };
     log = λ works c now. let l = kept.log works c now in record { ready = l.ready; entries = l.entries };
     sizes = kept.sizes;
     trimmed = kept.trimmed;
@@ -67,7 +67,7 @@ module _ (flow : Flow) (tells : Bool) {D : Type 0} (held : D → Files) (moment 
       holds = λ f c left. work.kept.holds f c (before c left);
       log = λ f c left. work.kept.log f c (before c left);
       sizes = λ f told. subst (HasSizes s.slots) (sym stays.files) (work.kept.sizes f told);
-      trimmed = λ f told. subst (IsTrimmed s.events.end) (sym stays.files) (work.kept.trimmed f told);
+      trimmed = λ f told. subst (IsTrimmed s.events.line s.events.end) (sym stays.files) (work.kept.trimmed f told);
     };
   }
     where

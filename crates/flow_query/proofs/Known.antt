@@ -1,5 +1,5 @@
 -- What is known of the state of a store that was read.
-use Rattle.std.proofs.Common.{◌≡◌, ℕ, ◌+◌, ◌<◌, ◌≤◌, List, [], ◌++◌, length, Ok, Err, sym, ap, subst, ◌∙◌, arith}
+use Rattle.std.proofs.Common.{◌≡◌, ℕ, ◌+◌, ◌<◌, ◌≤◌, List, [], ◌++◌, length, Ok, Err, refl, sym, ap, subst, ◌∙◌, arith}
 use Rattle.std.specs.Prelude.{filter}
 use Rattle.std.specs.List.{flat_map}
 use Rattle.std.proofs.lemmas.List.Concat.{flat_map-append}
@@ -7,6 +7,7 @@ use Rattle.disk_trait.specs.Files.{Files}
 use Rattle.disk_trait.specs.declared.file_name.Failed.{Failed}
 use Rattle.flowfile_record.specs.declared.event.Event.{Event}
 use Rattle.machine_model.specs.State.{State}
+use Rattle.prov_store.specs.Events.{events_in}
 use Rattle.prov_store.specs.Scanning.{is_within}
 use Rattle.prov_store.specs.State.{AreNumberedFrom}
 use Rattle.prov_store.proofs.InFiles.{last_numbered}
@@ -27,11 +28,12 @@ pub record IsKnown (s : SeenState) (state : State) : Type 0 where
 
 pub known : (files : Files) (s : SeenState) (state : State) → IsSeenOn files s → stands_for no_flow 0 files ≡ Ok state → IsKnown s state
 known files s state seen is =
-    let row = last_numbered s.events.end files seen.events.events seen.events.says in
+    let row = last_numbered 0 s.events.end files seen.events.events refl (ap (λ (n : ℕ). events_in files n s.events.end) (sym seen.line) ∙ seen.events.says) in
+    let many : length seen.events.events ≡ s.events.end = omega (arith, row.1) in
     let same : seen.events.events ≡ state.events = events_are files s state seen is in
     record {
       row = subst (AreNumberedFrom 1) same row.0;
-      many = ap length (sym same) ∙ row.1 ∙ seen.last_event;
+      many = ap length (sym same) ∙ many ∙ seen.last_event;
       store = ap (λ (x : State). x.store) (state_is files s state seen is);
     }
 

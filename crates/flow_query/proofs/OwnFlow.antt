@@ -267,10 +267,10 @@ kept_anew_of : (flow : Flow) (lot : ℕ) (files : Files) (k : Kept) → current_
 unfolding kept_in
 kept_anew_of flow lot files k none kept = unstrayed flow lot (first_stray files) k (sym (ap (behind_log flow lot files) (unmade_log files none)) ∙ kept)
 
-no_events : (files : Files) (events : List Event) → events_in files 0 ≡ Ok events → events ≡ []
-no_events files events is = nil_from_length events (last_numbered 0 files events is).1
+no_events : (files : Files) (events : List Event) → events_in files 0 0 ≡ Ok events → events ≡ []
+no_events files events is = nil_from_length events (omega (arith, (last_numbered 0 0 files events refl is).1))
 
-anew_state : (flow : Flow) (lot : ℕ) (files : Files) → current_number files ≡ None → first_stray files ≡ None → events_in files 0 ≡ Ok [] → stands_for flow lot files ≡ state_is (state_anew flow lot)
+anew_state : (flow : Flow) (lot : ℕ) (files : Files) → current_number files ≡ None → first_stray files ≡ None → events_in files 0 0 ≡ Ok [] → stands_for flow lot files ≡ state_is (state_anew flow lot)
 anew_state flow lot files none stray events =
     stands_by_kept flow lot files (kept_anew flow lot) (anew flow lot files none stray) ∙ state_of_sound files (kept_anew flow lot) [] refl events
 
@@ -281,8 +281,8 @@ unmade_seen flow lot of_query files state none stands =
     let kept = kept_anew_of flow lot files keeps.kept none keeps.is in
     let sound = sound_of files keeps.kept state keeps.state in
     let end : keeps.kept.last_event ≡ 0 = ap (λ (k : Kept). k.last_event) (sym kept.1) in
-    let says : events_in files 0 ≡ Ok sound.events = ap (events_in files) (sym end) ∙ sound.events_are in
-    let events : events_in files 0 ≡ Ok [] = says ∙ ap Ok (no_events files sound.events says) in
+    let says : events_in files 0 0 ≡ Ok sound.events = ap (events_in files 0) (sym end) ∙ sound.events_are in
+    let events : events_in files 0 0 ≡ Ok [] = says ∙ ap Ok (no_events files sound.events says) in
     let same : state_is state ≡ state_is (state_anew flow lot) = sym stands ∙ anew_state flow lot files none kept.0 events in
     (state_inj state (state_anew flow lot) same, anew_state no_flow of_query files none kept.0 events)
 

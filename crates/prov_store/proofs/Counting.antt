@@ -26,17 +26,17 @@ code_within Drop = (omega arith, omega arith)
 code_within Expire = (omega arith, omega arith)
 code_within Replay = (omega arith, omega arith)
 
-of_both : (code : ℕ) (xs ys : List Event) → count_of_code code (xs ++ ys) ≡ count_of_code code xs + count_of_code code ys
+pub of_both : (code : ℕ) (xs ys : List Event) → count_of_code code (xs ++ ys) ≡ count_of_code code xs + count_of_code code ys
 of_both code xs ys = ap length (filter-append (λ (e : Event). code_of e.kind == code) xs ys) ∙ length-append (filter (λ (e : Event). code_of e.kind == code) xs) (filter (λ (e : Event). code_of e.kind == code) ys)
 
-of_one : (code : ℕ) (e : Event) → count_of_code code (e ∷ []) ≡ cond (code_of e.kind == code) 1 0
+pub of_one : (code : ℕ) (e : Event) → count_of_code code (e ∷ []) ≡ cond (code_of e.kind == code) 1 0
 of_one code e = of_test (code_of e.kind == code)
   where
     of_test : (b : Bool) → length (cond b (e ∷ []) []) ≡ cond b 1 0
     of_test true = refl
     of_test false = refl
 
-one_or_none : {b d : Bool} → b ≡ d → ◌≡◌ {A = ℕ} (cond b 1 0) (cond d 1 0)
+pub one_or_none : {b d : Bool} → b ≡ d → ◌≡◌ {A = ℕ} (cond b 1 0) (cond d 1 0)
 one_or_none same = ap {B = ℕ} (λ (b : Bool). cond b 1 0) same
 
 -- one event more is counted

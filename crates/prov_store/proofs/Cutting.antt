@@ -1,5 +1,5 @@
 -- Files of events are cut, one behind the other.
-use Rattle.std.proofs.Common.{◌≡◌, ◌≢◌, ◌⊎◌, inl, inr, ⊎_elim, ℕ, zero, suc, ◌+◌, ◌≤◌, ◌<◌, Bool, IsTrue, List, [], length, get_or, take, refl, sym, ap, subst, ◌∙◌, arith}
+use Rattle.std.proofs.Common.{◌≡◌, ◌≢◌, ◌⊎◌, inl, inr, ⊎_elim, ℕ, ◌+◌, ◌≤◌, ◌<◌, Bool, IsTrue, List, [], length, get_or, take, refl, sym, ap, subst, ◌∙◌, arith}
 use Rattle.std.specs.Prelude.{All, Contains}
 use Rattle.std.proofs.lemmas.Bool.{cases_lt, cases_eq}
 use Rattle.std.proofs.lemmas.List.{length-take, take-take, get_or_default}
@@ -156,15 +156,15 @@ cut_shortens done stale old new so_far = record {
 
 pub same_sizes : (state : EventsState) (files : Files) (s : Stale) (i : ℕ) → HasStale state files → i < length state.stale → get_or state.stale i s ≡ s → SameSizes state.stale s
 same_sizes state files s i has within is j t lt same =
-    let here : s.size ≡ covered_size state.end s.file files = subst (λ (u : Stale). u.size ≡ covered_size state.end u.file files) is (has.sizes i s within) in
-    has.sizes j t lt ∙ ap (λ (k : ℕ). covered_size state.end k files) same ∙ sym here
+    let here : s.size ≡ covered_size state.line state.end s.file files = subst (λ (u : Stale). u.size ≡ covered_size state.line state.end u.file files) is (has.sizes i s within) in
+    has.sizes j t lt ∙ ap (λ (k : ℕ). covered_size state.line state.end k files) same ∙ sym here
 
 -- a file that is to be cut is long enough
 pub long_enough : (state : EventsState) (i : ℕ) (s : Stale) (old mid : Files) → HasEvents state old → HasStale state old → i < length state.stale → get_or state.stale i s ≡ s
     → CutSoFar i state.stale old mid → s.size ≤ length (mid (events_file s.file))
 long_enough state i s old mid has stale within is so_far =
-    let here : s.size ≡ covered_size state.end s.file old = subst (λ (u : Stale). u.size ≡ covered_size state.end u.file old) is (stale.sizes i s within) in
-    let fits = size_fits state.end s.file old has.events has.says in
+    let here : s.size ≡ covered_size state.line state.end s.file old = subst (λ (u : Stale). u.size ≡ covered_size state.line state.end u.file old) is (stale.sizes i s within) in
+    let fits = size_fits state.line state.end s.file old has.events has.says in
     let was = subst (λ (t : Stale). (mid (events_file t.file) ≡ old (events_file t.file)) ⊎ (mid (events_file t.file) ≡ take t.size (old (events_file t.file)))) is (so_far.each i s within) in
     ⊎_elim
     (λ (p : mid (events_file s.file) ≡ old (events_file s.file)). omega (arith, ap length p, here, fits))
@@ -182,13 +182,13 @@ all_cut state after old new has stale cut is =
       trimmed = λ k. trimmed k ∙ sym (keeps.events k);
     })
   where
-    trimmed : (k : ℕ) → new (events_file k) ≡ covered_bytes state.end k old
+    trimmed : (k : ℕ) → new (events_file k) ≡ covered_bytes state.line state.end k old
     trimmed k = elim (is_stale_or_not state.stale k) [
       | inl listed ↦
           let d : Stale = record { file = k; size = 0 } in
           let at = stale_at state.stale k d listed in
           let s = get_or state.stale at.0 d in
-          subst (λ (i : ℕ). new (events_file i) ≡ covered_bytes state.end i old) at.2
+          subst (λ (i : ℕ). new (events_file i) ≡ covered_bytes state.line state.end i old) at.2
           (cut.cut at.0 d at.1 at.1 ∙ ap (λ (n : ℕ). take n (old (events_file s.file))) (stale.sizes at.0 d at.1))
       | inr other ↦ cut.rest k other ∙ stale.others k other
     ]

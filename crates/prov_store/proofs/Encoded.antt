@@ -53,20 +53,20 @@ events_encoded (suc count) file at number bytes events small is =
     (All-cons IsEvent f.first.0 f.later (read_encoded number bytes f.first small f.here)
     (events_encoded count file (at + f.first.1) (number + 1) (drop f.first.1 bytes) f.later (small_drop f.first.1 bytes small) f.behind))
 
-files_encoded : (count last k : ℕ) (files : Files) (events : List Event) → ((j : ℕ) → IsBytes (files (events_file j))) → events_of_files count last k files ≡ Ok events
+files_encoded : (count line last k : ℕ) (files : Files) (events : List Event) → ((j : ℕ) → IsBytes (files (events_file j))) → events_of_files count line last k files ≡ Ok events
     → All IsEvent events
-files_encoded zero last k files events small is =
+files_encoded zero line last k files events small is =
     let none : events ≡ [] = cc is in
     subst (All IsEvent) (sym none) (All-nil IsEvent)
-files_encoded (suc count) last k files events small is =
-    let f = first_file count last k files events is in
+files_encoded (suc count) line last k files events small is =
+    let f = first_file count line last k files events is in
     subst (All IsEvent) (sym f.both)
     (All-append IsEvent f.here f.later
-    (events_encoded (count_in last k) (events_file k) 0 (first_event k) (files (events_file k)) f.here (small k) f.first)
-    (files_encoded count last (k + 1) files f.later small f.behind))
+    (events_encoded (count_in line last k) (events_file k) 0 (first_event k) (files (events_file k)) f.here (small k) f.first)
+    (files_encoded count line last (k + 1) files f.later small f.behind))
 
-pub last_encoded : (last : ℕ) (files : Files) (events : List Event) → ((k : ℕ) → IsBytes (files (events_file k))) → events_in files last ≡ Ok events → All IsEvent events
-last_encoded last files events small is = files_encoded (suc (last / EVENTS_PER_FILE)) last 0 files events small (sym (in_files last files) ∙ is)
+pub last_encoded : (line last : ℕ) (files : Files) (events : List Event) → ((k : ℕ) → IsBytes (files (events_file k))) → events_in files line last ≡ Ok events → All IsEvent events
+last_encoded line last files events small is = files_encoded (suc (last / EVENTS_PER_FILE)) line last 0 files events small (sym (in_files line last files) ∙ is)
 
 -- ---- what was written
 

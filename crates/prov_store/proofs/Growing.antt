@@ -1,5 +1,5 @@
 -- Files of events grow behind the last event.
-use Rattle.std.proofs.Common.{◌≡◌, ◌≢◌, ◌⊎◌, inl, inr, ℕ, suc, ◌+◌, ◌*◌, ◌/◌, ◌%◌, ◌≤◌, ◌<◌, true, false, List, [], ◌++◌, length, take, drop, refl, sym, ap, subst, ◌∙◌, append_assoc, arith}
+use Rattle.std.proofs.Common.{◌≡◌, ◌≢◌, ◌⊎◌, inl, inr, ℕ, suc, ◌+◌, ◌/◌, ◌%◌, ◌≤◌, ◌<◌, true, false, List, [], ◌++◌, length, take, drop, refl, sym, ap, subst, ◌∙◌, append_assoc, arith}
 use Rattle.std.specs.Prelude.{Ok, Result, All, ◌==◌}
 use Rattle.std.proofs.lemmas.Bool.{cases_lt, cases_eq}
 use Rattle.std.proofs.lemmas.Bool.Decides.{nat_tests}
@@ -13,7 +13,7 @@ use Rattle.flowfile_record.specs.declared.event.Event.{Event}
 use Rattle.prov_store.specs.Blocks.{blocks_of, next_offset}
 use Rattle.prov_store.specs.Events.{◌>>=◌, events_file, count_in, first_event, events_from, events_of_file, events_of_files, events_in, blocks_size, covered_size, covered_bytes}
 use Rattle.prov_store.specs.Growing.{Stands}
-use Rattle.prov_store.specs.State.{EventsState, HasBlock, AreNumberedFrom, IsTrimmed, GrowsBehind}
+use Rattle.prov_store.specs.State.{EventsState, HasBlock, AreNumberedFrom, IsEventLine, IsTrimmed, GrowsBehind}
 use Rattle.flowfile_record.specs.declared.limits.TheConstants.{EVENTS_PER_FILE}
 use Rattle.prov_store.proofs.Encoded.{events_read_back}
 use Rattle.prov_store.proofs.InFile.{events_same, events_behind, sizes_behind}
@@ -22,12 +22,12 @@ use Rattle.prov_store.proofs.InFiles.{covered_alike, in_files, file_of_events, c
 -- ---- the file that grows
 
 -- its bytes end where the next event goes
-pub ends_there : (last offset : ℕ) (files : Files) (events : List Event) → Stands last offset files events → length (files (events_file (last / EVENTS_PER_FILE))) ≡ offset
-ends_there last offset files events stands =
+pub ends_there : (line last offset : ℕ) (files : Files) (events : List Event) → Stands line last offset files events → length (files (events_file (last / EVENTS_PER_FILE))) ≡ offset
+ends_there line last offset files events stands =
     let k = last / EVENTS_PER_FILE in
-    let here = file_of_events last k files events stands.says (omega arith) in
-    let fits = covered_fits last k files here.0 here.1 in
-    omega (arith, fits, stands.next, ap length (stands.trimmed k), length-take (covered_size last k files) (files (events_file k)))
+    let here = file_of_events line last k files events stands.says (omega arith) in
+    let fits = covered_fits line last k files here.0 here.1 in
+    omega (arith, fits, stands.next, ap length (stands.trimmed k), length-take (covered_size line last k files) (files (events_file k)))
 
 written_behind : (offset : ℕ) (bytes old new : List ℕ) → length old ≡ offset → Overwritten offset bytes old new → new ≡ old ++ bytes
 written_behind offset bytes old new long written =
@@ -63,106 +63,106 @@ grown_file count file number old here added is long have numbered =
 
 -- ---- all files
 
-module _ (last offset : ℕ) (old new : Files) (before added : List Event) (stands : Stands last offset old before) (fits : last % EVENTS_PER_FILE + length added ≤ EVENTS_PER_FILE)
+module _ (line last offset : ℕ) (old new : Files) (before added : List Event) (of : IsEventLine line last) (stands : Stands line last offset old before) (fits : last % EVENTS_PER_FILE + length added ≤ EVENTS_PER_FILE)
     (have : All HasBlock added) (numbered : AreNumberedFrom (last + 1) added) (at : At (events_file (last / EVENTS_PER_FILE)) (Overwritten offset (blocks_of added)) old new) where
   -- the same events stand before the file that grows
-  counts_alike : (j : ℕ) → j < last / EVENTS_PER_FILE → count_in (last + length added) j ≡ count_in last j
+  counts_alike : (j : ℕ) → j < last / EVENTS_PER_FILE → count_in line (last + length added) j ≡ count_in line last j
   counts_alike j lt = omega (arith, lt)
 
   others_alike : (j : ℕ) → j ≢ last / EVENTS_PER_FILE → new (events_file j) ≡ old (events_file j)
   others_alike j other = at.others (events_file j) (λ same. other (ap (λ (f : FileName). f.number) same))
 
-  earlier_alike : (j : ℕ) (here : List Event) → j < last / EVENTS_PER_FILE → events_of_file last j old ≡ Ok here → events_of_file (last + length added) j new ≡ Ok here
+  earlier_alike : (j : ℕ) (here : List Event) → j < last / EVENTS_PER_FILE → events_of_file line last j old ≡ Ok here → events_of_file line (last + length added) j new ≡ Ok here
   earlier_alike j here lt is =
       ap (λ (n : ℕ). events_from n (events_file j) 0 (first_event j) (new (events_file j))) (counts_alike j lt)
-      ∙ ap (events_from (count_in last j) (events_file j) 0 (first_event j)) (others_alike j (λ same. absurd (omega (arith, lt, same)))) ∙ is
+      ∙ ap (events_from (count_in line last j) (events_file j) 0 (first_event j)) (others_alike j (λ same. absurd (omega (arith, lt, same)))) ∙ is
 
-  here_counts : count_in (last + length added) (last / EVENTS_PER_FILE) ≡ count_in last (last / EVENTS_PER_FILE) + length added
-  here_counts = omega (arith, fits)
+  here_counts : count_in line (last + length added) (last / EVENTS_PER_FILE) ≡ count_in line last (last / EVENTS_PER_FILE) + length added
+  here_counts = omega (arith, fits, of.whole, of.within)
 
   here_bytes : new (events_file (last / EVENTS_PER_FILE)) ≡ old (events_file (last / EVENTS_PER_FILE)) ++ blocks_of added
-  here_bytes = written_behind offset (blocks_of added) (old (events_file (last / EVENTS_PER_FILE))) (new (events_file (last / EVENTS_PER_FILE))) (ends_there last offset old before stands) at.here
+  here_bytes = written_behind offset (blocks_of added) (old (events_file (last / EVENTS_PER_FILE))) (new (events_file (last / EVENTS_PER_FILE))) (ends_there line last offset old before stands) at.here
 
-  old_size : blocks_size (count_in last (last / EVENTS_PER_FILE)) (old (events_file (last / EVENTS_PER_FILE))) ≡ length (old (events_file (last / EVENTS_PER_FILE)))
+  old_size : blocks_size (count_in line last (last / EVENTS_PER_FILE)) (old (events_file (last / EVENTS_PER_FILE))) ≡ length (old (events_file (last / EVENTS_PER_FILE)))
   unfolding covered_size
-  old_size = omega (arith, ends_there last offset old before stands, stands.next)
+  old_size = omega (arith, ends_there line last offset old before stands, stands.next)
 
-  grown_here : (here : List Event) → events_of_file last (last / EVENTS_PER_FILE) old ≡ Ok here
-      → Grown (count_in last (last / EVENTS_PER_FILE)) (length added) (events_file (last / EVENTS_PER_FILE)) (first_event (last / EVENTS_PER_FILE)) (old (events_file (last / EVENTS_PER_FILE))) (blocks_of added) here added
+  grown_here : (here : List Event) → events_of_file line last (last / EVENTS_PER_FILE) old ≡ Ok here
+      → Grown (count_in line last (last / EVENTS_PER_FILE)) (length added) (events_file (last / EVENTS_PER_FILE)) (first_event (last / EVENTS_PER_FILE)) (old (events_file (last / EVENTS_PER_FILE))) (blocks_of added) here added
   grown_here here is =
       let k = last / EVENTS_PER_FILE in
-      let next : last + 1 ≡ first_event k + count_in last k = omega arith in
-      grown_file (count_in last k) (events_file k) (first_event k) (old (events_file k)) here added is old_size have
+      let next : last + 1 ≡ first_event k + count_in line last k = omega (arith, of.whole, of.within) in
+      grown_file (count_in line last k) (events_file k) (first_event k) (old (events_file k)) here added is old_size have
       (subst (λ (n : ℕ). AreNumberedFrom n added) next numbered)
 
-  here_says : (here : List Event) → events_of_file last (last / EVENTS_PER_FILE) old ≡ Ok here → events_of_file (last + length added) (last / EVENTS_PER_FILE) new ≡ Ok (here ++ added)
+  here_says : (here : List Event) → events_of_file line last (last / EVENTS_PER_FILE) old ≡ Ok here → events_of_file line (last + length added) (last / EVENTS_PER_FILE) new ≡ Ok (here ++ added)
   here_says here is =
       let k = last / EVENTS_PER_FILE in
       ap (λ (n : ℕ). events_from n (events_file k) 0 (first_event k) (new (events_file k))) here_counts
-      ∙ ap (events_from (count_in last k + length added) (events_file k) 0 (first_event k)) here_bytes ∙ (grown_here here is).says
+      ∙ ap (events_from (count_in line last k + length added) (events_file k) 0 (first_event k)) here_bytes ∙ (grown_here here is).says
 
-  here_size : covered_size (last + length added) (last / EVENTS_PER_FILE) new ≡ offset + length (blocks_of added)
+  here_size : covered_size line (last + length added) (last / EVENTS_PER_FILE) new ≡ offset + length (blocks_of added)
   unfolding covered_size
   here_size =
       let k = last / EVENTS_PER_FILE in
-      let here = file_of_events last k old before stands.says (omega arith) in
-      let size = ap (λ (n : ℕ). blocks_size n (new (events_file k))) here_counts ∙ ap (blocks_size (count_in last k + length added)) here_bytes ∙ (grown_here here.0 here.1).size in
-      omega (arith, size, ends_there last offset old before stands)
+      let here = file_of_events line last k old before stands.says (omega arith) in
+      let size = ap (λ (n : ℕ). blocks_size n (new (events_file k))) here_counts ∙ ap (blocks_size (count_in line last k + length added)) here_bytes ∙ (grown_here here.0 here.1).size in
+      omega (arith, size, ends_there line last offset old before stands)
 
-  all_say : events_in new (last + length added) ≡ Ok (before ++ added)
+  all_say : events_in new line (last + length added) ≡ Ok (before ++ added)
   all_say =
       let k = last / EVENTS_PER_FILE in
       let one_more : suc k ≡ k + 1 = omega arith in
       let place : 0 + k ≡ k = omega arith in
-      let all = ap (λ (n : ℕ). events_of_files n last 0 old) (sym one_more) ∙ sym (in_files last old) ∙ stands.says in
-      let s = split_files k 1 last 0 old before all in
-      let f = first_file 0 last k old s.back (ap (λ (j : ℕ). events_of_files 1 last j old) (sym place) ∙ s.behind) in
+      let all = ap (λ (n : ℕ). events_of_files n line last 0 old) (sym one_more) ∙ sym (in_files line last old) ∙ stands.says in
+      let s = split_files k 1 line last 0 old before all in
+      let f = first_file 0 line last k old s.back (ap (λ (j : ℕ). events_of_files 1 line last j old) (sym place) ∙ s.behind) in
       let none : f.later ≡ [] = cc f.behind in
-      let earlier = files_same k last (last + length added) 0 old new s.front s.first (λ j here le lt is. earlier_alike j here (omega (arith, lt)) is) in
-      let behind : events_of_files 1 (last + length added) k new ≡ Ok ((f.here ++ added) ++ []) = with_files 0 (last + length added) k new (f.here ++ added) [] (here_says f.here f.first) refl in
+      let earlier = files_same k line last line (last + length added) 0 old new s.front s.first (λ j here le lt is. earlier_alike j here (omega (arith, lt)) is) in
+      let behind : events_of_files 1 line (last + length added) k new ≡ Ok ((f.here ++ added) ++ []) = with_files 0 line (last + length added) k new (f.here ++ added) [] (here_says f.here f.first) refl in
       let back : s.back ≡ f.here = f.both ∙ ap (λ (l : List Event). f.here ++ l) none ∙ append-nil f.here in
-      all_files (suc k) (last + length added) new (before ++ added)
-      (ap (λ (n : ℕ). events_of_files n (last + length added) 0 new) one_more ∙ files_behind k 1 (last + length added) 0 new s.front earlier
-      ∙ ap (λ (j : ℕ). events_of_files 1 (last + length added) j new >>= (λ later. Ok (s.front ++ later))) place
+      all_files (suc k) line (last + length added) new (before ++ added)
+      (ap (λ (n : ℕ). events_of_files n line (last + length added) 0 new) one_more ∙ files_behind k 1 line (last + length added) 0 new s.front earlier
+      ∙ ap (λ (j : ℕ). events_of_files 1 line (last + length added) j new >>= (λ later. Ok (s.front ++ later))) place
       ∙ ap (λ (r : Result (List Event) Damage). r >>= (λ later. Ok (s.front ++ later))) behind
       ∙ ap (λ (l : List Event). Ok (s.front ++ l)) (append-nil (f.here ++ added))
       ∙ ap Ok (sym (append_assoc s.front f.here added) ∙ ap (λ (l : List Event). (s.front ++ l) ++ added) (sym back) ∙ ap (λ (l : List Event). l ++ added) (sym s.both)))
       (omega (arith, fits))
 
   -- nothing stands behind them
-  all_trimmed : IsTrimmed (last + length added) new
+  all_trimmed : IsTrimmed line (last + length added) new
   all_trimmed j = elim (cases_lt j (last / EVENTS_PER_FILE)) [
     | inl earlier ↦
         let stays = others_alike j (λ same. absurd (omega (arith, earlier, same))) in
-        stays ∙ stands.trimmed j ∙ sym (covered_alike last (last + length added) j old new (counts_alike j earlier) stays)
+        stays ∙ stands.trimmed j ∙ sym (covered_alike line last line (last + length added) j old new (counts_alike j earlier) stays)
     | inr from ↦ elim (cases_eq j (last / EVENTS_PER_FILE)) [
-      | inl here ↦ subst (λ (i : ℕ). new (events_file i) ≡ covered_bytes (last + length added) i new) (sym here) here_trimmed
+      | inl here ↦ subst (λ (i : ℕ). new (events_file i) ≡ covered_bytes line (last + length added) i new) (sym here) here_trimmed
       | inr other ↦
-          let past : last ≤ EVENTS_PER_FILE * j = omega (arith, from, other) in
-          let past_now : last + length added ≤ EVENTS_PER_FILE * j = omega (arith, from, other, fits) in
-          others_alike j other ∙ stands.trimmed j ∙ no_bytes last j old past ∙ sym (no_bytes (last + length added) j new past_now)
+          let past : count_in line last j ≡ 0 = omega (arith, from, other) in
+          let past_now : count_in line (last + length added) j ≡ 0 = omega (arith, from, other, fits) in
+          others_alike j other ∙ stands.trimmed j ∙ no_bytes line last j old past ∙ sym (no_bytes line (last + length added) j new past_now)
     ]
   ]
     where
-      here_trimmed : new (events_file (last / EVENTS_PER_FILE)) ≡ covered_bytes (last + length added) (last / EVENTS_PER_FILE) new
+      here_trimmed : new (events_file (last / EVENTS_PER_FILE)) ≡ covered_bytes line (last + length added) (last / EVENTS_PER_FILE) new
       here_trimmed =
           let bytes = new (events_file (last / EVENTS_PER_FILE)) in
           let long : length bytes ≡ offset + length (blocks_of added) =
-          ap length here_bytes ∙ length-append (old (events_file (last / EVENTS_PER_FILE))) (blocks_of added) ∙ ap (λ (n : ℕ). n + length (blocks_of added)) (ends_there last offset old before stands) in
-          sym (take_all (covered_size (last + length added) (last / EVENTS_PER_FILE) new) bytes (omega (arith, long, here_size)))
+          ap length here_bytes ∙ length-append (old (events_file (last / EVENTS_PER_FILE))) (blocks_of added) ∙ ap (λ (n : ℕ). n + length (blocks_of added)) (ends_there line last offset old before stands) in
+          sym (take_all (covered_size line (last + length added) (last / EVENTS_PER_FILE) new) bytes (omega (arith, long, here_size)))
 
-  next_is : next_offset (last + length added) (offset + length (blocks_of added)) ≡ covered_size (last + length added) ((last + length added) / EVENTS_PER_FILE) new
+  next_is : next_offset (last + length added) (offset + length (blocks_of added)) ≡ covered_size line (last + length added) ((last + length added) / EVENTS_PER_FILE) new
   next_is = elim (cases_eq ((last + length added) % EVENTS_PER_FILE) 0) [
     | inl full ↦
         let test : ((last + length added) % EVENTS_PER_FILE == 0) ≡ true = grind (arith, nat_tests, full) in
-        rw test (sym (no_size (last + length added) ((last + length added) / EVENTS_PER_FILE) new (omega (arith, full))))
+        rw test (sym (no_size line (last + length added) ((last + length added) / EVENTS_PER_FILE) new (omega (arith, full))))
     | inr some ↦
         let test : ((last + length added) % EVENTS_PER_FILE == 0) ≡ false = grind (arith, nat_tests, some) in
         let same : (last + length added) / EVENTS_PER_FILE ≡ last / EVENTS_PER_FILE = omega (arith, some, fits) in
-        rw test (sym here_size ∙ ap (λ (k : ℕ). covered_size (last + length added) k new) (sym same))
+        rw test (sym here_size ∙ ap (λ (k : ℕ). covered_size line (last + length added) k new) (sym same))
   ]
 
-  pub grown : Stands (last + length added) (next_offset (last + length added) (offset + length (blocks_of added))) new (before ++ added)
+  pub grown : Stands line (last + length added) (next_offset (last + length added) (offset + length (blocks_of added))) new (before ++ added)
   grown = record { says = all_say; next = next_is; trimmed = all_trimmed }
 
 -- ---- what may be left

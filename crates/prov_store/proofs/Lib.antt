@@ -1,3 +1,4 @@
+pub mod Aging
 pub mod Counting
 pub mod Cutting
 pub mod Encoded

@@ -1,25 +1,25 @@
 -- Files of events are read, event by event and file by file.
-use Rattle.std.proofs.Common.{◌≡◌, ℕ, suc, ◌+◌, ◌-◌, ◌*◌, ◌/◌, ◌≤◌, ◌<◌, Bool, IsTrue, inl, inr, List, [], ◌∷◌, ◌++◌, length, get_or, drop, sym, ap, subst, ◌∙◌, arith}
-use Rattle.std.specs.Prelude.{Result, Ok, Err, min, All, Contains}
+use Rattle.std.proofs.Common.{◌≡◌, ℕ, suc, ◌+◌, ◌-◌, ◌/◌, ◌≤◌, ◌<◌, Bool, IsTrue, inl, inr, List, [], ◌∷◌, ◌++◌, length, drop, sym, ap, subst, ◌∙◌, arith}
+use Rattle.std.specs.Prelude.{Result, Ok, Err, All, Contains}
 use Rattle.std.specs.List.{range_with_len}
 use Rattle.std.proofs.lemmas.Bool.{cases_lt}
 use Rattle.std.proofs.lemmas.List.{length-append, drop-drop, append-nil, take_all, map-append}
-use Rattle.std.proofs.lemmas.List.Elements.{All-push, All-append, Contains-append_left, Contains-append_right}
+use Rattle.std.proofs.lemmas.List.Elements.{All-push, Contains-append_left, Contains-append_right}
 use Rattle.disk_trait.proofs.FileLists.{contains_here}
 use Rattle.disk_trait.specs.Files.{Files}
 use Rattle.disk_trait.specs.declared.damage.Damage.{Damage}
 use Rattle.disk_trait.specs.declared.file_name.FileName.{FileName}
 use Rattle.flowfile_record.specs.declared.event.Event.{Event}
 use Rattle.prov_store.specs.Events.{◌>>=◌, event_by, first_event, count_in, events_file, events_from, events_of_file, events_of_files, blocks_size, covered_bytes, covered_size}
-use Rattle.prov_store.specs.Loading.{AreReadEvents, AreLater, EventsAreLoaded, bytes_there}
+use Rattle.prov_store.specs.Loading.{AreReadEvents, EventsAreLoaded, bytes_there}
 use Rattle.prov_store.specs.Reading.{event_there}
-use Rattle.prov_store.specs.State.{AreCounted}
+use Rattle.prov_store.specs.State.{AreCounted, IsEventLine}
 use Rattle.prov_store.specs.declared.events.Stale.{Stale}
 use Rattle.prov_store.specs.declared.load.Loading.{Loading}
 use Rattle.prov_store.specs.declared.read.Cursor.{Cursor}
 use Rattle.flowfile_record.specs.declared.limits.TheConstants.{EVENTS_PER_FILE}
 use Rattle.prov_store.proofs.InFile.{read_of, with_first, events_behind, sizes_behind, size_of_first}
-use Rattle.prov_store.proofs.InFiles.{files_behind, no_size, range_both}
+use Rattle.prov_store.proofs.InFiles.{files_behind, range_both}
 use Rattle.prov_store.proofs.Counting.{counts_are}
 use Rattle.prov_store.proofs.Keeping.{stale_files}
 use Rattle.record_codec.specs.Block.{reading_of}
@@ -97,21 +97,21 @@ damaged_there tells files start i many events cursor damage read is lt told here
     (there_is files start i cursor is (read.reaches told) (Err damage) here)
 
 -- one file more
-pub file_more : (k last : ℕ) (files : Files) (events here : List Event) → events_of_files k last 0 files ≡ Ok events → events_of_file last k files ≡ Ok here
-    → events_of_files (k + 1) last 0 files ≡ Ok (events ++ here)
-file_more k last files events here is one =
+pub file_more : (k line last : ℕ) (files : Files) (events here : List Event) → events_of_files k line last 0 files ≡ Ok events → events_of_file line last k files ≡ Ok here
+    → events_of_files (k + 1) line last 0 files ≡ Ok (events ++ here)
+file_more k line last files events here is one =
     let place : 0 + k ≡ k = omega arith in
-    let first : events_of_files 1 last k files ≡ Ok (here ++ []) = ap (λ (r : Result (List Event) Damage). r >>= (λ es. events_of_files 0 last (k + 1) files >>= (λ later. Ok (es ++ later)))) one in
-    files_behind k 1 last 0 files events is ∙ ap (λ (j : ℕ). events_of_files 1 last j files >>= (λ later. Ok (events ++ later))) place
+    let first : events_of_files 1 line last k files ≡ Ok (here ++ []) = ap (λ (r : Result (List Event) Damage). r >>= (λ es. events_of_files 0 line last (k + 1) files >>= (λ later. Ok (es ++ later)))) one in
+    files_behind k 1 line last 0 files events is ∙ ap (λ (j : ℕ). events_of_files 1 line last j files >>= (λ later. Ok (events ++ later))) place
     ∙ ap (λ (r : Result (List Event) Damage). r >>= (λ later. Ok (events ++ later))) first ∙ ap (λ (l : List Event). Ok (events ++ l)) (append-nil here)
 
 -- the first damage of the files
-pub first_damaged : (k more last : ℕ) (files : Files) (events : List Event) (damage : Damage) → events_of_files k last 0 files ≡ Ok events → events_of_file last k files ≡ Err damage
-    → events_of_files (k + suc more) last 0 files ≡ Err damage
-first_damaged k more last files events damage is one =
+pub first_damaged : (k more line last : ℕ) (files : Files) (events : List Event) (damage : Damage) → events_of_files k line last 0 files ≡ Ok events → events_of_file line last k files ≡ Err damage
+    → events_of_files (k + suc more) line last 0 files ≡ Err damage
+first_damaged k more line last files events damage is one =
     let place : 0 + k ≡ k = omega arith in
-    let first : events_of_files (suc more) last k files ≡ Err damage = ap (λ (r : Result (List Event) Damage). r >>= (λ es. events_of_files more last (k + 1) files >>= (λ later. Ok (es ++ later)))) one in
-    files_behind k (suc more) last 0 files events is ∙ ap (λ (j : ℕ). events_of_files (suc more) last j files >>= (λ later. Ok (events ++ later))) place
+    let first : events_of_files (suc more) line last k files ≡ Err damage = ap (λ (r : Result (List Event) Damage). r >>= (λ es. events_of_files more line last (k + 1) files >>= (λ later. Ok (es ++ later)))) one in
+    files_behind k (suc more) line last 0 files events is ∙ ap (λ (j : ℕ). events_of_files (suc more) line last j files >>= (λ later. Ok (events ++ later))) place
     ∙ ap (λ (r : Result (List Event) Damage). r >>= (λ later. Ok (events ++ later))) first
 
 -- ---- what is known of the files that are read
@@ -125,52 +125,52 @@ cursor_on start cursor next i size is step =
     λ j. record { file = file j; size = long j; at = next.at; number = number j }
 
 -- a file that was read from its start on is that of a number
-pub file_read : (last k many number : ℕ) (file : FileName) (read files : Files) (r : Result (List Event) Damage) → read ≡ files → file ≡ events_file k → many ≡ count_in last k → number ≡ first_event k
-    → events_from many file 0 number (drop 0 (read file)) ≡ r → events_of_file last k files ≡ r
-file_read last k many number file read files r held name count first is =
-    sym (ap (λ (f : Files). events_from (count_in last k) (events_file k) 0 (first_event k) (f (events_file k))) held)
-    ∙ sym (ap (λ f. events_from (count_in last k) f 0 (first_event k) (read f)) name)
+pub file_read : (line last k many number : ℕ) (file : FileName) (read files : Files) (r : Result (List Event) Damage) → read ≡ files → file ≡ events_file k → many ≡ count_in line last k → number ≡ first_event k
+    → events_from many file 0 number (drop 0 (read file)) ≡ r → events_of_file line last k files ≡ r
+file_read line last k many number file read files r held name count first is =
+    sym (ap (λ (f : Files). events_from (count_in line last k) (events_file k) 0 (first_event k) (f (events_file k))) held)
+    ∙ sym (ap (λ f. events_from (count_in line last k) f 0 (first_event k) (read f)) name)
     ∙ sym (ap (λ (n : ℕ). events_from n file 0 (first_event k) (read file)) count)
     ∙ sym (ap (λ (n : ℕ). events_from many file 0 n (read file)) first) ∙ is
 
-pub size_read : (last k many size : ℕ) (file : FileName) (read files : Files) → read ≡ files → file ≡ events_file k → many ≡ count_in last k
-    → size ≡ 0 + blocks_size many (drop 0 (read file)) → size ≡ covered_size last k files
+pub size_read : (line last k many size : ℕ) (file : FileName) (read files : Files) → read ≡ files → file ≡ events_file k → many ≡ count_in line last k
+    → size ≡ 0 + blocks_size many (drop 0 (read file)) → size ≡ covered_size line last k files
 unfolding covered_size
-size_read last k many size file read files held name count is =
+size_read line last k many size file read files held name count is =
     let here : size ≡ blocks_size many (read file) = omega (arith, is) in
-    here ∙ ap (λ (n : ℕ). blocks_size n (read file)) count ∙ ap (λ f. blocks_size (count_in last k) (read f)) name ∙ ap (λ (f : Files). blocks_size (count_in last k) (f (events_file k))) held
+    here ∙ ap (λ (n : ℕ). blocks_size n (read file)) count ∙ ap (λ f. blocks_size (count_in line last k) (read f)) name ∙ ap (λ (f : Files). blocks_size (count_in line last k) (f (events_file k))) held
 
 -- which files are longer than what is covered, with one file more
 pub record StaleMore (tells : Bool) (files : Files) (k : ℕ) (old new : Loading) : Type 0 where
-  pub sizes : IsTrue tells → All (λ s. s.size ≡ covered_size old.end s.file files) new.stale.items
-  pub others : IsTrue tells → (j : ℕ) → j < k + 1 → (Contains (stale_files new.stale.items) j → ⊥) → files (events_file j) ≡ covered_bytes old.end j files
+  pub sizes : IsTrue tells → All (λ s. s.size ≡ covered_size old.line old.end s.file files) new.stale.items
+  pub others : IsTrue tells → (j : ℕ) → old.line / EVENTS_PER_FILE ≤ j → j < k + 1 → (Contains (stale_files new.stale.items) j → ⊥) → files (events_file j) ≡ covered_bytes old.line old.end j files
 
 pub stale_same : (tells : Bool) (files : Files) (k size : ℕ) (old new : Loading) → EventsAreLoaded tells files k old → new.stale.items ≡ old.stale.items
-    → (IsTrue tells → length (files (events_file k)) ≤ covered_size old.end k files) → StaleMore tells files k old new
+    → (IsTrue tells → length (files (events_file k)) ≤ covered_size old.line old.end k files) → StaleMore tells files k old new
 stale_same tells files k size old new loaded same short = record {
-  sizes = λ told. subst (λ (l : List Stale). All (λ s. s.size ≡ covered_size old.end s.file files) l) (sym same) (loaded.sizes told);
-  others = λ told j lt not.
+  sizes = λ told. subst (λ (l : List Stale). All (λ s. s.size ≡ covered_size old.line old.end s.file files) l) (sym same) (loaded.sizes told);
+  others = λ told j from lt not.
       let before = subst (λ (l : List Stale). Contains (stale_files l) j → ⊥) same not in
       elim (cases_lt j k) [
-        | inl earlier ↦ loaded.others told j earlier before
+        | inl earlier ↦ loaded.others told j from earlier before
         | inr here ↦
             let is : j ≡ k = omega (arith, lt, here) in
-            subst (λ (i : ℕ). files (events_file i) ≡ covered_bytes old.end i files) (sym is) (sym (take_all (covered_size old.end k files) (files (events_file k)) (short told)))
+            subst (λ (i : ℕ). files (events_file i) ≡ covered_bytes old.line old.end i files) (sym is) (sym (take_all (covered_size old.line old.end k files) (files (events_file k)) (short told)))
       ];
 }
 
 pub stale_one : (tells : Bool) (files : Files) (k size : ℕ) (old new : Loading) → EventsAreLoaded tells files k old → new.stale.items ≡ old.stale.items ++ record { file = k; size = size } ∷ []
-    → (IsTrue tells → size ≡ covered_size old.end k files) → StaleMore tells files k old new
+    → (IsTrue tells → size ≡ covered_size old.line old.end k files) → StaleMore tells files k old new
 stale_one tells files k size old new loaded more is = record {
   sizes = λ told.
-      subst (λ (l : List Stale). All (λ s. s.size ≡ covered_size old.end s.file files) l) (sym more)
-      (All-push (λ s. s.size ≡ covered_size old.end s.file files) old.stale.items (record { file = k; size = size }) (loaded.sizes told) (is told));
-  others = λ told j lt not.
+      subst (λ (l : List Stale). All (λ s. s.size ≡ covered_size old.line old.end s.file files) l) (sym more)
+      (All-push (λ s. s.size ≡ covered_size old.line old.end s.file files) old.stale.items (record { file = k; size = size }) (loaded.sizes told) (is told));
+  others = λ told j from lt not.
       let whole = subst (λ (l : List Stale). Contains (stale_files l) j → ⊥) more not in
       let parted : stale_files (old.stale.items ++ record { file = k; size = size } ∷ []) ≡ stale_files old.stale.items ++ k ∷ [] = map-append (λ (s : Stale). s.file) old.stale.items (record { file = k; size = size } ∷ []) in
       let apart = subst (λ (l : List ℕ). Contains l j → ⊥) parted whole in
       elim (cases_lt j k) [
-        | inl earlier ↦ loaded.others told j earlier (λ has. apart (Contains-append_left (stale_files old.stale.items) (k ∷ []) j has))
+        | inl earlier ↦ loaded.others told j from earlier (λ has. apart (Contains-append_left (stale_files old.stale.items) (k ∷ []) j has))
         | inr here ↦
             let same : j ≡ k = omega (arith, lt, here) in
             absurd (apart (Contains-append_right (stale_files old.stale.items) (k ∷ []) j (subst (λ (i : ℕ). Contains (k ∷ []) i) (sym same) (contains_here k []))))
@@ -178,45 +178,29 @@ stale_one tells files k size old new loaded more is = record {
 }
 
 -- one file more is read
-pub more_loaded : (tells : Bool) (files : Files) (k : ℕ) (old new : Loading) (here : List Event) → EventsAreLoaded tells files k old → k ≤ old.end / EVENTS_PER_FILE
-    → length here ≡ count_in old.end k → AreCounted here old.counts.counts new.counts.counts → length new.counts.counts ≡ 12 → new.end ≡ old.end
-    → (IsTrue tells → new.offset ≡ covered_size old.end k files) → (IsTrue tells → events_of_file old.end k files ≡ Ok here) → StaleMore tells files k old new
+pub more_loaded : (tells : Bool) (files : Files) (k : ℕ) (old new : Loading) (here : List Event) → EventsAreLoaded tells files k old → IsEventLine old.line old.end
+    → old.line / EVENTS_PER_FILE ≤ k → k ≤ old.end / EVENTS_PER_FILE
+    → length here ≡ count_in old.line old.end k → AreCounted here old.counts.counts new.counts.counts → length new.counts.counts ≡ 12
+    → new.line ≡ old.line → new.end ≡ old.end
+    → (IsTrue tells → new.offset ≡ covered_size old.line old.end k files) → (IsTrue tells → events_of_file old.line old.end k files ≡ Ok here) → StaleMore tells files k old new
     → EventsAreLoaded tells files (k + 1) new
-more_loaded tells files k old new here loaded within many counted long end offset says stale =
+more_loaded tells files k old new here loaded of from within many counted long line end offset says stale =
     let all = loaded.events ++ here in
     record {
       events = all;
       long = long;
       counts = counts_are loaded.events here old.counts.counts new.counts.counts long loaded.counts counted;
-      many = omega (arith, length-append loaded.events here, loaded.many, many, end, within);
-      says = λ told. subst (λ (n : ℕ). events_of_files (k + 1) n 0 files ≡ Ok all) (sym end) (file_more k old.end files loaded.events here (loaded.says told) (says told));
+      many = omega (arith, length-append loaded.events here, loaded.many, many, line, end, from, within, of.whole, of.within);
+      says = λ told.
+          ap (λ (n : ℕ). events_of_files (k + 1) n new.end 0 files) line ∙ ap (λ (n : ℕ). events_of_files (k + 1) old.line n 0 files) end
+          ∙ file_more k old.line old.end files loaded.events here (loaded.says told) (says told);
       offset = λ told j is.
           let same : j ≡ k = omega (arith, is) in
-          offset told ∙ ap (λ (i : ℕ). covered_size old.end i files) (sym same) ∙ ap (λ (n : ℕ). covered_size n j files) (sym end);
-      sizes = λ told. subst (λ (n : ℕ). All (λ s. s.size ≡ covered_size n s.file files) new.stale.items) (sym end) (stale.sizes told);
-      others = λ told. subst (λ (n : ℕ). (j : ℕ) → j < k + 1 → (Contains (stale_files new.stale.items) j → ⊥) → files (events_file j) ≡ covered_bytes n j files) (sym end) (stale.others told);
+          offset told ∙ ap (λ (i : ℕ). covered_size old.line old.end i files) (sym same) ∙ ap (λ (n : ℕ). covered_size n old.end j files) (sym line) ∙ ap (λ (n : ℕ). covered_size new.line n j files) (sym end);
+      sizes = λ told.
+          subst (λ (n : ℕ). All (λ s. s.size ≡ covered_size new.line n s.file files) new.stale.items) (sym end)
+          (subst (λ (n : ℕ). All (λ s. s.size ≡ covered_size n old.end s.file files) new.stale.items) (sym line) (stale.sizes told));
+      others = λ told j start lt not.
+          stale.others told j (omega (arith, start, line)) lt not
+          ∙ ap (λ (n : ℕ). covered_bytes n old.end j files) (sym line) ∙ ap (λ (n : ℕ). covered_bytes new.line n j files) (sym end);
     }
-
-pub kept_later : (old new : Loading) (j : ℕ) → AreLater old new → Contains (stale_files old.stale.items) j → Contains (stale_files new.stale.items) j
-kept_later old new j later has =
-    subst (λ (l : List Stale). Contains (stale_files l) j) (sym later.stale)
-    (subst (λ (l : List ℕ). Contains l j) (sym (map-append (λ (s : Stale). s.file) old.stale.items later.more))
-    (Contains-append_left (stale_files old.stale.items) (stale_files later.more) j has))
-
--- files behind the last one are listed
-pub later_loaded : (tells : Bool) (files : Files) (k : ℕ) (old new : Loading) → EventsAreLoaded tells files k old → AreLater old new → EventsAreLoaded tells files k new
-later_loaded tells files k old new loaded later = record {
-  events = loaded.events;
-  long = ap length later.counts ∙ loaded.long;
-  counts = later.counts ∙ loaded.counts;
-  many = loaded.many ∙ ap (λ (n : ℕ). min (EVENTS_PER_FILE * k) n) (sym later.end);
-  says = λ told. subst (λ (n : ℕ). events_of_files k n 0 files ≡ Ok loaded.events) (sym later.end) (loaded.says told);
-  offset = λ told j is. later.offset ∙ loaded.offset told j is ∙ ap (λ (n : ℕ). covered_size n j files) (sym later.end);
-  sizes = λ told.
-      subst (λ (n : ℕ). All (λ s. s.size ≡ covered_size n s.file files) new.stale.items) (sym later.end)
-      (subst (λ (l : List Stale). All (λ s. s.size ≡ covered_size old.end s.file files) l) (sym later.stale)
-      (All-append (λ s. s.size ≡ covered_size old.end s.file files) old.stale.items later.more (loaded.sizes told)
-      (λ i d lt. let one = later.sizes i d lt in one.0 ∙ sym (no_size old.end (get_or later.more i d).file files (omega (arith, one.1))))));
-  others = λ told j lt not.
-      loaded.others told j lt (λ has. not (kept_later old new j later has)) ∙ ap (λ (n : ℕ). covered_bytes n j files) (sym later.end);
-}

@@ -1,5 +1,5 @@
 -- Some of the events of files are found.
-use Rattle.std.proofs.Common.{◌≡◌, ℕ, ◌+◌, ◌-◌, ◌*◌, ◌/◌, ◌≤◌, ◌<◌, suc, Bool, IsTrue, true, false, ◌⊎◌, inl, inr, List, [], ◌∷◌, ◌++◌, length, get_or, take, drop, refl, sym, ap, subst, ◌∙◌, arith}
+use Rattle.std.proofs.Common.{◌≡◌, ℕ, ◌+◌, ◌-◌, ◌*◌, ◌/◌, ◌%◌, ◌≤◌, ◌<◌, suc, Bool, IsTrue, true, false, ◌⊎◌, inl, inr, List, [], ◌∷◌, ◌++◌, length, get_or, take, drop, refl, sym, ap, subst, ◌∙◌, arith}
 use Rattle.std.specs.Prelude.{Ok, min, max, filter, nat_le, ◌&&◌}
 use Rattle.std.specs.List.{range_with_len}
 use Rattle.std.proofs.lemmas.Bool.{cases_lt}
@@ -72,15 +72,15 @@ le_alike a b c d to back = elim (cases_lt b a) [
 ]
 
 -- the same events are found between two numbers and as far as there are events
-pub same_found : (from to last f : ℕ) (events : List Event) → AreNumberedFrom f events → 1 ≤ f → f + length events ≤ last + 1
-    → filter (is_within (max from 1) (min to last)) events ≡ filter (λ e. nat_le from e.number && nat_le e.number to) events
-same_found from to last f [] numbered one le = refl
-same_found from to last f (e ∷ events) numbered one le =
+pub same_found : (from to least last f : ℕ) (events : List Event) → AreNumberedFrom f events → least ≤ f → f + length events ≤ last + 1
+    → filter (is_within (max from least) (min to last)) events ≡ filter (λ e. nat_le from e.number && nat_le e.number to) events
+same_found from to least last f [] numbered one le = refl
+same_found from to least last f (e ∷ events) numbered one le =
     let head = head_number f e events numbered in
     let n = e.number in
-    let low : nat_le (max from 1) n ≡ nat_le from n = le_alike (max from 1) n from n (λ h. omega (arith, h)) (λ h. omega (arith, h, head, one)) in
+    let low : nat_le (max from least) n ≡ nat_le from n = le_alike (max from least) n from n (λ h. omega (arith, h)) (λ h. omega (arith, h, head, one)) in
     let high : nat_le n (min to last) ≡ nat_le n to = le_alike n (min to last) n to (λ h. omega (arith, h)) (λ h. omega (arith, h, head, le)) in
-    let rest = same_found from to last (f + 1) events (rest_numbered f e events numbered) (omega arith) (omega (arith, le)) in
+    let rest = same_found from to least last (f + 1) events (rest_numbered f e events numbered) (omega (arith, one)) (omega (arith, le)) in
     rw (low, high, rest) refl
 
 -- ---- the events of a file
@@ -158,15 +158,16 @@ found_between first last f n m events numbered fits to from below above =
 -- ---- event by event
 
 -- what is skipped next
-pub record Skip (files : Files) (start : Cursor) (i : ℕ) (cursor : Cursor) : Type 0 where
+pub record Skip (files : Files) (start : Cursor) (i : ℕ) (cursor : Cursor) (events : List Event) : Type 0 where
   pub event : Event
   pub size : ℕ
   pub there : event_there files cursor ≡ Ok (event, size)
   pub reaches : cursor.at + size ≡ start.at + blocks_size (i + 1) (bytes_there files start)
+  pub next : take (i + 1) events ≡ take i events ++ event ∷ []
 
 pub skip_one : (files : Files) (start : Cursor) (i many : ℕ) (cursor : Cursor) (events : List Event) → cursor ≡ record start { at = cursor.at; number = start.number + i }
     → cursor.at ≡ start.at + blocks_size i (bytes_there files start) → i < many → events_from many start.file start.at start.number (bytes_there files start) ≡ Ok events
-    → Skip files start i cursor
+    → Skip files start i cursor events
 skip_one files start i many cursor events is reaches lt all =
     let bytes = bytes_there files start in
     let split : many ≡ i + suc (many - i - 1) = omega (arith, lt) in
@@ -179,6 +180,11 @@ skip_one files start i many cursor events is reaches lt all =
       size = stands.0.1;
       there = sym (there_is files start i cursor is reaches (event_there files cursor) refl) ∙ stands.1;
       reaches = omega (arith, reaches, more.size);
+      next =
+          let longer : many ≡ i + 1 + (many - i - 1) = omega (arith, lt) in
+          let so_many = fewer_events (i + 1) (many - i - 1) start.file start.at start.number bytes events
+          (ap (λ (n : ℕ). events_from n start.file start.at start.number bytes) (sym longer) ∙ all) in
+          cc (so_many, more.says);
     }
 
 -- ---- one file
@@ -189,13 +195,13 @@ pub record FoundIn (end first last k n m : ℕ) (files : Files) (here : List Eve
   pub read : events_from m (events_file k) (0 + blocks_size n (files (events_file k))) (first_event k + n) (drop (blocks_size n (files (events_file k))) (files (events_file k))) ≡ Ok (take m (drop n here))
   pub found : filter (is_within first last) here ≡ take m (drop n here)
 
-pub found_in : (end first last k n m : ℕ) (files : Files) (here : List Event) → events_of_file end k files ≡ Ok here → 1 ≤ first → first ≤ last → last ≤ end
+pub found_in : (line end first last k n m : ℕ) (files : Files) (here : List Event) → events_of_file line end k files ≡ Ok here → line % EVENTS_PER_FILE ≡ 0 → line < first → first ≤ last → last ≤ end
     → (first - 1) / EVENTS_PER_FILE ≤ k → k ≤ (last - 1) / EVENTS_PER_FILE → n ≡ first - first_event k → m ≡ min last (EVENTS_PER_FILE * k + EVENTS_PER_FILE) + 1 - (first_event k + n)
     → FoundIn end first last k n m files here
-found_in end first last k n m files here is one some there from to skip read =
-    let c = count_in end k in
+found_in line end first last k n m files here is even one some there from to skip read =
+    let c = count_in line end k in
     let numbers = events_numbered c (events_file k) 0 (first_event k) (files (events_file k)) here is in
-    let all : c ≡ n + (m + (c - n - m)) = omega (arith, one, some, there, from, to, skip, read) in
+    let all : c ≡ n + (m + (c - n - m)) = omega (arith, even, one, some, there, from, to, skip, read) in
     let whole : events_from (n + (m + (c - n - m))) (events_file k) 0 (first_event k) (files (events_file k)) ≡ Ok here =
     ap (λ (i : ℕ). events_from i (events_file k) 0 (first_event k) (files (events_file k))) (sym all) ∙ is in
     let numbered : AreNumberedFrom (first_event k) here = numbers.0 ∙ ap (range_with_len (first_event k)) (sym numbers.1) in
@@ -204,33 +210,33 @@ found_in end first last k n m files here is one some there from to skip read =
       read = middle n m (c - n - m) (events_file k) 0 (first_event k) (files (events_file k)) here whole;
       found =
           found_between first last (first_event k) n m here numbered (omega (arith, numbers.1, all)) (λ less. omega (arith, skip, less)) (omega (arith, skip))
-          (omega (arith, read, one, some, from, to, skip)) (λ less. omega (arith, numbers.1, less, read, one, some, there, from, to, skip));
+          (omega (arith, read, one, some, from, to, skip)) (λ less. omega (arith, numbers.1, less, read, even, one, some, there, from, to, skip));
     }
 
 -- ---- all files
 
 -- nothing is found in the files before the first event
-pub none_yet : (end first last : ℕ) (files : Files) (events : List Event) → events_of_files ((first - 1) / EVENTS_PER_FILE) end 0 files ≡ Ok events
+pub none_yet : (line end first last : ℕ) (files : Files) (events : List Event) → line % EVENTS_PER_FILE ≡ 0 → line < first → events_of_files ((first - 1) / EVENTS_PER_FILE) line end 0 files ≡ Ok events
     → filter (is_within first last) events ≡ []
-none_yet end first last files events is = elim (cases_lt 0 ((first - 1) / EVENTS_PER_FILE)) [
+none_yet line end first last files events even past is = elim (cases_lt 0 ((first - 1) / EVENTS_PER_FILE)) [
   | inl some ↦
-      let numbers = files_numbered ((first - 1) / EVENTS_PER_FILE) end 0 files events is in
-      none_before first last 1 events numbers.0 (omega (arith, numbers.1, some))
+      let numbers = files_numbered ((first - 1) / EVENTS_PER_FILE) line end 0 files events even is in
+      none_before first last (max (first_event 0) (line + 1)) events numbers.0 (omega (arith, numbers.1, some, past))
   | inr none ↦
       let zero : (first - 1) / EVENTS_PER_FILE ≡ 0 = omega (arith, none) in
-      let empty : events ≡ [] = cc (ap (λ (n : ℕ). events_of_files n end 0 files) (sym zero) ∙ is) in
+      let empty : events ≡ [] = cc (ap (λ (n : ℕ). events_of_files n line end 0 files) (sym zero) ∙ is) in
       ap (filter (is_within first last)) empty
 ]
 
 -- one file more
-pub one_file_found : (end first last k : ℕ) (files : Files) (old new : List Event) (events : List Event) → events_of_files (k + 1) end 0 files ≡ Ok events
-    → ((front : List Event) → events_of_files k end 0 files ≡ Ok front → old ≡ filter (is_within first last) front)
-    → ((here : List Event) → events_of_file end k files ≡ Ok here → new ≡ old ++ filter (is_within first last) here)
+pub one_file_found : (line end first last k : ℕ) (files : Files) (old new : List Event) (events : List Event) → events_of_files (k + 1) line end 0 files ≡ Ok events
+    → ((front : List Event) → events_of_files k line end 0 files ≡ Ok front → old ≡ filter (is_within first last) front)
+    → ((here : List Event) → events_of_file line end k files ≡ Ok here → new ≡ old ++ filter (is_within first last) here)
     → new ≡ filter (is_within first last) events
-one_file_found end first last k files old new events is before now =
-    let s = split_files k 1 end 0 files events is in
+one_file_found line end first last k files old new events is before now =
+    let s = split_files k 1 line end 0 files events is in
     let place : 0 + k ≡ k = omega arith in
-    let f = first_file 0 end k files s.back (ap (λ (j : ℕ). events_of_files 1 end j files) (sym place) ∙ s.behind) in
+    let f = first_file 0 line end k files s.back (ap (λ (j : ℕ). events_of_files 1 line end j files) (sym place) ∙ s.behind) in
     let none : f.later ≡ [] = cc f.behind in
     let back : s.back ≡ f.here = f.both ∙ ap (λ (l : List Event). f.here ++ l) none ∙ append-nil f.here in
     now f.here f.first ∙ ap (λ (l : List Event). l ++ filter (is_within first last) f.here) (before s.front s.first)
@@ -238,16 +244,16 @@ one_file_found end first last k files old new events is before now =
     ∙ ap (filter (is_within first last)) (sym s.both)
 
 -- nothing is found behind the last
-pub all_found : (end first last k : ℕ) (files : Files) (found events : List Event) → events_in files end ≡ Ok events → k ≡ (last - 1) / EVENTS_PER_FILE + 1 → 1 ≤ last → last ≤ end
-    → ((front : List Event) → events_of_files k end 0 files ≡ Ok front → found ≡ filter (is_within first last) front) → found ≡ filter (is_within first last) events
-all_found end first last k files found events is behind one le before =
+pub all_found : (line end first last k : ℕ) (files : Files) (found events : List Event) → line % EVENTS_PER_FILE ≡ 0 → events_in files line end ≡ Ok events → k ≡ (last - 1) / EVENTS_PER_FILE + 1 → 1 ≤ last → last ≤ end
+    → ((front : List Event) → events_of_files k line end 0 files ≡ Ok front → found ≡ filter (is_within first last) front) → found ≡ filter (is_within first last) events
+all_found line end first last k files found events even is behind one le before =
     let more = suc (end / EVENTS_PER_FILE) - k in
     let all : suc (end / EVENTS_PER_FILE) ≡ k + more = omega (arith, behind, le) in
-    let s = split_files k more end 0 files events (ap (λ (n : ℕ). events_of_files n end 0 files) (sym all) ∙ sym (in_files end files) ∙ is) in
-    let numbers = files_numbered more end (0 + k) files s.back s.behind in
-    let past : last < first_event (0 + k) = omega (arith, behind, one) in
+    let s = split_files k more line end 0 files events (ap (λ (n : ℕ). events_of_files n line end 0 files) (sym all) ∙ sym (in_files line end files) ∙ is) in
+    let numbers = files_numbered more line end (0 + k) files s.back even s.behind in
+    let past : last < max (first_event (0 + k)) (line + 1) = omega (arith, behind, one) in
     before s.front s.first ∙ sym (append-nil (filter (is_within first last) s.front))
-    ∙ ap (λ (l : List Event). filter (is_within first last) s.front ++ l) (sym (none_behind first last (first_event (0 + k)) s.back numbers.0 past))
+    ∙ ap (λ (l : List Event). filter (is_within first last) s.front ++ l) (sym (none_behind first last (max (first_event (0 + k)) (line + 1)) s.back numbers.0 past))
     ∙ sym (filter-append (is_within first last) s.front s.back) ∙ ap (filter (is_within first last)) (sym s.both)
 
 -- where there are no numbers between the two
@@ -300,11 +306,11 @@ there_in_file end first last k n m number file size tells files before behind he
     from_there k n m cursor behind files held_behind (ap (λ (c : Cursor). c.file) skipped.behind ∙ name) at cursor_number ∙ fi.read
 
 -- the same of what is known by other words
-pub found_alike : (end first last end_now first_now last_now k : ℕ) (read files : Files) (old new : List Event) → end_now ≡ end → first_now ≡ first → last_now ≡ last → read ≡ files
-    → ((here : List Event) → events_of_file end_now k read ≡ Ok here → new ≡ old ++ filter (is_within first_now last_now) here)
-    → (here : List Event) → events_of_file end k files ≡ Ok here → new ≡ old ++ filter (is_within first last) here
-found_alike end first last end_now first_now last_now k read files old new end_is first_is last_is held found here is =
-    found here (ap (λ (n : ℕ). events_of_file n k read) end_is ∙ ap (λ (f : Files). events_of_file end k f) held ∙ is)
+pub found_alike : (line end first last line_now end_now first_now last_now k : ℕ) (read files : Files) (old new : List Event) → line_now ≡ line → end_now ≡ end → first_now ≡ first → last_now ≡ last → read ≡ files
+    → ((here : List Event) → events_of_file line_now end_now k read ≡ Ok here → new ≡ old ++ filter (is_within first_now last_now) here)
+    → (here : List Event) → events_of_file line end k files ≡ Ok here → new ≡ old ++ filter (is_within first last) here
+found_alike line end first last line_now end_now first_now last_now k read files old new line_is end_is first_is last_is held found here is =
+    found here (ap (λ (n : ℕ). events_of_file n end_now k read) line_is ∙ ap (λ (n : ℕ). events_of_file line n k read) end_is ∙ ap (λ (f : Files). events_of_file line end k f) held ∙ is)
     ∙ ap (λ (n : ℕ). old ++ filter (is_within n last_now) here) first_is ∙ ap (λ (n : ℕ). old ++ filter (is_within first n) here) last_is
 
 -- ---- the numbers that are found

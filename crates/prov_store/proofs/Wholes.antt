@@ -1,17 +1,19 @@
 -- Where events are read, the first block is whole.
-use Rattle.std.proofs.Common.{◌≡◌, ℕ, zero, suc, ◌+◌, ◌<◌, Bool, IsTrue, inl, inr, List, drop, ap, subst, ◌∙◌, arith}
+use Rattle.std.proofs.Common.{◌≡◌, ℕ, zero, suc, ◌+◌, ◌/◌, ◌≤◌, ◌<◌, Bool, IsTrue, inl, inr, List, drop, ap, subst, ◌∙◌, arith}
 use Rattle.std.specs.Prelude.{Ok}
 use Rattle.std.proofs.lemmas.Bool.{cases_lt}
 use Rattle.disk_trait.specs.Files.{Files}
 use Rattle.disk_trait.specs.declared.file_name.FileName.{FileName}
 use Rattle.flowfile_record.specs.declared.event.Event.{Event}
+use Rattle.flowfile_record.specs.declared.limits.TheConstants.{EVENTS_PER_FILE}
 use Rattle.prov_event.specs.declared.TheConstants.{EVENT_KIND}
 use Rattle.prov_store.specs.Events.{count_in, first_event, events_file, events_from, events_of_files, blocks_size}
 use Rattle.prov_store.specs.Loading.{AreReadEvents, bytes_there}
 use Rattle.prov_store.specs.Reading.{HasWhole}
+use Rattle.prov_store.specs.State.{IsEventLine}
 use Rattle.prov_store.specs.declared.read.Cursor.{Cursor}
 use Rattle.prov_store.proofs.InFile.{first_of}
-use Rattle.prov_store.proofs.InFiles.{first_file}
+use Rattle.prov_store.proofs.InFiles.{file_in}
 use Rattle.record_codec.specs.Block.{reading_of}
 
 pub first_whole : (count : ℕ) (file : FileName) (at number : ℕ) (bytes : List ℕ) (events : List Event) → events_from count file at number bytes ≡ Ok events → 0 < count → HasWhole (reading_of bytes)
@@ -20,11 +22,13 @@ first_whole (suc count) file at number bytes events is some =
     let f = first_of count file at number bytes events is in
     record { kind = EVENT_KIND; payload = f.here.payload; whole = f.here.block }
 
-pub first_file_whole : (k last : ℕ) (files : Files) (events : List Event) → events_of_files k last 0 files ≡ Ok events → 0 < k → 0 < last → HasWhole (reading_of (files (events_file 0)))
-first_file_whole zero last files events is some there = absurd (omega (arith, some))
-first_file_whole (suc k) last files events is some there =
-    let f = first_file k last 0 files events is in
-    first_whole (count_in last 0) (events_file 0) 0 (first_event 0) (files (events_file 0)) f.here f.first (omega (arith, there))
+-- the first of the files past a line
+pub first_file_whole : (k line last : ℕ) (files : Files) (events : List Event) → events_of_files k line last 0 files ≡ Ok events → IsEventLine line last → line / EVENTS_PER_FILE < k → line < last
+    → HasWhole (reading_of (files (events_file (line / EVENTS_PER_FILE))))
+first_file_whole k line last files events is of some there =
+    let j = line / EVENTS_PER_FILE in
+    let here = file_in k line last 0 j files events is (omega arith) (omega (arith, some)) in
+    first_whole (count_in line last j) (events_file j) 0 (first_event j) (files (events_file j)) here.0 here.1 (omega (arith, there, of.whole))
 
 -- where a whole block stands behind events that are read, a whole one stands where they begin
 pub whole_before : (tells : Bool) (files : Files) (start : Cursor) (i : ℕ) (events : List Event) (cursor : Cursor) → AreReadEvents tells files start i events cursor.at
@@ -41,13 +45,14 @@ whole_before tells files start i events cursor read is told whole = elim (cases_
       subst (λ (l : List ℕ). HasWhole (reading_of l)) bytes whole
 ]
 
--- where a whole block begins a file behind files that are read, one begins the first file
-pub whole_at_first : (k last : ℕ) (file : FileName) (read files : Files) (events : List Event) → events_of_files k last 0 files ≡ Ok events → read ≡ files → file ≡ events_file k → 0 < last
-    → (k ≡ 0 → HasWhole (reading_of (drop 0 (read file)))) → HasWhole (reading_of (files (events_file 0)))
-whole_at_first k last file read files events is held name there whole = elim (cases_lt 0 k) [
-  | inl some ↦ first_file_whole k last files events is some there
+-- where a whole block begins a file behind files that are read, one begins the first file past the line
+pub whole_at_first : (k line last : ℕ) (file : FileName) (read files : Files) (events : List Event) → events_of_files k line last 0 files ≡ Ok events → IsEventLine line last
+    → line / EVENTS_PER_FILE ≤ k → read ≡ files → file ≡ events_file k → line < last
+    → (k ≡ line / EVENTS_PER_FILE → HasWhole (reading_of (drop 0 (read file)))) → HasWhole (reading_of (files (events_file (line / EVENTS_PER_FILE))))
+whole_at_first k line last file read files events is of from held name there whole = elim (cases_lt (line / EVENTS_PER_FILE) k) [
+  | inl some ↦ first_file_whole k line last files events is of some there
   | inr none ↦
-      let zero : k ≡ 0 = omega (arith, none) in
-      let bytes : read file ≡ files (events_file 0) = ap (λ (f : Files). f file) held ∙ ap files name ∙ ap (λ (j : ℕ). files (events_file j)) zero in
-      subst (λ (l : List ℕ). HasWhole (reading_of l)) bytes (whole zero)
+      let first : k ≡ line / EVENTS_PER_FILE = omega (arith, none, from) in
+      let bytes : read file ≡ files (events_file (line / EVENTS_PER_FILE)) = ap (λ (f : Files). f file) held ∙ ap files name ∙ ap (λ (j : ℕ). files (events_file j)) first in
+      subst (λ (l : List ℕ). HasWhole (reading_of l)) bytes (whole first)
 ]

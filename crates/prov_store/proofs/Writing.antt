@@ -10,7 +10,7 @@ use Rattle.flowfile_record.specs.declared.event.Event.{Event}
 use Rattle.prov_store.specs.Blocks.{blocks_of, AreEventParts, AreEncoded, next_offset}
 use Rattle.prov_store.specs.Events.{events_file}
 use Rattle.prov_store.specs.Growing.{Stands}
-use Rattle.prov_store.specs.State.{HasBlock, AreNumberedFrom}
+use Rattle.prov_store.specs.State.{HasBlock, AreNumberedFrom, IsEventLine}
 use Rattle.flowfile_record.specs.declared.limits.TheConstants.{EVENTS_PER_FILE}
 use Rattle.prov_store.specs.declared.blocks.Part.{Part}
 use Rattle.prov_store.proofs.Growing.{grown}
@@ -78,19 +78,19 @@ at_part begun first events bytes known last start i parts d enc next lt reached 
     }
 
 -- the files have the part's events, too
-pub part_stands : (begun first : ℕ) (events : List Event) (bytes written : List ℕ) (last start i offset : ℕ) (parts : List Part) (part : Part) (mid new : Files) (before : List Event)
+pub part_stands : (begun first : ℕ) (events : List Event) (bytes written : List ℕ) (line last start i offset : ℕ) (parts : List Part) (part : Part) (mid new : Files) (before : List Event) → IsEventLine line last
     → AtPart begun first events bytes last start i parts part → begun ≤ last → written ≡ take part.size (drop start bytes)
-    → Stands last offset mid (before ++ take (last - begun) events)
+    → Stands line last offset mid (before ++ take (last - begun) events)
     → At (events_file (last / EVENTS_PER_FILE)) (Overwritten offset written) mid new
-    → Stands (last + part.count) (next_offset (last + part.count) (offset + part.size)) new (before ++ take (last + part.count - begun) events)
-part_stands begun first events bytes written last start i offset parts part mid new before at reached is stands one =
+    → Stands line (last + part.count) (next_offset (last + part.count) (offset + part.size)) new (before ++ take (last + part.count - begun) events)
+part_stands begun first events bytes written line last start i offset parts part mid new before of at reached is stands one =
     let n = last - begun in
     let added = take part.count (drop n events) in
     let sum : last + part.count - begun ≡ n + part.count = omega (arith, reached) in
-    let step = grown last offset mid new (before ++ take n events) added stands (omega (arith, at.room, at.long)) at.have at.numbered
+    let step = grown line last offset mid new (before ++ take n events) added of stands (omega (arith, at.room, at.long)) at.have at.numbered
     (subst (λ (l : List ℕ). At (events_file (last / EVENTS_PER_FILE)) (Overwritten offset l) mid new) (is ∙ at.bytes_are) one) in
     let all : (before ++ take n events) ++ added ≡ before ++ take (last + part.count - begun) events =
     append_assoc before (take n events) added ∙ ap (λ (l : List Event). before ++ l) (sym (take-add n part.count events) ∙ ap (λ (k : ℕ). take k events) (sym sum)) in
-    let moved = subst (λ (k : ℕ). Stands (last + k) (next_offset (last + k) (offset + length (blocks_of added))) new ((before ++ take n events) ++ added)) at.long step in
-    subst (λ (l : List Event). Stands (last + part.count) (next_offset (last + part.count) (offset + part.size)) new l) all
-    (subst (λ (k : ℕ). Stands (last + part.count) (next_offset (last + part.count) (offset + k)) new ((before ++ take n events) ++ added)) (sym at.size_is) moved)
+    let moved = subst (λ (k : ℕ). Stands line (last + k) (next_offset (last + k) (offset + length (blocks_of added))) new ((before ++ take n events) ++ added)) at.long step in
+    subst (λ (l : List Event). Stands line (last + part.count) (next_offset (last + part.count) (offset + part.size)) new l) all
+    (subst (λ (k : ℕ). Stands line (last + part.count) (next_offset (last + part.count) (offset + k)) new ((before ++ take n events) ++ added)) (sym at.size_is) moved)

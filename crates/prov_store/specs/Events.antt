@@ -1,4 +1,5 @@
--- Files of events: which events stand in them up to a last one, or the first damage.
+-- Files of events: which events stand in them past a line and up to a last one, or the first damage. The line is a
+-- multiple of the events of a file: the files before it are forgotten, and what stands in them doesn't matter.
 use Rattle.std.specs.Prelude.{ℕ, zero, suc, ◌+◌, ◌-◌, ◌*◌, ◌/◌, ◌==◌, min, List, [], ◌∷◌, ◌++◌, length, take, drop, Option, None, Some, Result, Ok, Err, if◌then◌else◌}
 use Rattle.disk_trait.specs.Files.{Files, named}
 use Rattle.disk_trait.specs.declared.damage.Damage.{Damage}
@@ -17,9 +18,9 @@ use Rattle.record_codec.specs.declared.block.TheConstants.{BLOCK_OVERHEAD}
 abbrev pub events_file : ℕ → FileName
 events_file k = named Events k
 
--- how many of the events up to a last one the file of this number has
-abbrev pub count_in : (last k : ℕ) → ℕ
-count_in last k = min EVENTS_PER_FILE (last - EVENTS_PER_FILE * k)
+-- how many of the events past a line and up to a last one the file of this number has
+abbrev pub count_in : (line last k : ℕ) → ℕ
+count_in line last k = min EVENTS_PER_FILE (last - EVENTS_PER_FILE * k) - (line - EVENTS_PER_FILE * k)
 
 -- the number of the first event of the file of this number
 abbrev pub first_event : (k : ℕ) → ℕ
@@ -63,23 +64,24 @@ events_from (suc count) file at number bytes = do
   later ← events_from count file (at + first.1) (number + 1) (drop first.1 bytes)
   Ok (first.0 ∷ later)
 
--- those of the file of this number, up to a last one
-abbrev pub events_of_file : (last k : ℕ) → Files → Result (List Event) Damage
-events_of_file last k files = events_from (count_in last k) (events_file k) 0 (first_event k) (files (events_file k))
+-- those of the file of this number, past a line and up to a last one
+abbrev pub events_of_file : (line last k : ℕ) → Files → Result (List Event) Damage
+events_of_file line last k files =
+    events_from (count_in line last k) (events_file k) 0 (first_event k) (files (events_file k))
 
 -- ---- the events of all files
 
 -- those of so many files, from this number on
-abbrev pub events_of_files : (count : ℕ) → (last k : ℕ) → Files → Result (List Event) Damage
-events_of_files zero last k files = Ok []
-events_of_files (suc count) last k files = do
-  events ← events_of_file last k files
-  later ← events_of_files count last (k + 1) files
+abbrev pub events_of_files : (count : ℕ) → (line last k : ℕ) → Files → Result (List Event) Damage
+events_of_files zero line last k files = Ok []
+events_of_files (suc count) line last k files = do
+  events ← events_of_file line last k files
+  later ← events_of_files count line last (k + 1) files
   Ok (events ++ later)
 
--- the events up to a last one, or their first damage
-unfoldable pub events_in : Files → (last : ℕ) → Result (List Event) Damage
-events_in files last = events_of_files (suc (last / EVENTS_PER_FILE)) last 0 files
+-- the events past a line and up to a last one, or their first damage
+unfoldable pub events_in : Files → (line last : ℕ) → Result (List Event) Damage
+events_in files line last = events_of_files (suc (last / EVENTS_PER_FILE)) line last 0 files
 
 -- ---- what of the files is covered
 
@@ -92,10 +94,10 @@ abbrev pub blocks_size : (count : ℕ) → List ℕ → ℕ
 blocks_size zero bytes = 0
 blocks_size (suc count) bytes = behind_whole (reading_of bytes) (λ size. size + blocks_size count (drop size bytes))
 
--- how many bytes the events up to a last one have in the file of this number
-unfoldable pub covered_size : (last k : ℕ) → Files → ℕ
-covered_size last k files = blocks_size (count_in last k) (files (events_file k))
+-- how many bytes the events past a line and up to a last one have in the file of this number
+unfoldable pub covered_size : (line last k : ℕ) → Files → ℕ
+covered_size line last k files = blocks_size (count_in line last k) (files (events_file k))
 
 -- their bytes
-abbrev pub covered_bytes : (last k : ℕ) → Files → List ℕ
-covered_bytes last k files = take (covered_size last k files) (files (events_file k))
+abbrev pub covered_bytes : (line last k : ℕ) → Files → List ℕ
+covered_bytes line last k files = take (covered_size line last k files) (files (events_file k))

@@ -1,3 +1,4 @@
+pub mod Aging
 pub mod Blocks
 pub mod Errors
 pub mod Events

@@ -1,10 +1,12 @@
 -- Files of events that are read as far as some file.
-use Rattle.std.specs.Prelude.{◌≡◌, ℕ, ◌+◌, ◌*◌, ◌/◌, ◌<◌, ◌≤◌, Bool, IsTrue, min, List, ◌++◌, length, drop, map, All, Contains, Ok}
+use Rattle.std.specs.Prelude.{◌≡◌, ℕ, ◌+◌, ◌-◌, ◌*◌, ◌/◌, ◌<◌, ◌≤◌, Bool, IsTrue, min, List, [], length, drop, map, filter, All, Contains, Ok, nat_lt}
 use Rattle.std.specs.List.{range_with_len}
+use Rattle.std.specs.List.Sorted.{IsStrictlyIncreasing}
 use Rattle.disk_trait.specs.Files.{Files}
+use Rattle.flowfile_record.specs.Encoding.{IsNumber}
 use Rattle.flowfile_record.specs.declared.event.Event.{Event}
 use Rattle.prov_store.specs.Events.{events_file, events_from, events_of_files, blocks_size, covered_bytes, covered_size}
-use Rattle.prov_store.specs.State.{counts_of, AreCounted, AreLonger}
+use Rattle.prov_store.specs.State.{EventsState, counts_of, uncovered, AreCounted, AreLonger, IsEventLine}
 use Rattle.flowfile_record.specs.declared.limits.TheConstants.{EVENTS_PER_FILE}
 use Rattle.prov_store.specs.declared.events.Stale.{Stale}
 use Rattle.prov_store.specs.declared.load.Loading.{Loading}
@@ -36,28 +38,51 @@ pub record EventsAreLoaded (tells : Bool) (files : Files) (k : ℕ) (loading : L
   pub events : List Event
   pub long : length loading.counts.counts ≡ 12
   pub counts : loading.counts.counts ≡ counts_of events
-  pub many : length events ≡ min (EVENTS_PER_FILE * k) loading.end
-  pub says : IsTrue tells → events_of_files k loading.end 0 files ≡ Ok events
-  pub offset : IsTrue tells → (j : ℕ) → j + 1 ≡ k → loading.offset ≡ covered_size loading.end j files
-  pub sizes : IsTrue tells → All (λ s. s.size ≡ covered_size loading.end s.file files) loading.stale.items
-  pub others : IsTrue tells → (j : ℕ) → j < k → (Contains (map (λ s. s.file) loading.stale.items) j → ⊥)
-      → files (events_file j) ≡ covered_bytes loading.end j files
+  pub many : length events ≡ min (EVENTS_PER_FILE * k) loading.end - loading.line
+  pub says : IsTrue tells → events_of_files k loading.line loading.end 0 files ≡ Ok events
+  pub offset : IsTrue tells → (j : ℕ) → j + 1 ≡ k → loading.offset ≡ covered_size loading.line loading.end j files
+  pub sizes : IsTrue tells → All (λ s. s.size ≡ covered_size loading.line loading.end s.file files) loading.stale.items
+  pub others : IsTrue tells → (j : ℕ) → loading.line / EVENTS_PER_FILE ≤ j → j < k
+      → (Contains (map (λ s. s.file) loading.stale.items) j → ⊥)
+      → files (events_file j) ≡ covered_bytes loading.line loading.end j files
 
--- files that are behind the one that the next event goes to are added to those that are known
-pub record AreLater (old new : Loading) : Type 0 where
-  pub end : new.end ≡ old.end
-  pub offset : new.offset ≡ old.offset
-  pub counts : new.counts.counts ≡ old.counts.counts
-  pub more : List Stale
-  pub stale : new.stale.items ≡ old.stale.items ++ more
-  pub sizes : All (λ s. (s.size ≡ 0) × (old.end / EVENTS_PER_FILE < s.file)) more
+-- of these files those before a first one and those behind a last one, in which nothing is covered
+abbrev pub files_before : (first : ℕ) → List ℕ → List Stale
+files_before first numbers = uncovered (filter (λ k. nat_lt k first) numbers)
 
--- files before this one are listed, which are longer than what is covered
-pub record AreListedStale (tells : Bool) (files : Files) (k : ℕ) (stale : List Stale) : Type 0 where
+abbrev pub files_later : (last : ℕ) → List ℕ → List Stale
+files_later last numbers = uncovered (filter (λ k. nat_lt last k) numbers)
+
+-- what is in memory once all files are read and these are stale
+abbrev pub loaded_state : Loading → List Stale → EventsState
+loaded_state loading stale = record {
+  line = loading.line;
+  end = loading.end;
+  offset = loading.offset;
+  counts = loading.counts.counts;
+  stale = stale;
+}
+
+-- files from one to another are listed, which are longer than what is covered
+pub record AreListedStale (tells : Bool) (files : Files) (first k : ℕ) (stale : List Stale) : Type 0 where
   pub longer : AreLonger tells files stale
+  pub from : All (λ s. first ≤ s.file) stale
   pub before : All (λ s. s.file < k) stale
 
--- the files before this one are read, and those of them are listed that are longer than what is covered
+-- the files from the line to this one are read, and those of them are listed that are longer than what is covered
 pub record FilesAreRead (tells : Bool) (files : Files) (k : ℕ) (loading : Loading) : Type 0 where
   pub loaded : EventsAreLoaded tells files k loading
-  pub listed : AreListedStale tells files k loading.stale.items
+  pub listed : AreListedStale tells files (loading.line / EVENTS_PER_FILE) k loading.stale.items
+
+-- the file of this number may be read next: it is one of those from the line to the last event
+pub record MayReadFile (k : ℕ) (loading : Loading) : Type 0 where
+  pub line : IsEventLine loading.line loading.end
+  pub end : IsNumber loading.end
+  pub from : loading.line / EVENTS_PER_FILE ≤ k
+  pub to : k ≤ loading.end / EVENTS_PER_FILE
+
+-- These are the numbers of the files of events that aren't empty, ascending.
+pub record AreFileNumbers (tells : Bool) (files : Files) (numbers : List ℕ) : Type 0 where
+  pub ascending : IsStrictlyIncreasing numbers
+  pub filled : IsTrue tells → All (λ k. 0 < length (files (events_file k))) numbers
+  pub all : IsTrue tells → (k : ℕ) → (Contains numbers k → ⊥) → files (events_file k) ≡ []

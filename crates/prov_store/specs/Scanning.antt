@@ -1,8 +1,9 @@
 -- Some of the events of files are found.
-use Rattle.std.specs.Prelude.{◌≡◌, ℕ, ◌+◌, ◌-◌, ◌<◌, ◌≤◌, ◌^◌, ◌&&◌, nat_le, min, max, Bool, IsTrue, List, ◌++◌, map, Ok}
+use Rattle.std.specs.Prelude.{◌≡◌, ℕ, ◌+◌, ◌-◌, ◌<◌, ◌≤◌, ◌^◌, ◌%◌, ◌&&◌, nat_le, min, max, Bool, IsTrue, List, ◌++◌, map, Ok}
 use Rattle.std.specs.List.{range_with_len}
 use Rattle.disk_trait.specs.Files.{Files}
 use Rattle.flowfile_record.specs.declared.event.Event.{Event}
+use Rattle.flowfile_record.specs.declared.limits.TheConstants.{EVENTS_PER_FILE}
 use Rattle.prov_store.specs.Events.{events_from, blocks_size}
 use Rattle.prov_store.specs.Loading.{bytes_there}
 use Rattle.prov_store.specs.declared.read.Cursor.{Cursor}
@@ -12,9 +13,9 @@ use Rattle.prov_store.specs.declared.scan.Scan.{Scan}
 abbrev pub is_within : (first last : ℕ) → Event → Bool
 is_within first last e = nat_le first e.number && nat_le e.number last
 
--- some event up to a last one lies between the two numbers
-abbrev pub HasBetween : (from to last : ℕ) → Type 0
-HasBetween from to last = max from 1 ≤ min to last
+-- some event past a line and up to a last one lies between the two numbers
+abbrev pub HasBetween : (from to line last : ℕ) → Type 0
+HasBetween from to line last = max from (line + 1) ≤ min to last
 
 -- the numbers from one to another, both included
 abbrev pub numbers_between : (first last : ℕ) → List ℕ
@@ -22,12 +23,14 @@ numbers_between first last = range_with_len first (last + 1 - first)
 
 -- there are events between the two numbers
 pub record MayScan (scan : Scan) : Type 0 where
-  pub counted : 1 ≤ scan.first
+  pub whole : scan.line % EVENTS_PER_FILE ≡ 0
+  pub past : scan.line < scan.first
   pub some : scan.first ≤ scan.last
   pub there : scan.last ≤ scan.end
   pub limit : scan.end < 2 ^ 62
 
 pub record SameScan (old new : Scan) : Type 0 where
+  pub line : new.line ≡ old.line
   pub end : new.end ≡ old.end
   pub first : new.first ≡ old.first
   pub last : new.last ≡ old.last

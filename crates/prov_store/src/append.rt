@@ -29,8 +29,8 @@ impl Events {
         requires next { blocks.now.first ≡ self.old.end + 1 }
         requires ready { IsTrue D.tells → EventsAreReady self.old (D.held disk.old) }
         ensures added { OnOk result (IsTrue D.tells → (before : List TheEvent)
-            → events_in (D.held disk.old) self.old.end ≡ Ok before
-            → events_in (D.held disk.new) self.new.end ≡ Ok (before ++ blocks.now.events)) }
+            → events_in (D.held disk.old) self.old.line self.old.end ≡ Ok before
+            → events_in (D.held disk.new) self.new.line self.new.end ≡ Ok (before ++ blocks.now.events)) }
         ensures appended { OnOk result (HasAppended D.tells D.held D.moment blocks.now.events self.old self.new
             disk.old disk.new) }
         ensures refused { OnErr result (HasRefused (files_for self.old.end (length blocks.now.events))
@@ -54,10 +54,10 @@ impl Events {
     fn write_parts<D: Disk>(&self, disk: &mut D, blocks: &EventBlocks<'_>) -> Result<Place, Failed>
         requires next { blocks.now.first ≡ self.now.end + 1 }
         requires stands { IsTrue D.tells
-            → (before : List TheEvent) × Stands self.now.end self.now.offset (D.held disk.old) before }
+            → (before : List TheEvent) × Stands self.now.line self.now.end self.now.offset (D.held disk.old) before }
         ensures stands { IfOk result (λ place. IsTrue D.tells → (before : List TheEvent)
-            → Stands self.now.end self.now.offset (D.held disk.old) before
-            → Stands place.end place.offset (D.held disk.new) (before ++ blocks.now.events)) }
+            → Stands self.now.line self.now.end self.now.offset (D.held disk.old) before
+            → Stands self.now.line place.end place.offset (D.held disk.new) (before ++ blocks.now.events)) }
         ensures end { IfOk result (λ place. place.end ≡ self.now.end + length blocks.now.events) }
         ensures behind { ChangesBy D.tells D.held D.moment D.images (GrowsBehind self.now) disk.old disk.new }
         ensures writes { OnOk result (D.moment disk.new

@@ -14,6 +14,16 @@ pub fn count(counts: &mut EventCounts, kind: EventKind)
     counts.counts[kind.code() as usize - 1] += 1;
 }
 
+/// Counts one event less of this kind, as far as there are such.
+pub fn uncount(counts: &mut EventCounts, kind: EventKind)
+    requires long { length counts.old.counts ≡ 12 }
+    ensures { counts.new.counts
+        ≡ slice_set counts.old.counts (code_of kind - 1) (slice_index counts.old.counts (code_of kind - 1) - 1) }
+{
+    let index = kind.code() as usize - 1;
+    counts.counts[index] = counts.counts[index].saturating_sub(1);
+}
+
 /// Counts these events, one by one.
 pub fn count_all(counts: &mut EventCounts, events: &[Event])
     requires room { All (λ n. n + length events.now < 2 ^ 64) counts.old.counts }

@@ -1,9 +1,11 @@
-//! The files of events: which events a store has up to a last one, ten thousand to a file.
+//! The files of events: which events a store has past a line and up to a last one, ten thousand to a file.
 //!
 //! Events are counted from 1. The blocks of a file's events stand one behind the other from its start, and what stands
-//! behind that of the last event doesn't matter.
+//! behind that of the last event doesn't matter. The events up to the line are forgotten: it is the end of a file, and
+//! that file and those before it don't matter.
 #![tactic(auto)]
 
+mod age;
 mod append;
 mod blocks;
 mod counts;

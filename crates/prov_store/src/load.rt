@@ -1,14 +1,14 @@
-//! The events up to a last one are read, block by block.
-ghost use Rattle.std.specs.Prelude.{◌≡◌, ℕ, suc, ◌+◌, ◌/◌, ◌<◌, ◌≤◌, ◌^◌, [], ◌∷◌, ◌++◌, length, map, All, Contains, IsTrue, IfOk, OnOk, IsErrOf, Err};
+//! The events past a line and up to a last one are read, block by block.
+ghost use Rattle.std.specs.Prelude.{◌≡◌, ℕ, suc, ◌+◌, ◌/◌, ◌<◌, ◌≤◌, ◌^◌, ◌++◌, length, All, IsTrue, IfOk, OnOk, IsErrOf, Err};
 ghost use Rattle.disk_trait.specs.Images.{Stays};
 ghost use Rattle.disk_trait.specs.Faults.{CountsFaults};
 ghost use Rattle.disk_trait.specs.declared.damage.Damage.{Damage as TheDamage};
 ghost use Rattle.flowfile_record.specs.Encoding.{IsNumber};
 ghost use Rattle.prov_store.specs.Events.{events_file, events_from, events_of_files, events_in};
-ghost use Rattle.prov_store.specs.Loading.{bytes_there, AreLater, FilesAreRead, HaveCounted, EventsAreLoaded};
+ghost use Rattle.prov_store.specs.Loading.{bytes_there, files_before, files_later, loaded_state, FilesAreRead, HaveCounted, MayReadFile};
 ghost use Rattle.prov_store.specs.Reading.{HasWhole, IsThere};
 ghost use Rattle.record_codec.specs.Block.{reading_of};
-ghost use Rattle.prov_store.specs.State.{AreLonger, IsFoundOn};
+ghost use Rattle.prov_store.specs.State.{AreLonger, HasStale, IsEventLine, IsFoundOn};
 
 use crate::counts::count;
 use crate::events::file_named;
@@ -21,6 +21,7 @@ use std::alloc::{AllocError, Global};
 // What is known of the files up to some file.
 #[derive(Drop)]
 struct Loading {
+    line: u64,
     end: u64,
     offset: u64,
     counts: EventCounts,
@@ -29,36 +30,45 @@ struct Loading {
 }
 
 impl Events {
-    /// Reads the events up to a last one, and finds the files that are longer than these. It writes nothing, and beside
-    /// its lists it takes memory for one block.
-    pub fn load<D: Disk>(alloc: Global, disk: &mut D, end: u64) -> Result<Events, EventsError>
-        requires { IsNumber end }
-        ensures found { IfOk result (IsFoundOn D.tells (D.held disk.old) end) }
+    /// Reads the events past a line and up to a last one, and finds the files that are longer than these. Of the files
+    /// before the line it asks for their names alone. It writes nothing, and beside its lists it takes memory for one
+    /// block.
+    pub fn load<D: Disk>(
+        alloc: Global,
+        disk: &mut D,
+        line: u64,
+        end: u64,
+    ) -> Result<Events, EventsError>
+        requires end { IsNumber end }
+        requires line { IsEventLine line end }
+        ensures found { IfOk result (IsFoundOn D.tells (D.held disk.old) line end) }
         // The first damage by the events' numbers is told, where there is one.
         ensures damaged { (damage : TheDamage) → IsErrOf result (EventsError.Damaged damage) → IsTrue D.tells
-            → events_in (D.held disk.old) end ≡ Err damage }
+            → events_in (D.held disk.old) line end ≡ Err damage }
         // Memory is taken for whole blocks alone, so that where the first one is damaged that is told.
-        ensures memory { IsErrOf result EventsError.Memory → IsTrue D.tells → 0 < end
-            → HasWhole (reading_of (D.held disk.old (events_file 0))) }
+        ensures memory { IsErrOf result EventsError.Memory → IsTrue D.tells → line < end
+            → HasWhole (reading_of (D.held disk.old (events_file (line / EVENTS_PER_FILE)))) }
         ensures stays { Stays D.held D.moment D.images disk.old disk.new }
         ensures cause { CountsFaults (D.faults disk.old) (D.faults disk.new) (IsErrOf result EventsError.Disk) }
     {
         let mut loading = Loading {
+            line,
             end,
             offset: 0,
             counts: EventCounts { counts: [0; 12] },
             stale: Vec::new(alloc),
             buffer: Vec::new(alloc),
         };
-        for number in 0..end / EVENTS_PER_FILE + 1 {
+        for number in line / EVENTS_PER_FILE..end / EVENTS_PER_FILE + 1 {
             loading.read_file(alloc, disk, number)?;
         }
-        loading.find_later(alloc, disk)?;
+        let stale = loading.stale_files(alloc, disk)?;
         Ok(Events {
+            line,
             end,
             offset: loading.offset,
             counts: loading.counts,
-            stale: loading.stale,
+            stale,
         })
     }
 }
@@ -71,15 +81,15 @@ impl Loading {
         disk: &mut D,
         number: u64,
     ) -> Result<(), EventsError>
-        requires number { number ≤ self.old.end / EVENTS_PER_FILE }
-        requires end { IsNumber self.old.end }
+        requires may { MayReadFile number self.old }
         requires read { FilesAreRead D.tells (D.held disk.old) number self.old }
         ensures read { OnOk result (FilesAreRead D.tells (D.held disk.old) (number + 1) self.new) }
-        ensures end { self.new.end ≡ self.old.end }
+        ensures same { (self.new.line ≡ self.old.line) × (self.new.end ≡ self.old.end) }
         ensures damaged { (damage : TheDamage) → IsErrOf result (EventsError.Damaged damage) → IsTrue D.tells
-            → (more : ℕ) → events_of_files (number + suc more) self.old.end 0 (D.held disk.old) ≡ Err damage }
-        ensures memory { IsErrOf result EventsError.Memory → IsTrue D.tells → 0 < self.old.end
-            → HasWhole (reading_of (D.held disk.old (events_file 0))) }
+            → (more : ℕ)
+            → events_of_files (number + suc more) self.old.line self.old.end 0 (D.held disk.old) ≡ Err damage }
+        ensures memory { IsErrOf result EventsError.Memory → IsTrue D.tells → self.old.line < self.old.end
+            → HasWhole (reading_of (D.held disk.old (events_file (self.old.line / EVENTS_PER_FILE)))) }
         ensures stays { Stays D.held D.moment D.images disk.old disk.new }
         ensures cause { CountsFaults (D.faults disk.old) (D.faults disk.new) (IsErrOf result EventsError.Disk) }
     {
@@ -101,47 +111,57 @@ impl Loading {
         Ok(())
     }
 
-    // Finds the files behind the one that the next event goes to.
-    fn find_later<D: Disk>(&mut self, alloc: Global, disk: &mut D) -> Result<(), EventsError>
-        requires read { FilesAreRead D.tells (D.held disk.old) (self.old.end / EVENTS_PER_FILE + 1) self.old }
-        ensures longer { OnOk result (AreLonger D.tells (D.held disk.old) self.new.stale.items) }
-        ensures loaded { OnOk result
-            (EventsAreLoaded D.tells (D.held disk.old) (self.old.end / EVENTS_PER_FILE + 1) self.new) }
-        ensures later { OnOk result (IsTrue D.tells → (j : ℕ) → self.old.end / EVENTS_PER_FILE < j
-            → (Contains (map (λ s. s.file) self.new.stale.items) j → ⊥) → D.held disk.old (events_file j) ≡ []) }
-        ensures end { self.new.end ≡ self.old.end }
+    // All files that are longer than what is covered, once those from the line on are read.
+    fn stale_files<D: Disk>(&self, alloc: Global, disk: &mut D) -> Result<Vec<Stale>, EventsError>
+        requires line { IsEventLine self.now.line self.now.end }
+        requires read { FilesAreRead D.tells (D.held disk.old) (self.now.end / EVENTS_PER_FILE + 1) self.now }
+        ensures longer { IfOk result (λ stale. AreLonger D.tells (D.held disk.old) stale.items) }
+        ensures stale { IfOk result (λ stale. IsTrue D.tells
+            → HasStale (loaded_state self.now stale.items) (D.held disk.old)) }
         ensures kinds { (damage : TheDamage) → IsErrOf result (EventsError.Damaged damage) → ⊥ }
         ensures stays { Stays D.held D.moment D.images disk.old disk.new }
         ensures cause { CountsFaults (D.faults disk.old) (D.faults disk.new) (IsErrOf result EventsError.Disk) }
     {
         let mut numbers = Vec::new(alloc);
         disk.files(FileKind::Events, &mut numbers)?;
-        for number in &numbers {
-            self.add_later(*number)?;
-        }
-        Ok(())
+        let mut stale = Vec::new(alloc);
+        add_before(&mut stale, &numbers, self.line / EVENTS_PER_FILE)?;
+        stale.extend_from_slice(&self.stale)?;
+        add_later(&mut stale, &numbers, self.end / EVENTS_PER_FILE)?;
+        Ok(stale)
     }
+}
 
-    // Adds a file that isn't empty, where it is behind the one that the next event goes to.
-    fn add_later(&mut self, number: u64) -> Result<(), AllocError>
-        ensures listed { OnOk result (self.old.end / EVENTS_PER_FILE < number
-            → Contains (map (λ s. s.file) self.new.stale.items) number) }
-        ensures kept { OnOk result (AreLater self.old self.new) }
-        ensures behind { OnOk result (self.old.end / EVENTS_PER_FILE < number
-            → self.new.stale.items ≡ self.old.stale.items ++ record { file = number; size = 0 } ∷ []) }
-        ensures before { OnOk result (number ≤ self.old.end / EVENTS_PER_FILE
-            → self.new.stale.items ≡ self.old.stale.items) }
-        ensures end { self.new.end ≡ self.old.end }
-    {
-        if number > self.end / EVENTS_PER_FILE {
-            self.stale.reserve(1)?;
-            self.stale.push_reserved(Stale {
-                file: number,
+// Adds the files of these numbers that are before this one.
+fn add_before(stale: &mut Vec<Stale>, numbers: &[u64], first: u64) -> Result<(), AllocError>
+    ensures { OnOk result (stale.new.items ≡ stale.old.items ++ files_before first numbers.now) }
+{
+    for number in numbers {
+        if *number < first {
+            stale.reserve(1)?;
+            stale.push_reserved(Stale {
+                file: *number,
                 size: 0,
             });
         }
-        Ok(())
     }
+    Ok(())
+}
+
+// Adds the files of these numbers that are behind this one.
+fn add_later(stale: &mut Vec<Stale>, numbers: &[u64], last: u64) -> Result<(), AllocError>
+    ensures { OnOk result (stale.new.items ≡ stale.old.items ++ files_later last numbers.now) }
+{
+    for number in numbers {
+        if *number > last {
+            stale.reserve(1)?;
+            stale.push_reserved(Stale {
+                file: *number,
+                size: 0,
+            });
+        }
+    }
+    Ok(())
 }
 
 // Reads and counts so many events from there on. Answers where they end.

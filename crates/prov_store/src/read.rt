@@ -1,5 +1,5 @@
 //! The event at an offset of a file.
-ghost use Rattle.std.specs.Prelude.{◌≡◌, ℕ, ◌+◌, ◌<◌, ◌≤◌, ◌^◌, length, drop, IsTrue, IfOk, IfErr, IsErrOf, Ok, Err, Some, None};
+ghost use Rattle.std.specs.Prelude.{◌≡◌, ℕ, ◌+◌, ◌<◌, ◌≤◌, ◌^◌, length, drop, IsTrue, IfOk, IfErr, IsErr, IsErrOf, Ok, Err, Some, None};
 ghost use Rattle.disk_trait.specs.Images.{Stays};
 ghost use Rattle.disk_trait.specs.Faults.{CountsFaults};
 ghost use Rattle.disk_trait.specs.declared.damage.Damage.{Damage as TheDamage};
@@ -7,12 +7,13 @@ ghost use Rattle.flowfile_record.specs.declared.event.Event.{Event as TheEvent};
 ghost use Rattle.prov_event.specs.EventReading.{event_takes_memory};
 ghost use Rattle.record_codec.specs.Block.{reading_of};
 ghost use Rattle.prov_store.specs.Events.{events_file, event_in, event_by};
-ghost use Rattle.prov_store.specs.Reading.{event_there, HasWhole, IsThere};
+ghost use Rattle.prov_store.specs.Reading.{event_there, HasWhole, IsEventHead, IsThere};
+ghost use Rattle.prov_store.specs.declared.read.EventHead.{EventHead as TheHead};
 
 use crate::EventsError;
 use block_file::{BlockAddress, read_block_at};
-use disk_trait::{Damage, Disk, FileName};
-use flowfile_record::{CodecError, Event};
+use disk_trait::{Damage, Disk, Failed, FileName};
+use flowfile_record::{CodecError, Event, EventKind};
 use prov_event::{EVENT_KIND, read_event};
 use record_codec::{BlockEnd, HEADER_SIZE, size_by_header};
 use std::alloc::Global;
@@ -39,6 +40,16 @@ impl Cursor {
             ..self
         }
     }
+}
+
+/// How many bytes of a block say its size and the event's kind: the header, the number and the kind.
+const HEAD_SIZE: u64 = HEADER_SIZE + 9;
+
+/// An event's kind, and the size of its block.
+#[derive(Clone, Copy)]
+pub struct EventHead {
+    pub kind: EventKind,
+    pub size: u64,
 }
 
 /// The event that stands there, and the size of its block.
@@ -134,4 +145,39 @@ pub fn skip_event_at<D: Disk>(disk: &mut D, cursor: Cursor) -> Result<u64, Event
             at: cursor.at,
         })),
     }
+}
+
+/// What the head of the block that stands there says of its event. None where no event can stand there.
+pub fn read_head_at<D: Disk>(disk: &mut D, cursor: Cursor) -> Result<Option<EventHead>, Failed>
+    requires { IsThere D.tells (D.held disk.old) cursor }
+    ensures head { IfOk result (λ head. IsTrue D.tells → (event : TheEvent) (whole : ℕ)
+        → event_there (D.held disk.old) cursor ≡ Ok (event, whole)
+        → head ≡ Some (record { kind = event.kind; size = whole })) }
+    ensures within { IfOk result (λ head. (h : TheHead) → head ≡ Some h → cursor.at + h.size ≤ cursor.size) }
+    ensures stays { Stays D.held D.moment D.images disk.old disk.new }
+    ensures cause { CountsFaults (D.faults disk.old) (D.faults disk.new) (IsErr result) }
+{
+    let have = cursor.size - cursor.at;
+    if have < HEAD_SIZE {
+        return Ok(None);
+    }
+    let mut head = [0u8; HEAD_SIZE as usize];
+    disk.read(cursor.file, cursor.at, &mut head)?;
+    Ok(head_of(&head, have))
+}
+
+// What these bytes say of the event whose block begins with them, where so many stand from there on.
+fn head_of(bytes: &[u8], have: u64) -> Option<EventHead>
+    requires long { length bytes.now ≡ HEAD_SIZE }
+    ensures some { (head : TheHead) → result ≡ Some head → IsEventHead bytes.now have head }
+    ensures none { result ≡ None → (head : TheHead) → IsEventHead bytes.now have head → ⊥ }
+{
+    let header = &bytes[..HEADER_SIZE as usize];
+    let Ok(size) = size_by_header(header, have) else {
+        return None;
+    };
+    let Some(kind) = EventKind::from_code(bytes[HEAD_SIZE as usize - 1]) else {
+        return None;
+    };
+    Some(EventHead { kind, size })
 }

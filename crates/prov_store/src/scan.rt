@@ -16,9 +16,10 @@ use disk_trait::Disk;
 use flowfile_record::{EVENTS_PER_FILE, Event};
 use std::alloc::Global;
 
-// The events of a store up to a last one that are found between two numbers.
+// The events of a store past a line and up to a last one that are found between two numbers.
 #[derive(Drop)]
 struct Scan {
+    line: u64,
     end: u64,
     first: u64,
     last: u64,
@@ -27,8 +28,8 @@ struct Scan {
 }
 
 impl Events {
-    /// The events numbered from one to another, both included, as far as there are such. Of the files that have some it
-    /// reads the headers of the blocks before them, and nothing behind them.
+    /// The events past the line numbered from one to another, both included, as far as there are such. Of the files
+    /// that have some it reads the headers of the blocks before them, and nothing behind them.
     pub fn scan<D: Disk>(
         &self,
         alloc: Global,
@@ -38,23 +39,24 @@ impl Events {
     ) -> Result<Vec<Event>, EventsError>
         // Where the disk holds the events that are known.
         ensures found { IfOk result (λ found. IsTrue D.tells → (events : List TheEvent)
-            → events_in (D.held disk.old) self.now.end ≡ Ok events
+            → events_in (D.held disk.old) self.now.line self.now.end ≡ Ok events
             → found.items ≡ filter (λ e. nat_le from e.number && nat_le e.number to) events) }
         // Whatever the disk is, each event between the two is there, once and in its place.
         ensures numbered { IfOk result (λ found. map (λ e. e.number) found.items
-            ≡ numbers_between (max from 1) (min to self.now.end)) }
+            ≡ numbers_between (max from (self.now.line + 1)) (min to self.now.end)) }
         // Where no event lies between the two, nothing is asked of the disk, and no memory is taken.
-        ensures refused { IsErr result → HasBetween from to self.now.end }
-        ensures none { (HasBetween from to self.now.end → ⊥) → disk.new ≡ disk.old }
+        ensures refused { IsErr result → HasBetween from to self.now.line self.now.end }
+        ensures none { (HasBetween from to self.now.line self.now.end → ⊥) → disk.new ≡ disk.old }
         // A disk that tells and holds the events up to the last one gives no damage.
         ensures undamaged { (damage : TheDamage) → IsErrOf result (EventsError.Damaged damage) → IsTrue D.tells
-            → (events : List TheEvent) → events_in (D.held disk.old) self.now.end ≡ Ok events → ⊥ }
+            → (events : List TheEvent) → events_in (D.held disk.old) self.now.line self.now.end ≡ Ok events → ⊥ }
         ensures stays { Stays D.held D.moment D.images disk.old disk.new }
         ensures cause { CountsFaults (D.faults disk.old) (D.faults disk.new) (IsErrOf result EventsError.Disk) }
     {
         let mut scan = Scan {
+            line: self.line,
             end: self.end,
-            first: from.max(1),
+            first: from.max(self.line + 1),
             last: to.min(self.end),
             buffer: Vec::new(alloc),
             found: Vec::new(alloc),
@@ -74,10 +76,10 @@ impl Scan {
         ensures numbered { OnOk result
             (map (λ e. e.number) self.new.found.items ≡ numbers_between self.old.first self.old.last) }
         ensures found { OnOk result (IsTrue D.tells → (events : List TheEvent)
-            → events_in (D.held disk.old) self.old.end ≡ Ok events
+            → events_in (D.held disk.old) self.old.line self.old.end ≡ Ok events
             → self.new.found.items ≡ filter (is_within self.old.first self.old.last) events) }
         ensures undamaged { (damage : TheDamage) → IsErrOf result (EventsError.Damaged damage) → IsTrue D.tells
-            → (events : List TheEvent) → events_in (D.held disk.old) self.old.end ≡ Ok events → ⊥ }
+            → (events : List TheEvent) → events_in (D.held disk.old) self.old.line self.old.end ≡ Ok events → ⊥ }
         ensures stays { Stays D.held D.moment D.images disk.old disk.new }
         ensures cause { CountsFaults (D.faults disk.old) (D.faults disk.new) (IsErrOf result EventsError.Disk) }
     {
@@ -100,7 +102,7 @@ impl Scan {
         requires from { (self.old.first - 1) / EVENTS_PER_FILE ≤ number }
         requires to { number ≤ (self.old.last - 1) / EVENTS_PER_FILE }
         ensures found { OnOk result (IsTrue D.tells → (here : List TheEvent)
-            → events_of_file self.old.end number (D.held disk.old) ≡ Ok here
+            → events_of_file self.old.line self.old.end number (D.held disk.old) ≡ Ok here
             → self.new.found.items ≡ self.old.found.items ++ filter (is_within self.old.first self.old.last) here) }
         ensures numbered { OnOk result (map (λ e. e.number) self.new.found.items
             ≡ map (λ e. e.number) self.old.found.items
@@ -108,7 +110,8 @@ impl Scan {
             (min self.old.last (first_event (number + 1) - 1))) }
         ensures same { SameScan self.old self.new }
         ensures undamaged { (damage : TheDamage) → IsErrOf result (EventsError.Damaged damage) → IsTrue D.tells
-            → (here : List TheEvent) → events_of_file self.old.end number (D.held disk.old) ≡ Ok here → ⊥ }
+            → (here : List TheEvent)
+            → events_of_file self.old.line self.old.end number (D.held disk.old) ≡ Ok here → ⊥ }
         ensures stays { Stays D.held D.moment D.images disk.old disk.new }
         ensures cause { CountsFaults (D.faults disk.old) (D.faults disk.new) (IsErrOf result EventsError.Disk) }
     {

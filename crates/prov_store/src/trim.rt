@@ -1,4 +1,4 @@
-//! What stands behind the last event is cut.
+//! What stands before the line and behind the last event is cut.
 ghost use Rattle.std.specs.Prelude.{length, IsTrue, OnOk, OnErr, IsErr};
 ghost use Rattle.disk_trait.specs.Faults.{CountsFaults};
 ghost use Rattle.prov_store.specs.State.{HasEvents, HasStale, CutsStale, ChangesBy, HasTrimmed, HasRefused};
@@ -15,7 +15,7 @@ impl Events {
         ensures trimmed { OnOk result (HasTrimmed D.tells D.held D.moment self.old self.new disk.old disk.new) }
         ensures refused { OnErr result
             (HasRefused (length self.old.stale) self.old self.new (D.moment disk.old) (D.moment disk.new)) }
-        // Whatever a stop leaves, only bytes behind the last event are changed.
+        // Whatever a stop leaves, only bytes before the line or behind the last event are changed.
         ensures behind { ChangesBy D.tells D.held D.moment D.images (CutsStale self.old.stale) disk.old disk.new }
         ensures cause { CountsFaults (D.faults disk.old) (D.faults disk.new) (IsErr result) }
     {

@@ -175,13 +175,13 @@ module _ (some other : ContentRef → List ℕ) where
 pub record IsSound (files : Files) (k : Kept) (s : State) : Type 0 where
   pub contents : contents_damage files (live_contents k) ≡ sound
   pub events : List Event
-  pub events_are : events_in files k.last_event ≡ Ok events
+  pub events_are : events_in files 0 k.last_event ≡ Ok events
   pub is : s ≡ state_with (content_in files) events k
 
 abbrev pub of_state : State → Result State Damage
 of_state s = Ok s
 
-sound_state : (files : Files) (k : Kept) (s : State) (damage : Option Damage) (events : Result (List Event) Damage) → contents_damage files (live_contents k) ≡ damage → events_in files k.last_event ≡ events
+sound_state : (files : Files) (k : Kept) (s : State) (damage : Option Damage) (events : Result (List Event) Damage) → contents_damage files (live_contents k) ≡ damage → events_in files 0 k.last_event ≡ events
     → state_by files k damage events ≡ of_state s → IsSound files k s
 sound_state files k s (Some damage) events d e is = absurd cc
 sound_state files k s None (Err damage) d e is = absurd cc
@@ -189,12 +189,12 @@ sound_state files k s None (Ok events) d e is = record { contents = d; events = 
 
 pub sound_of : (files : Files) (k : Kept) (s : State) → state_of files k ≡ of_state s → IsSound files k s
 unfolding state_of
-sound_of files k s is = sound_state files k s (contents_damage files (live_contents k)) (events_in files k.last_event) refl refl is
+sound_of files k s is = sound_state files k s (contents_damage files (live_contents k)) (events_in files 0 k.last_event) refl refl is
 
-pub state_of_sound : (files : Files) (k : Kept) (events : List Event) → contents_damage files (live_contents k) ≡ sound → events_in files k.last_event ≡ Ok events
+pub state_of_sound : (files : Files) (k : Kept) (events : List Event) → contents_damage files (live_contents k) ≡ sound → events_in files 0 k.last_event ≡ Ok events
     → state_of files k ≡ Ok (state_with (content_in files) events k)
 unfolding state_of
-state_of_sound files k events contents e = ap (λ (d : Option Damage). state_by files k d (events_in files k.last_event)) contents ∙ ap (state_by files k None) e
+state_of_sound files k events contents e = ap (λ (d : Option Damage). state_by files k d (events_in files 0 k.last_event)) contents ∙ ap (state_by files k None) e
 
 -- files that stand for a state keep something
 pub record Keeps (flow : Flow) (lot : ℕ) (files : Files) (s : State) : Type 0 where
@@ -222,7 +222,7 @@ agreeing_state flow lot needs old new s needed agrees stands =
     let was = sound_of old k s keeps.state in
     let kept : kept_in flow lot new ≡ Ok k = agreeing_kept flow lot needs old new needed agrees ∙ keeps.is in
     let same : All (SameContent old new) (live_contents k) = subst (λ (cs : List ContentRef). All (SameContent old new) cs) (needed.contents k keeps.is) agrees.contents in
-    let covers : SameEvents k.last_event old new = subst (λ (last : ℕ). SameEvents last old new) (needed.last_event k keeps.is) agrees.events in
+    let covers : SameEvents 0 k.last_event old new = subst (λ (last : ℕ). SameEvents 0 last old new) (needed.last_event k keeps.is) agrees.events in
     stands_by_kept flow lot new k kept
-    ∙ state_of_sound new k was.events (contents_sound old new (live_contents k) same was.contents) (says_still k.last_event old new was.events covers was.events_are)
+    ∙ state_of_sound new k was.events (contents_sound old new (live_contents k) same was.contents) (says_still 0 k.last_event old new was.events covers was.events_are)
     ∙ ap of_state (same_state (content_in new) (content_in old) was.events k (λ i d lt. (same i d lt).bytes) ∙ sym was.is)

@@ -63,15 +63,15 @@ sizes_beside events slots old new grows sizes k = ap length (claims_beside event
 pub ready_beside : (events : EventsState) (slots : List Slot) (old new : Files) → ClaimsGrowBehind slots old new → EventsAreReady events old → EventsAreReady events new
 ready_beside events slots old new grows ready = record {
   has = has_same events old new (events_stay old new grows.others) ready.has;
-  trimmed = trimmed_same events.end old new (events_stay old new grows.others) ready.trimmed;
+  trimmed = trimmed_same events.line events.end old new (events_stay old new grows.others) ready.trimmed;
 }
 
 pub adds_events : (tells : Bool) (added : List Event) (slots : List Slot) (events more : EventsState) (old mid new : Files) → (IsTrue tells → ClaimsGrowBehind slots old mid) → EventsAreAppended added events more
-    → (IsTrue tells → (before : List Event) → events_in mid events.end ≡ Ok before → events_in new more.end ≡ Ok (before ++ added)) → (IsTrue tells → EventsAreReady more new)
+    → (IsTrue tells → (before : List Event) → events_in mid events.line events.end ≡ Ok before → events_in new more.line more.end ≡ Ok (before ++ added)) → (IsTrue tells → EventsAreReady more new)
     → AppendsEvents tells added events more old new
 adds_events tells added slots events more old mid new grows appended stand ready = record {
   appended = appended;
-  added = λ told before are. stand told before (same_events events.end old mid (events_stay old mid (grows told).others) ∙ are);
+  added = λ told before are. stand told before (same_events events.line events.end old mid (events_stay old mid (grows told).others) ∙ are);
   ready = ready;
 }
 

@@ -84,6 +84,7 @@ holds_renewed s number old new step was = record {
   kept = step.kept;
   contents = contents_sound old new (live_in s) (same_claims old new (live_in s) (claims_stay number old new step.alone)) was.contents;
   events = has_same s.events old new (events_stay number old new step.alone) was.events;
+  line = was.line;
 }
 
 pub state_renewed : (s : StoreState) (number : ℕ) (state : State) (old new : Files) → Renews s number old new → FilesHold s old
@@ -94,7 +95,7 @@ state_renewed s number state old new step was stands =
     let now = holds_renewed s number old new step was in
     let sound_old = sound_of old k state (sym (stands_by_kept flow s.lot old k was.kept) ∙ stands) in
     let same : All (SameContent old new) (live_contents k) = same_claims old new (live_in s) (claims_stay number old new step.alone) in
-    let events = says_still k.last_event old new sound_old.events (same_covered k.last_event old new (events_stay number old new step.alone)) sound_old.events_are in
+    let events = says_still 0 k.last_event old new sound_old.events (same_covered 0 k.last_event old new (events_stay number old new step.alone)) sound_old.events_are in
     stands_by_kept flow s.lot new k now.kept
     ∙ state_of_sound new k sound_old.events now.contents events
     ∙ ap of_state (same_state (content_in new) (content_in old) sound_old.events k (λ i d lt. (same i d lt).bytes) ∙ sym sound_old.is)
@@ -202,14 +203,14 @@ module _ {D : Type 0} (tells : Bool) (held : D → Files) (moment : D → ℕ) (
     holds = λ f c left.
         let after = at_the_end moment images old new (After (Renews s number) (images old (moment old))) since c left in
         let h = holds_renewed s number after.0 c after.2 (kept.holds unfailed after.0 after.1) in
-        record { kept = h.kept; contents = h.contents; events = h.events };
+        record { kept = h.kept; contents = h.contents; events = h.events; line = h.line };
     log = λ f c left.
         let after = at_the_end moment images mid new (Dropping moment images number mid) second c left in
         has_next_log s number c may (taken_dropped number (number + 1) (kept_by s) after.0 c (omega arith) (taken after.0 after.1) after.2);
     sizes = λ f told k.
         ap length (claims_stay number (held old) (held new) (held_alone (touched told) (dropped told)) k) ∙ kept.sizes unfailed told k;
     trimmed = λ f told.
-        trimmed_same s.events.end (held old) (held new) (events_stay number (held old) (held new) (held_alone (touched told) (dropped told))) (kept.trimmed unfailed told);
+        trimmed_same s.events.line s.events.end (held old) (held new) (events_stay number (held old) (held new) (held_alone (touched told) (dropped told))) (kept.trimmed unfailed told);
   }
 
 -- a call that may have failed: where it didn't, the disk is as before
@@ -220,12 +221,12 @@ kept_unless {D = D} tells held moment images s now failed old mid view unfailed 
     record {
       holds = λ f c left.
           let h = kept.holds unfailed c (subst (λ (d : D). images d (moment d) c) (same f) left) in
-          record { kept = h.kept; contents = h.contents; events = h.events };
+          record { kept = h.kept; contents = h.contents; events = h.events; line = h.line };
       log = λ f c left.
           let h = kept.log unfailed c (subst (λ (d : D). images d (moment d) c) (same f) left) in
           record { ready = h.ready; entries = h.entries };
       sizes = λ f told. subst (λ (d : D). HasSizes s.slots (held d)) (sym (same f)) (kept.sizes unfailed told);
-      trimmed = λ f told. subst (λ (d : D). IsTrimmed s.events.end (held d)) (sym (same f)) (kept.trimmed unfailed told);
+      trimmed = λ f told. subst (λ (d : D). IsTrimmed s.events.line s.events.end (held d)) (sym (same f)) (kept.trimmed unfailed told);
     }
 
 -- ---- the calls of a checkpoint, by what is in memory as it begins

@@ -76,4 +76,5 @@ holds_still s old new stay has same was =
           ∙ was.kept;
       contents = contents_sound old new (live_in s) same was.contents;
       events = has_same s.events old new (events_stay old new stay) was.events;
+      line = was.line;
     }

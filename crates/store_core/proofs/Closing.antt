@@ -42,7 +42,7 @@ working_let_go s slots works counts held sizes = record {
 pub kept_let_go : {D : Type 0} (tells : Bool) (held : D → Files) (moment : D → ℕ) (images : D → ℕ → Files → Type 0) (s : StoreState) (slots : List Slot) (disk : D) → ((k : ℕ) → size_of slots k ≡ size_of s.slots k)
     → IsKeptOn tells held moment images s disk → IsKeptOn tells held moment images (let_go s slots) disk
 kept_let_go tells held moment images s slots disk sizes kept = record {
-  holds = λ f c left. let h = kept.holds f c left in record { kept = h.kept; contents = h.contents; events = h.events };
+  holds = λ f c left. let h = kept.holds f c left in record { kept = h.kept; contents = h.contents; events = h.events; line = h.line };
   log = λ f c left. let h = kept.log f c left in record { ready = h.ready; entries = h.entries };
   sizes = λ f told k. kept.sizes f told k ∙ sym (sizes k);
   trimmed = kept.trimmed;
@@ -73,14 +73,14 @@ module _ {D : Type 0} (tells : Bool) (held : D → Files) (moment : D → ℕ) (
   since_closed =
       wider moment images old mid (FilesHold (let_go s slots)) (FilesHold s)
       (since_reclaimed moment images (let_go s slots) old mid (works_on s slots has) (kept_on.holds has.unfailed) (kept_on.log has.unfailed) since)
-      (λ c h. record { kept = h.kept; contents = h.contents; events = h.events })
+      (λ c h. record { kept = h.kept; contents = h.contents; events = h.events; line = h.line })
 
   follows_emptied : (before c : Files) → IdleShortened slots before c → Follows s before c
   follows_emptied before c step = record {
     current = current_stays before c step.others;
     snapshot = snapshot_stays before c step.others;
     contents = live_stay (let_go s slots) before c (works_on s slots has) step;
-    events = same_covered s.events.end before c (events_stay before c step.others);
+    events = same_covered s.events.line s.events.end before c (events_stay before c step.others);
   }
 
   -- whatever a stop leaves stands for the same state
@@ -105,7 +105,7 @@ states_reclaimed tells held moment images s old new works unfailed kept since st
       current = current_stays before c step.others;
       snapshot = snapshot_stays before c step.others;
       contents = live_stay s before c works step;
-      events = same_covered s.events.end before c (events_stay before c step.others);
+      events = same_covered s.events.line s.events.end before c (events_stay before c step.others);
     }
 
 -- a sync leaves it so
@@ -115,7 +115,7 @@ kept_synced tells held moment images s mid end kept since same = record {
   holds = λ f c left. kept.holds f c (at_the_end moment images mid end (images mid (moment mid)) since c left);
   log = λ f c left. kept.log f c (at_the_end moment images mid end (images mid (moment mid)) since c left);
   sizes = λ f told. subst (HasSizes s.slots) (sym same) (kept.sizes f told);
-  trimmed = λ f told. subst (IsTrimmed s.events.end) (sym same) (kept.trimmed f told);
+  trimmed = λ f told. subst (IsTrimmed s.events.line s.events.end) (sym same) (kept.trimmed f told);
 }
 
 pub sound_closed : (s : StoreState) (slots emptied : List Slot) (answer : Reclaimed) → IsSoundStore s → HasLetGo s slots → IsReclaimed slots emptied answer → IsSoundStore (closed s emptied)

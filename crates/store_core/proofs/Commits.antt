@@ -314,8 +314,8 @@ events_beside_log number e old new added k =
 
 -- files that held what is kept, and got an entry that does what a session's does, hold what is kept after it
 pub holds_added : (s new : StoreState) (number : ℕ) (e : LogEntry) (se : SessionEntry) (old files : Files) → HasLog s old → FilesHold s old → s.log.number ≡ Some number → applied no_files (kept_by s) e ≡ session_applied (kept_by s) se → batch_swapped_out e ≡ []
-    → entry_suits no_files (kept_by s) e ≡ true → AddsEntry number e old files → All (IsSoundIn old) (map content_of se.placed) → kept_by new ≡ applied no_files (kept_by s) e → new.lot ≡ s.lot → HasEvents new.events old → FilesHold new files
-holds_added s new number e se old files has holds numbered act alone fit added placed kept lot events =
+    → entry_suits no_files (kept_by s) e ≡ true → AddsEntry number e old files → All (IsSoundIn old) (map content_of se.placed) → kept_by new ≡ applied no_files (kept_by s) e → new.lot ≡ s.lot → new.events.line ≡ s.events.line → HasEvents new.events old → FilesHold new files
+holds_added s new number e se old files has holds numbered act alone fit added placed kept lot line events =
     let k = kept_by s in
     let log = has.ready.log in
     let both : Some number ≡ Some log.number = sym numbered ∙ has.ready.number in
@@ -332,6 +332,7 @@ holds_added s new number e se old files has holds numbered act alone fit added p
           (λ i d lt. same_sound number e old files (get_or (live_contents (session_applied k se)) i d) added
           (all_applied (IsSoundIn old) k se (each_sound old (live_in s) holds.contents) placed i d lt));
       events = has_same new.events old files (events_beside_log number e old files added) events;
+      line = line ∙ holds.line;
     }
 
 -- ---- the entry of a prepared change, once its contents are placed

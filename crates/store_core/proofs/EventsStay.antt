@@ -12,19 +12,19 @@ use Rattle.prov_store.proofs.InFiles.{events_stay}
 use Rattle.prov_store.proofs.Keeping.{still_has, cuts_keep}
 use Rattle.store_core.specs.Agreement.{SameEventFiles}
 
-pub events_in_turn : (last : ℕ) (a b c : Files) → SameEvents last a b → SameEvents last b c → SameEvents last a c
-events_in_turn last a b c first second k = second k ∙ first k
+pub events_in_turn : (line last : ℕ) (a b c : Files) → SameEvents line last a b → SameEvents line last b c → SameEvents line last a c
+events_in_turn line last a b c first second k = second k ∙ first k
 
 -- ---- the same files of events
 
-pub same_size : (last k : ℕ) (old new : Files) → new (events_file k) ≡ old (events_file k) → covered_size last k new ≡ covered_size last k old
+pub same_size : (line last k : ℕ) (old new : Files) → new (events_file k) ≡ old (events_file k) → covered_size line last k new ≡ covered_size line last k old
 unfolding covered_size
-same_size last k old new same = ap (blocks_size (count_in last k)) same
+same_size line last k old new same = ap (blocks_size (count_in line last k)) same
 
-pub same_covered : (last : ℕ) (old new : Files) → SameEventFiles old new → SameEvents last old new
-same_covered last old new same k =
-    ap (λ (n : ℕ). take n (new (events_file k))) (same_size last k old new (same k))
-    ∙ ap (take (covered_size last k old)) (same k)
+pub same_covered : (line last : ℕ) (old new : Files) → SameEventFiles old new → SameEvents line last old new
+same_covered line last old new same k =
+    ap (λ (n : ℕ). take n (new (events_file k))) (same_size line last k old new (same k))
+    ∙ ap (take (covered_size line last k old)) (same k)
 
 abbrev both : Result (List Event) Damage → Result (List Event) Damage → Result (List Event) Damage
 both one other = do
@@ -32,21 +32,21 @@ both one other = do
   later ← other
   Ok (events ++ later)
 
-of_files : (count last k : ℕ) (old new : Files) → SameEventFiles old new → events_of_files count last k new ≡ events_of_files count last k old
-of_files zero last k old new same = refl
-of_files (suc count) last k old new same =
-    ap (λ (bytes : List ℕ). both (events_from (count_in last k) (events_file k) 0 (first_event k) bytes) (events_of_files count last (k + 1) new)) (same k)
-    ∙ ap (both (events_of_file last k old)) (of_files count last (k + 1) old new same)
+of_files : (count line last k : ℕ) (old new : Files) → SameEventFiles old new → events_of_files count line last k new ≡ events_of_files count line last k old
+of_files zero line last k old new same = refl
+of_files (suc count) line last k old new same =
+    ap (λ (bytes : List ℕ). both (events_from (count_in line last k) (events_file k) 0 (first_event k) bytes) (events_of_files count line last (k + 1) new)) (same k)
+    ∙ ap (both (events_of_file line last k old)) (of_files count line last (k + 1) old new same)
 
-pub same_events : (last : ℕ) (old new : Files) → SameEventFiles old new → events_in new last ≡ events_in old last
+pub same_events : (line last : ℕ) (old new : Files) → SameEventFiles old new → events_in new line last ≡ events_in old line last
 unfolding events_in
-same_events last old new same = of_files (suc (last / EVENTS_PER_FILE)) last 0 old new same
+same_events line last old new same = of_files (suc (last / EVENTS_PER_FILE)) line last 0 old new same
 
 pub has_same : (state : EventsState) (old new : Files) → SameEventFiles old new → HasEvents state old → HasEvents state new
 has_same state old new same has = record {
   events = has.events;
-  says = same_events state.end old new same ∙ has.says;
-  offset = has.offset ∙ sym (same_size state.end (state.end / EVENTS_PER_FILE) old new (same (state.end / EVENTS_PER_FILE)));
+  says = same_events state.line state.end old new same ∙ has.says;
+  offset = has.offset ∙ sym (same_size state.line state.end (state.end / EVENTS_PER_FILE) old new (same (state.end / EVENTS_PER_FILE)));
   counts = has.counts;
 }
 
@@ -54,12 +54,12 @@ pub stale_same : (state : EventsState) (old new : Files) → SameEventFiles old 
 stale_same state old new same has = record {
   sizes = λ i d lt.
       let s = get_or state.stale i d in
-      has.sizes i d lt ∙ sym (same_size state.end s.file old new (same s.file));
-  others = λ k known. same k ∙ has.others k known ∙ sym (same_covered state.end old new same k);
+      has.sizes i d lt ∙ sym (same_size state.line state.end s.file old new (same s.file));
+  others = λ k known. same k ∙ has.others k known ∙ sym (same_covered state.line state.end old new same k);
 }
 
-pub trimmed_same : (last : ℕ) (old new : Files) → SameEventFiles old new → IsTrimmed last old → IsTrimmed last new
-trimmed_same last old new same trimmed k = same k ∙ trimmed k ∙ sym (same_covered last old new same k)
+pub trimmed_same : (line last : ℕ) (old new : Files) → SameEventFiles old new → IsTrimmed line last old → IsTrimmed line last new
+trimmed_same line last old new same trimmed k = same k ∙ trimmed k ∙ sym (same_covered line last old new same k)
 
 -- what is known of files to be cut is no part of the events
 pub has_trimmed : (state : EventsState) (stale : List Stale) (files : Files) → HasEvents state files → HasEvents (record state { stale = stale }) files
@@ -67,30 +67,32 @@ has_trimmed state stale files has = record { events = has.events; says = has.say
 
 -- ---- no event
 
-none_in : (last k : ℕ) → last ≡ 0 → count_in last k ≡ 0
-none_in last k none = omega (arith, none)
-
-pub none_covered : (k : ℕ) (files : Files) → covered_bytes 0 k files ≡ []
+pub none_covered : (k : ℕ) (files : Files) → covered_bytes 0 0 k files ≡ []
 unfolding covered_size
 none_covered k files =
-    ap (λ (n : ℕ). take (blocks_size n (files (events_file k))) (files (events_file k))) (none_in 0 k refl)
+    let none : count_in 0 0 k ≡ 0 = omega arith in
+    ap (λ (n : ℕ). take (blocks_size n (files (events_file k))) (files (events_file k))) none
 
 abbrev of_none : Result (List Event) Damage
 of_none = Ok []
 
-pub no_event : (files : Files) → events_in files 0 ≡ of_none
+pub no_event : (files : Files) → events_in files 0 0 ≡ of_none
 unfolding events_in
 no_event files = refl
 
+-- those of a state in which none is forgotten
+pub since_none : (files : Files) (state : EventsState) (last : ℕ) → state.line ≡ 0 → last ≡ state.end → events_in files 0 last ≡ events_in files state.line state.end
+since_none files state last line end = ap (events_in files 0) end ∙ ap (λ (n : ℕ). events_in files n state.end) (sym line)
+
 -- ---- the same bytes up to the last event
 
-pub says_still : (last : ℕ) (old new : Files) (events : List Event) → SameEvents last old new → events_in old last ≡ Ok events → events_in new last ≡ Ok events
-says_still last old new events same says = events_stay last old new events same says
+pub says_still : (line last : ℕ) (old new : Files) (events : List Event) → SameEvents line last old new → events_in old line last ≡ Ok events → events_in new line last ≡ Ok events
+says_still line last old new events same says = events_stay line last old new events same says
 
-pub has_still : (state : EventsState) (old new : Files) → SameEvents state.end old new → HasEvents state old → HasEvents state new
+pub has_still : (state : EventsState) (old new : Files) → SameEvents state.line state.end old new → HasEvents state old → HasEvents state new
 has_still state old new same has = still_has state old new same has
 
 -- ---- cut behind the last event
 
-pub cut_covers : (state : EventsState) (old new : Files) → HasEvents state old → HasStale state old → CutsStale state.stale old new → SameEvents state.end old new
+pub cut_covers : (state : EventsState) (old new : Files) → HasEvents state old → HasStale state old → CutsStale state.stale old new → SameEvents state.line state.end old new
 cut_covers state old new has stale cuts = (cuts_keep state old new has stale.sizes cuts).events

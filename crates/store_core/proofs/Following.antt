@@ -19,7 +19,7 @@ use Rattle.store_core.specs.State.{stands_for}
 use Rattle.store_core.specs.Store.{StoreState, IsWorking, kept_by, live_in, FilesHold, HasLog}
 use Rattle.store_core.proofs.Agreeing.{kept_alike, contents_sound, sound_of, state_of_sound, stands_by_kept, same_state, of_state}
 use Rattle.store_core.proofs.ClaimsAlone.{SameLogs, current_same, current_stays, log_stays, snapshot_stays, events_stay as events_beside}
-use Rattle.store_core.proofs.EventsStay.{same_covered, says_still, has_same, has_still}
+use Rattle.store_core.proofs.EventsStay.{same_covered, says_still, has_same, has_still, since_none}
 use Rattle.store_core.proofs.Growing.{same_grown, covered_grown}
 use Rattle.store_core.proofs.Reclaiming.{same_claim}
 
@@ -28,7 +28,7 @@ pub record Follows (s : StoreState) (old new : Files) : Type 0 where
   pub current : current_log new ≡ current_log old
   pub snapshot : (n : ℕ) → new (snapshot_file n) ≡ old (snapshot_file n)
   pub contents : All (SameContent old new) (live_in s)
-  pub events : (k : ℕ) → covered_bytes s.events.end k new ≡ covered_bytes s.events.end k old
+  pub events : (k : ℕ) → covered_bytes s.events.line s.events.end k new ≡ covered_bytes s.events.line s.events.end k old
 
 pub follows_itself : (s : StoreState) (files : Files) → Follows s files files
 follows_itself s files = record { current = refl; snapshot = λ n. refl; contents = λ k d lt. record { bytes = refl; covered = λ h. h }; events = λ k. refl }
@@ -49,7 +49,7 @@ follows_grown s old new works grows = record {
   current = current_stays old new grows.others;
   snapshot = snapshot_stays old new grows.others;
   contents = λ k d lt. same_grown s.slots old new (get_or (live_in s) k d) (works.within k d lt) grows;
-  events = same_covered s.events.end old new (events_beside old new grows.others);
+  events = same_covered s.events.line s.events.end old new (events_beside old new grows.others);
 }
 
 pub log_grown : (s : StoreState) (old new : Files) → EventsGrow s.events old new → SameLogs old new
@@ -81,7 +81,7 @@ follows_kept_log s number old new keeps = record {
   contents = λ k d lt.
       let at = get_or (live_in s) k d in
       same_claim old new at (keeps.others (claim at.slot) (λ (e : claim at.slot ≡ named Log number). let kinds : Claim ≡ Log = ap (λ (f : FileName). f.kind) e in absurd cc));
-  events = same_covered s.events.end old new (λ k. keeps.others (events_file k) (λ (e : events_file k ≡ named Log number). let kinds : Events ≡ Log = ap (λ (f : FileName). f.kind) e in absurd cc));
+  events = same_covered s.events.line s.events.end old new (λ k. keeps.others (events_file k) (λ (e : events_file k ≡ named Log number). let kinds : Events ≡ Log = ap (λ (f : FileName). f.kind) e in absurd cc));
 }
 
 pub holds_following : (s : StoreState) (old new : Files) → HasLog s old → Follows s old new → FilesHold s old → FilesHold s new
@@ -92,6 +92,7 @@ holds_following s old new has follows was =
       kept = kept_alike (flow_in (kept_by s)) s.lot old new log current (follows.current ∙ current) (follows.snapshot log.number) ∙ was.kept;
       contents = contents_sound old new (live_in s) follows.contents was.contents;
       events = has_still s.events old new follows.events was.events;
+      line = was.line;
     }
 
 -- the state that they stand for is the same
@@ -102,8 +103,9 @@ state_following s state old new works has follows was stands =
     let k = kept_by s in
     let now = holds_following s old new has follows was in
     let sound_old = sound_of old k state (sym (stands_by_kept flow s.lot old k was.kept) ∙ stands) in
-    let events : events_in new k.last_event ≡ Ok sound_old.events =
-    ap (events_in new) works.last_event ∙ says_still s.events.end old new sound_old.events follows.events (ap (events_in old) (sym works.last_event) ∙ sound_old.events_are) in
+    let events : events_in new 0 k.last_event ≡ Ok sound_old.events =
+    since_none new s.events k.last_event was.line works.last_event
+    ∙ says_still s.events.line s.events.end old new sound_old.events follows.events (sym (since_none old s.events k.last_event was.line works.last_event) ∙ sound_old.events_are) in
     stands_by_kept flow s.lot new k now.kept
     ∙ state_of_sound new k sound_old.events now.contents events
     ∙ ap of_state (same_state (content_in new) (content_in old) sound_old.events k (λ i d lt. (follows.contents i d lt).bytes) ∙ sym sound_old.is)

@@ -53,7 +53,7 @@ same_grown slots old new at within grows = record {
 }
 
 -- files of events that only grow have the same bytes up to the last event
-pub covered_grown : (state : EventsState) (old new : Files) → HasEvents state old → EventsGrow state old new → (k : ℕ) → covered_bytes state.end k new ≡ covered_bytes state.end k old
+pub covered_grown : (state : EventsState) (old new : Files) → HasEvents state old → EventsGrow state old new → (k : ℕ) → covered_bytes state.line state.end k new ≡ covered_bytes state.line state.end k old
 covered_grown state old new has grows = (grows_keep state old new has grows).events
 
 pub no_events_grow : (events : EventsState) (files : Files) → EventsGrow events files files

@@ -45,18 +45,18 @@ pub contents_damaged : (flow : Flow) (lot : ℕ) (files : Files) (k : Kept) (dam
     → contents_damage files (live_contents k) ≡ Some damage → stands_for flow lot files ≡ of_damage damage
 unfolding state_of
 contents_damaged flow lot files k damage is found =
-    stands_by_kept flow lot files k is ∙ ap (λ (d : Option Damage). state_by files k d (events_in files k.last_event)) found
+    stands_by_kept flow lot files k is ∙ ap (λ (d : Option Damage). state_by files k d (events_in files 0 k.last_event)) found
 
 pub events_damaged : (flow : Flow) (lot : ℕ) (files : Files) (k : Kept) (damage : Damage) → kept_in flow lot files ≡ Ok k
-    → contents_damage files (live_contents k) ≡ None → events_in files k.last_event ≡ Err damage → stands_for flow lot files ≡ of_damage damage
+    → contents_damage files (live_contents k) ≡ None → events_in files 0 k.last_event ≡ Err damage → stands_for flow lot files ≡ of_damage damage
 unfolding state_of
 events_damaged flow lot files k damage is contents events =
     stands_by_kept flow lot files k is
-    ∙ ap (λ (d : Option Damage). state_by files k d (events_in files k.last_event)) contents
+    ∙ ap (λ (d : Option Damage). state_by files k d (events_in files 0 k.last_event)) contents
     ∙ ap (state_by files k None) events
 
 pub stands_whole : (flow : Flow) (lot : ℕ) (files : Files) (k : Kept) (events : List Event) → kept_in flow lot files ≡ Ok k
-    → contents_damage files (live_contents k) ≡ None → events_in files k.last_event ≡ Ok events → stands_for flow lot files ≡ Ok (state_with (content_in files) events k)
+    → contents_damage files (live_contents k) ≡ None → events_in files 0 k.last_event ≡ Ok events → stands_for flow lot files ≡ Ok (state_with (content_in files) events k)
 stands_whole flow lot files k events is contents says = stands_by_kept flow lot files k is ∙ state_of_sound files k events contents says
 
 same_bytes : (xs ys : List ℕ) → bytes_eq xs ys ≡ true → xs ≡ ys

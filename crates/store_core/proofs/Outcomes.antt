@@ -36,7 +36,7 @@ use Rattle.store_core.specs.Store.{StoreState, IsWorking, IsKeptOn, EachStandsFo
 use Rattle.store_core.proofs.Agreeing.{of_state}
 use Rattle.store_core.proofs.Appending.{GrowingClaims, claims_ahead, claims_logged, claims_acknowledged}
 use Rattle.store_core.proofs.Commits.{entry_acts, referred_gone, events_beside_log, working_after}
-use Rattle.store_core.proofs.EventsStay.{same_events}
+use Rattle.store_core.proofs.EventsStay.{same_events, since_none}
 use Rattle.store_core.proofs.Following.{Follows, follows_ahead, logs_ahead, state_following}
 use Rattle.store_core.proofs.Parts.{digests_stay}
 use Rattle.store_core.proofs.Referring.{bytes_same}
@@ -196,7 +196,7 @@ module _ {D : Type 0} (tells : Bool) (held : D → Files) (moment : D → ℕ) (
   added_entry told =
       let follows = follows_ahead s (held old) (held mid) has.works (has.kept.holds has.unfailed (held old) (logged.left old told)).events (has.held_grows told) in
       is_added moment images held s new p e old mid slots has.works (has.kept.log has.unfailed) (has.kept.holds has.unfailed) has.grows has.consistent has.prepared has.same has.live
-      (digests_stay s (held old) (held mid) p.settled.placed has.live follows (has.digests told)) (logged.left mid told) (logged.sizes told) logged.placed.shared (really_placed told) logged.kept logged.lot (logged.events.ready told).has
+      (digests_stay s (held old) (held mid) p.settled.placed has.live follows (has.digests told)) (logged.left mid told) (logged.sizes told) logged.placed.shared (really_placed told) logged.kept logged.lot logged.events.appended.line (logged.events.ready told).has
 
   added_holds : (c : Files) → IsTrue tells → AddsEntry number e (held mid) c → FilesHold new c
   added_holds c told added =
@@ -219,12 +219,13 @@ module _ {D : Type 0} (tells : Bool) (held : D → Files) (moment : D → ℕ) (
   abbrev behind : State → State
   behind state = state_after (content_in (held old)) state p.settled
 
-  events_behind : (c : Files) → IsTrue tells → AddsEntry number e (held mid) c → (events : List Event) → events_in (held old) (kept_by s).last_event ≡ Ok events
-      → events_in c (entry_acts s p e has.consistent has.prepared has.same).session.last_event ≡ Ok (events ++ p.settled.events)
+  events_behind : (c : Files) → IsTrue tells → AddsEntry number e (held mid) c → (events : List Event) → events_in (held old) 0 (kept_by s).last_event ≡ Ok events
+      → events_in c 0 (entry_acts s p e has.consistent has.prepared has.same).session.last_event ≡ Ok (events ++ p.settled.events)
   events_behind c told added events are =
-      ap (events_in c) last_known
-      ∙ same_events new.events.end (held mid) c (events_beside_log number e (held mid) c added)
-      ∙ logged.events.added told events (ap (events_in (held old)) (sym has.works.last_event) ∙ are)
+      let line = (has.kept.holds has.unfailed (held old) (logged.left old told)).line in
+      since_none c new.events (entry_acts s p e has.consistent has.prepared has.same).session.last_event (logged.events.appended.line ∙ line) last_known
+      ∙ same_events new.events.line new.events.end (held mid) c (events_beside_log number e (held mid) c added)
+      ∙ logged.events.added told events (sym (since_none (held old) s.events (kept_by s).last_event line has.works.last_event) ∙ are)
       ∙ ap (λ (l : List Event). events_are (events ++ l)) has.prepared.events
 
   pub state_logged : (state : State) (c : Files) → EachStandsFor (flow_in (kept_by s)) s.lot state (images old (moment old)) → IsTrue tells → AddsEntry number e (held mid) c

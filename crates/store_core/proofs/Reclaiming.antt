@@ -135,10 +135,10 @@ module _ {D : Type 0} (moment : D → ℕ) (images : D → ℕ → Files → Typ
       → Since moment images old new (After (IdleShortened s.slots) (images old (moment old)))
       → (IsTrue tells → IdleShortened s.slots (held old) (held new)) → (IsTrue tells → HasSizes slots (held new)) → IsKeptOn tells held moment images (record s { slots = slots }) new
   kept_reclaimed tells held slots works works_on kept since shortened sizes = record {
-    holds = λ f c left. let h = at_the_end moment images old new (FilesHold s) (since_reclaimed works (kept.holds works_on) (kept.log works_on) since) c left in record { kept = h.kept; contents = h.contents; events = h.events };
+    holds = λ f c left. let h = at_the_end moment images old new (FilesHold s) (since_reclaimed works (kept.holds works_on) (kept.log works_on) since) c left in record { kept = h.kept; contents = h.contents; events = h.events; line = h.line };
     log = λ f c left. let h = log_reclaimed (kept.log works_on) since c left in record { ready = h.ready; entries = h.entries };
     sizes = λ f told. sizes told;
-    trimmed = λ f told. trimmed_same s.events.end (held old) (held new) (events_stay (held old) (held new) (shortened told).others) (kept.trimmed works_on told);
+    trimmed = λ f told. trimmed_same s.events.line s.events.end (held old) (held new) (events_stay (held old) (held new) (shortened told).others) (kept.trimmed works_on told);
   }
 
 pub sound_reclaimed : (s : StoreState) (slots : List Slot) (answer : Reclaimed) → IsSoundStore s → s.failed ≡ false → IsReclaimed s.slots slots answer → IsSoundStore (record s { slots = slots })

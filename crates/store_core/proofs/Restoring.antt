@@ -20,6 +20,7 @@ use Rattle.store_core.specs.State.{stands_for, contents_damage, live_contents}
 use Rattle.store_core.specs.Store.{StoreState, IsKeptOn, kept_by}
 use Rattle.store_core.specs.Touched.{log_opened}
 use Rattle.flowfile_record.specs.declared.event.Event.{Event}
+use Rattle.store_core.proofs.EventsStay.{since_none}
 use Rattle.store_core.proofs.Opening.{stands_whole, events_damaged}
 
 abbrev of_state : State → Result State Damage
@@ -36,7 +37,7 @@ one_kept flow lot files k other is also = let both : of_kept other ≡ of_kept k
 
 -- files that keep something of this flow, all sound, may be opened
 pub not_shut : (flow : Flow) (lot : ℕ) (files : Files) (k : Kept) (events : List Event) → kept_in flow lot files ≡ Ok k → contents_damage files (live_contents k) ≡ None
-    → events_in files k.last_event ≡ Ok events → flow_in k ≡ flow → IsShut flow lot files → ⊥
+    → events_in files 0 k.last_event ≡ Ok events → flow_in k ≡ flow → IsShut flow lot files → ⊥
 not_shut flow lot files k events is contents says same (inl damaged) =
     let both : of_state _ ≡ Err damaged.0 = sym (stands_whole flow lot files k events is contents says) ∙ damaged.1 in absurd cc
 not_shut flow lot files k events is contents says same (inr other) =
@@ -45,7 +46,7 @@ not_shut flow lot files k events is contents says same (inr other) =
     o.other (sym o.is ∙ ap (λ (x : Kept). x.flow) kept ∙ ap (λ (f : Flow). f.digest) same)
 
 pub is_other : (flow : Flow) (lot : ℕ) (files : Files) (k : Kept) (events : List Event) (digest : List ℕ) → kept_in flow lot files ≡ Ok k → contents_damage files (live_contents k) ≡ None
-    → events_in files k.last_event ≡ Ok events → k.flow ≡ digest → (k.flow ≡ flow.digest → ⊥) → IsOfOther flow lot digest files
+    → events_in files 0 k.last_event ≡ Ok events → k.flow ≡ digest → (k.flow ≡ flow.digest → ⊥) → IsOfOther flow lot digest files
 is_other flow lot files k events digest is contents says same other = record {
   state = _;
   stands = stands_whole flow lot files k events is contents says;
@@ -62,15 +63,15 @@ moved a b k other told files kept is =
     ap (λ (f : Files). contents_damage f (live_contents k)) (sym files) ∙ ap (λ (x : Kept). contents_damage b (live_contents x)) (sym kept) ∙ is
 
 -- the events that were read are those up to the last one of what is kept
-pub events_told : (a b : Files) (k : Kept) (e : EventsState) (last : ℕ) → b ≡ a → e.end ≡ last → last ≡ k.last_event → (has : HasEvents e b) → events_in a k.last_event ≡ Ok has.events
-events_told a b k e last files end is has =
-    ap (λ (f : Files). events_in f k.last_event) (sym files) ∙ ap (events_in b) (sym (end ∙ is)) ∙ has.says
+pub events_told : (a b : Files) (k : Kept) (e : EventsState) (last : ℕ) → b ≡ a → e.line ≡ 0 → e.end ≡ last → last ≡ k.last_event → (has : HasEvents e b) → events_in a 0 k.last_event ≡ Ok has.events
+events_told a b k e last files line end is has =
+    ap (λ (f : Files). events_in f 0 k.last_event) (sym files) ∙ since_none b e k.last_event line (sym (end ∙ is)) ∙ has.says
 
 pub events_torn : (flow : Flow) (lot : ℕ) (a b : Files) (k : Kept) (last : ℕ) (damage : Damage) → kept_in flow lot a ≡ Ok k → contents_damage a (live_contents k) ≡ None
-    → b ≡ a → last ≡ k.last_event → events_in b last ≡ Err damage → stands_for flow lot a ≡ of_damage damage
+    → b ≡ a → last ≡ k.last_event → events_in b 0 last ≡ Err damage → stands_for flow lot a ≡ of_damage damage
 events_torn flow lot a b k last damage is contents files same torn =
     events_damaged flow lot a k damage is contents
-    (ap (λ (f : Files). events_in f k.last_event) (sym files) ∙ ap (events_in b) (sym same) ∙ torn)
+    (ap (λ (f : Files). events_in f 0 k.last_event) (sym files) ∙ ap (events_in b 0) (sym same) ∙ torn)
 
 pub of_events_damaged : (error : EventsError) (damage : Damage) → of_events error ≡ StoreError.Damaged damage → error ≡ EventsError.Damaged damage
 of_events_damaged EventsError.Disk damage is = absurd cc
@@ -78,7 +79,7 @@ of_events_damaged EventsError.Memory damage is = absurd cc
 of_events_damaged (EventsError.Damaged other) damage is = let same : other ≡ damage = cc in ap (λ (d : Damage). EventsError.Damaged d) same
 
 pub is_found : (flow : Flow) (lot : ℕ) (files : Files) (k : Kept) (events : List Event) (s : StoreState) → kept_in flow lot files ≡ Ok k → contents_damage files (live_contents k) ≡ None
-    → events_in files k.last_event ≡ Ok events → kept_by s ≡ k
+    → events_in files 0 k.last_event ≡ Ok events → kept_by s ≡ k
     → s.log.number ≡ Some (log_opened (current_number files)) → IsFound flow lot s files
 is_found flow lot files k events s is contents says same log = record { log = log; kept = is ∙ ap of_kept (sym same); state = _; stood = stands_whole flow lot files k events is contents says }
 

@@ -41,7 +41,7 @@ use Rattle.store_core.specs.declared.reading.Found.{Found}
 use Rattle.store_core.proofs.Agreeing.{kept_alike, contents_sound, same_state, agreeing_kept}
 use Rattle.store_core.proofs.ClaimsAlone.{current_stays, snapshot_stays, has_log_still}
 use Rattle.store_core.proofs.EventsAlone.{contents_stay, claim_stays, current_stays as current_beside, snapshot_stays as snapshot_beside, has_log_still as log_beside}
-use Rattle.store_core.proofs.EventsStay.{events_in_turn, same_covered, has_same, stale_same, has_trimmed, none_covered, says_still, has_still, cut_covers}
+use Rattle.store_core.proofs.EventsStay.{events_in_turn, same_covered, has_same, stale_same, has_trimmed, none_covered, says_still, has_still, cut_covers, since_none}
 use Rattle.store_core.proofs.KeptRead.{kept_by_no_log, own_flow}
 use Rattle.store_core.proofs.Made.{first_log, made_current, made_kept}
 use Rattle.store_core.proofs.Making.{kept_unmade}
@@ -141,14 +141,14 @@ unmade_found lot files found none is =
 pub record StillKeep (flow : Flow) (lot : ℕ) (k : Kept) (held c : Files) : Type 0 where
   pub kept : kept_in flow lot c ≡ Ok k
   pub same : All (SameContent held c) (live_contents k)
-  pub events : SameEvents k.last_event held c
+  pub events : SameEvents 0 k.last_event held c
 
 pub still_means : (flow : Flow) (lot : ℕ) (k : Kept) (events : List Event) (held c : Files) → kept_in flow lot held ≡ Ok k → contents_damage held (live_contents k) ≡ None
-    → events_in held k.last_event ≡ Ok events → StillKeep flow lot k held c → SameMeaning flow lot held c
+    → events_in held 0 k.last_event ≡ Ok events → StillKeep flow lot k held c → SameMeaning flow lot held c
 still_means flow lot k events held c is sound says still = record {
   kept = still.kept ∙ sym is;
   state =
-      stands_whole flow lot c k events still.kept (contents_sound held c (live_contents k) still.same sound) (says_still k.last_event held c events still.events says)
+      stands_whole flow lot c k events still.kept (contents_sound held c (live_contents k) still.same sound) (says_still 0 k.last_event held c events still.events says)
       ∙ ap of_state (same_state (content_in c) (content_in held) events k (λ i d lt. (still.same i d lt).bytes))
       ∙ sym (stands_whole flow lot held k events is sound says);
 }
@@ -164,9 +164,9 @@ agreeing_keeps flow lot k held c log current is agrees = record {
 none_live : (flow : Flow) (lot : ℕ) (k : Kept) (held c : Files) → k ≡ kept_anew flow lot → All (SameContent held c) (live_contents k)
 none_live flow lot k held c anew = subst (λ (x : Kept). All (SameContent held c) (live_contents x)) (sym anew) (All-nil (SameContent held c))
 
-none_covers : (flow : Flow) (lot : ℕ) (k : Kept) (held c : Files) → k ≡ kept_anew flow lot → SameEvents k.last_event held c
+none_covers : (flow : Flow) (lot : ℕ) (k : Kept) (held c : Files) → k ≡ kept_anew flow lot → SameEvents 0 k.last_event held c
 none_covers flow lot k held c anew =
-    subst (λ (x : Kept). SameEvents x.last_event held c) (sym anew) (λ n. none_covered n c ∙ sym (none_covered n held))
+    subst (λ (x : Kept). SameEvents 0 x.last_event held c) (sym anew) (λ n. none_covered n c ∙ sym (none_covered n held))
 
 made_or_not_keeps : (flow : Flow) (lot : ℕ) (k : Kept) (held c : Files) → k ≡ kept_anew flow lot → IsConsistent k → IsUnmade c ⊎ IsNewStore k c → StillKeep flow lot k held c
 made_or_not_keeps flow lot k held c anew consistent (inl unmade) = record {
@@ -194,12 +194,12 @@ cut_keeps s flow lot k held d c refs live has still step =
         bytes = (same i e lt).bytes ∙ (still.same i e lt).bytes;
         covered = λ h. (same i e lt).covered ((still.same i e lt).covered h);
       };
-      events = events_in_turn k.last_event held d c still.events (same_covered k.last_event d c (same_events_cut (λ n. Shortened (covered n refs)) d c step));
+      events = events_in_turn 0 k.last_event held d c still.events (same_covered 0 k.last_event d c (same_events_cut (λ n. Shortened (covered n refs)) d c step));
     }
 
-trim_keeps : (s : StoreState) (flow : Flow) (lot : ℕ) (k : Kept) (events : EventsState) (held d c : Files) → events.end ≡ k.last_event → HasLog s d → HasEvents events d → HasStale events d
+trim_keeps : (s : StoreState) (flow : Flow) (lot : ℕ) (k : Kept) (events : EventsState) (held d c : Files) → events.line ≡ 0 → events.end ≡ k.last_event → HasLog s d → HasEvents events d → HasStale events d
     → StillKeep flow lot k held d → CutsStale events.stale d c → StillKeep flow lot k held c
-trim_keeps s flow lot k events held d c end has known stale still step =
+trim_keeps s flow lot k events held d c line end has known stale still step =
     let log = has.ready.log in
     let current = has.ready.ready.current in
     let same : All (SameContent d c) (live_contents k) = contents_stay d c (live_contents k) step.others in
@@ -211,7 +211,7 @@ trim_keeps s flow lot k events held d c end has known stale still step =
         bytes = (same i e lt).bytes ∙ (still.same i e lt).bytes;
         covered = λ h. (same i e lt).covered ((still.same i e lt).covered h);
       };
-      events = events_in_turn k.last_event held d c still.events (subst (λ (last : ℕ). SameEvents last d c) end (cut_covers events d c known stale step));
+      events = events_in_turn 0 k.last_event held d c still.events (subst (λ (last : ℕ). SameEvents 0 last d c) end (subst (λ (n : ℕ). SameEvents n events.end d c) line (cut_covers events d c known stale step)));
     }
 
 -- the contents that are kept are covered
@@ -271,8 +271,8 @@ module _ {D : Type 0} (tells : Bool) (holds : D → Files) (moment : D → ℕ) 
       (λ k c left either. made_or_not_keeps flow lot keep held c (whole.anew none) whole.consistent either))
       (some_or_none found.log.number)
 
-  says_held : (t : IsTrue tells) → events_in held keep.last_event ≡ Ok (whole.events t).events
-  says_held t = ap (events_in held) (sym whole.last_event) ∙ (whole.events t).says
+  says_held : (t : IsTrue tells) → events_in held 0 keep.last_event ≡ Ok (whole.events t).events
+  says_held t = since_none held events keep.last_event whole.line (sym whole.last_event) ∙ (whole.events t).says
 
   since_means : (new : D) → Since moment images start new Still → Since moment images start new (SameMeaning flow lot held)
   since_means new since = wider_where_left moment images start new Still (SameMeaning flow lot held) since
@@ -329,7 +329,7 @@ module _ {D : Type 0} (tells : Bool) (holds : D → Files) (moment : D → ℕ) 
         still_trim c after =
             let t = told new (moment new) after.0 after.1 in
             let known = events_known after.0 after.1 t in
-            trim_keeps s flow lot keep events held after.0 c whole.last_event (new_log after.0 after.1) known.0 known.1 (at_the_end moment images start new Still since_cut after.0 after.1) after.2
+            trim_keeps s flow lot keep events held after.0 c whole.line whole.last_event (new_log after.0 after.1) known.0 known.1 (at_the_end moment images start new Still since_cut after.0 after.1) after.2
 
         since_trim : Since moment images start end Still
         since_trim = one_after_another moment images start new end Still (After (CutsStale events.stale) (images new (moment new))) Still since_cut trim (λ c still. still) still_trim
@@ -342,12 +342,14 @@ module _ {D : Type 0} (tells : Bool) (holds : D → Files) (moment : D → ℕ) 
         end_holds rest events_are kept lot_is c left =
             let t = told end (moment end) c left in
             let still = at_the_end moment images start end Still since_trim c left in
-            let known = has_still events held c (subst (λ (last : ℕ). SameEvents last held c) (sym whole.last_event) still.events) (whole.events t) in
+            let known = has_still events held c
+            (subst (λ (n : ℕ). SameEvents n events.end held c) (sym whole.line) (subst (λ (last : ℕ). SameEvents 0 last held c) (sym whole.last_event) still.events)) (whole.events t) in
             record {
               kept =
                   ap (λ (k : Kept). kept_in (flow_in k) s.lot c) kept ∙ ap (λ (l : ℕ). kept_in flow l c) lot_is ∙ still.kept ∙ ap of_kept (sym kept);
               contents = ap (λ (k : Kept). contents_damage c (live_contents k)) kept ∙ contents_sound held c (live_contents keep) still.same (whole.contents t);
               events = subst (λ (e : EventsState). HasEvents e c) (sym events_are) (has_trimmed events rest c known);
+              line = ap (λ (e : EventsState). e.line) events_are ∙ whole.line;
             }
 
         pub end_log : InEach (images end (moment end)) (HasLog s)

@@ -47,7 +47,7 @@ plain_agrees needs number old new plain log snapshot contents events = record {
   snapshot = subst (λ (n : ℕ). new (snapshot_file n) ≡ old (snapshot_file n)) (sym plain.log) snapshot;
   batches = subst (λ (bs : List ℕ). All (λ b. new (named Swap b) ≡ old (named Swap b)) bs) (sym plain.batches) (All-nil (λ b. new (named Swap b) ≡ old (named Swap b)));
   contents = contents;
-  events = same_covered needs.last_event old new events;
+  events = same_covered 0 needs.last_event old new events;
 }
 
 -- a step on a file of another kind

@@ -28,6 +28,7 @@ use Rattle.store_core.specs.Seen.{no_flow, or_anew, SeenState, kept_seen, IsSeen
 use Rattle.store_core.specs.State.{contents_damage, live_contents, queued_active, state_by, state_of, state_with, stands_for}
 use Rattle.store_core.proofs.Agreeing.{sound_of, stands_by_kept}
 use Rattle.store_core.proofs.ContentsRead.{file_named}
+use Rattle.store_core.proofs.EventsStay.{since_none}
 use Rattle.store_core.proofs.Opening.{stands_whole}
 use Rattle.store_core.proofs.Sound.{one_sound, damage_not}
 use Rattle.store_core.proofs.Validity.{live_is_queued, queued_is_live}
@@ -54,24 +55,25 @@ agrees_with_no_flow k some = agrees_by k.flow _ some
 
 pub torn_content : (files : Files) (k : Kept) (damage : Damage) → contents_damage files (live_contents k) ≡ Some damage → state_of files k ≡ of_damage damage
 unfolding state_of
-torn_content files k damage is = ap (λ (d : Option Damage). state_by files k d (events_in files k.last_event)) is
+torn_content files k damage is = ap (λ (d : Option Damage). state_by files k d (events_in files 0 k.last_event)) is
 
-pub torn_event : (files : Files) (k : Kept) (damage : Damage) → contents_damage files (live_contents k) ≡ None → events_in files k.last_event ≡ Err damage → state_of files k ≡ of_damage damage
+pub torn_event : (files : Files) (k : Kept) (damage : Damage) → contents_damage files (live_contents k) ≡ None → events_in files 0 k.last_event ≡ Err damage → state_of files k ≡ of_damage damage
 unfolding state_of
 torn_event files k damage sound is =
-    ap (λ (d : Option Damage). state_by files k d (events_in files k.last_event)) sound ∙ ap (state_by files k None) is
+    ap (λ (d : Option Damage). state_by files k d (events_in files 0 k.last_event)) sound ∙ ap (state_by files k None) is
 
 -- what was seen, once all of it is read
 pub is_seen : (files mid : Files) (s : SeenState) → mid ≡ files → kept_in no_flow 0 files ≡ Ok (kept_seen s) → ((s.stored ≡ None) ↔ (current_number files ≡ None))
-    → contents_damage files (live_contents (kept_seen s)) ≡ None → HasEvents s.events mid → s.events.end ≡ (kept_seen s).last_event → IsSeenOn files s
-is_seen files mid s same kept made sound has end =
+    → contents_damage files (live_contents (kept_seen s)) ≡ None → HasEvents s.events mid → s.events.line ≡ 0 → s.events.end ≡ (kept_seen s).last_event → IsSeenOn files s
+is_seen files mid s same kept made sound has line end =
     let here : HasEvents s.events files = subst (λ (f : Files). HasEvents s.events f) same has in
     record {
       kept = kept;
       made = made;
       events = here;
       last_event = end;
-      stands = stands_whole no_flow 0 files (kept_seen s) here.events kept sound (ap (events_in files) (sym end) ∙ here.says);
+      line = line;
+      stands = stands_whole no_flow 0 files (kept_seen s) here.events kept sound (since_none files s.events (kept_seen s).last_event line (sym end) ∙ here.says);
     }
 
 pub last_seen : (tells : Bool) (files : Files) (stored : Option Kept) (s : SeenState) → IsReadOf tells files stored s → s.events.end ≡ (kept_seen s).last_event
@@ -84,7 +86,7 @@ seen_of tells files mid stored s told same kept made read =
     (λ none. made.0 (sym read.stored_is ∙ none), λ none. read.stored_is ∙ made.1 none)
     (ap (λ (f : Files). contents_damage f (live_contents (kept_seen s))) (sym same)
     ∙ ap (λ (o : Option Kept). contents_damage mid (live_contents (or_anew o))) read.stored_is ∙ read.sound told)
-    (read.events told) (last_seen tells mid stored s read)
+    (read.events told) read.line (last_seen tells mid stored s read)
 
 some_made : (memory : Option InMemory) (m : InMemory) (files : Files) → memory ≡ Some m → ((memory ≡ None) ↔ (current_number files ≡ None)) → ((Some m.kept ≡ None) ↔ (current_number files ≡ None))
 some_made memory m files is made = (λ (none : Some m.kept ≡ None). absurd cc, λ none. let both : Some m ≡ None = sym is ∙ made.1 none in absurd cc)
@@ -126,23 +128,23 @@ state_is files s state seen is = let both : of_state state ≡ of_state (state_w
 pub events_are : (files : Files) (s : SeenState) (state : State) (seen : IsSeenOn files s) → stands_for no_flow 0 files ≡ Ok state → seen.events.events ≡ state.events
 events_are files s state seen is = ap (λ (x : State). x.events) (sym (state_is files s state seen is))
 
-pub says_known : (files : Files) (s : SeenState) (known : EventsState) → known ≡ s.events → (seen : IsSeenOn files s) → events_in files known.end ≡ Ok seen.events.events
-says_known files s known is seen = ap (λ (e : EventsState). events_in files e.end) is ∙ seen.events.says
+pub says_known : (files : Files) (s : SeenState) (known : EventsState) → known ≡ s.events → (seen : IsSeenOn files s) → events_in files known.line known.end ≡ Ok seen.events.events
+says_known files s known is seen = ap (λ (e : EventsState). events_in files e.line e.end) is ∙ seen.events.says
 
 pub between_are : (files : Files) (s : SeenState) (state : State) (known : EventsState) (from to : ℕ) (found : List Event) → known ≡ s.events → IsSeenOn files s → stands_for no_flow 0 files ≡ Ok state
-    → ((events : List Event) → events_in files known.end ≡ Ok events → found ≡ filter (λ e. nat_le from e.number && nat_le e.number to) events)
+    → ((events : List Event) → events_in files known.line known.end ≡ Ok events → found ≡ filter (λ e. nat_le from e.number && nat_le e.number to) events)
     → found ≡ filter (λ e. nat_le from e.number && nat_le e.number to) state.events
 between_are files s state known from to found same seen is find =
     find seen.events.events (says_known files s known same seen)
     ∙ ap (filter (λ (e : Event). nat_le from e.number && nat_le e.number to)) (events_are files s state seen is)
 
-pub all_are : (files : Files) (s : SeenState) (state : State) (known : EventsState) (to : ℕ) (found : List Event) → known ≡ s.events → to ≡ known.end → IsSeenOn files s → stands_for no_flow 0 files ≡ Ok state
-    → ((events : List Event) → events_in files known.end ≡ Ok events → found ≡ filter (λ e. nat_le 1 e.number && nat_le e.number to) events)
+pub all_are : (files : Files) (s : SeenState) (state : State) (known : EventsState) (to : ℕ) (found : List Event) → known ≡ s.events → known.line ≡ 0 → to ≡ known.end → IsSeenOn files s → stands_for no_flow 0 files ≡ Ok state
+    → ((events : List Event) → events_in files known.line known.end ≡ Ok events → found ≡ filter (λ e. nat_le 1 e.number && nat_le e.number to) events)
     → found ≡ state.events
-all_are files s state known to found same end seen is find =
+all_are files s state known to found same none end seen is find =
     let all = seen.events.events in
     let says = says_known files s known same seen in
-    let row = last_numbered known.end files all says in
+    let row = last_numbered 0 known.end files all refl (ap (λ (n : ℕ). events_in files n known.end) (sym none) ∙ says) in
     find all says
     ∙ all_between 1 to 1 all row.0 (omega arith) (omega (arith, row.1, end))
     ∙ events_are files s state seen is

@@ -113,7 +113,7 @@ pub record IsSame (s : Settled) (se : SessionEntry) : Type 0 where
 
 pub state_added : (s new : StoreState) (settled : Settled) (se : SessionEntry) (number : ℕ) (e : LogEntry) (slots : List Slot) (old mid files : Files) (state : State)
     → (kept_by s).batches ≡ [] → session_suits no_files (kept_by s) se ≡ true → IsSame settled se
-    → ((events : List Event) → events_in old (kept_by s).last_event ≡ Ok events → events_in files se.last_event ≡ Ok (events ++ settled.events))
+    → ((events : List Event) → events_in old 0 (kept_by s).last_event ≡ Ok events → events_in files 0 se.last_event ≡ Ok (events ++ settled.events))
     → FilesHold s old → stands_for (flow_in (kept_by s)) s.lot old ≡ of_state state → Follows s old mid → AddsEntry number e mid files → AreShared settled.placed → ReferAlike settled.placed se.placed → ArePlaced true slots mid settled.placed se.placed → All (IsOldLive s) settled.placed
     → FilesHold new files → kept_by new ≡ session_applied (kept_by s) se → new.lot ≡ s.lot
     → stands_for (flow_in (kept_by s)) s.lot files ≡ of_state (state_after (content_in old) state settled)
@@ -126,7 +126,7 @@ state_added s new settled se number e slots old mid files state batches suits sa
     let keeps : kept_in flow s.lot files ≡ Ok k2 =
     ap (λ (f : Flow). kept_in f s.lot files) (sym flow_same) ∙ ap (λ (l : ℕ). kept_in (flow_in (kept_by new)) l files) (sym lot) ∙ now.kept ∙ ap (λ (l : Kept). Ok l) kept in
     let sound2 : contents_damage files (live_contents k2) ≡ None = ap (λ (l : Kept). contents_damage files (live_contents l)) (sym kept) ∙ now.contents in
-    let events2 : events_in files k2.last_event ≡ Ok (was.events ++ settled.events) = behind was.events was.events_are in
+    let events2 : events_in files 0 k2.last_event ≡ Ok (was.events ++ settled.events) = behind was.events was.events_are in
     let reads : (at : ContentRef) → content_in files at ≡ content_in mid at = λ at. added_content number e mid files at added in
     let stay : All (λ (at : ContentRef). content_in files at ≡ content_in old at) (live_in s) =
     λ i d lt. let at = get_or (live_in s) i d in reads at ∙ (follows.contents i d lt).bytes in
@@ -137,8 +137,8 @@ state_added s new settled se number e slots old mid files state batches suits sa
       arrival = same.arrival;
       event = omega (
         arith,
-        (last_numbered k.last_event old was.events was.events_are).1,
-        (last_numbered se.last_event files (was.events ++ settled.events) events2).1,
+        (last_numbered 0 k.last_event old was.events refl was.events_are).1,
+        (last_numbered 0 se.last_event files (was.events ++ settled.events) refl events2).1,
         length-append was.events settled.events,
       );
       count = same.count;

@@ -313,7 +313,7 @@ module _ (contents : ContentRef → List ℕ) (events : List Event) (k : Kept) w
 
 -- ---- files that hold it
 
-pub held_stands : (s : StoreState) (files : Files) (events : List Event) → FilesHold s files → events_in files (kept_by s).last_event ≡ Ok events
+pub held_stands : (s : StoreState) (files : Files) (events : List Event) → FilesHold s files → events_in files 0 (kept_by s).last_event ≡ Ok events
     → stands_for (flow_in (kept_by s)) s.lot files ≡ Ok (state_with (content_in files) events (kept_by s))
 held_stands s files events holds says =
     stands_by_kept (flow_in (kept_by s)) s.lot files (kept_by s) holds.kept

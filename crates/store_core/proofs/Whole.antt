@@ -71,6 +71,7 @@ pub record IsAdded (s new : StoreState) (e : LogEntry) (held : Files) : Type 0 w
   pub contents : All (IsSoundIn held) (map content_of session.placed)
   pub kept : kept_by new ≡ applied no_files (kept_by s) e
   pub lot : new.lot ≡ s.lot
+  pub line : new.events.line ≡ s.events.line
   pub events : HasEvents new.events held
 
 module _ {D : Type 0} (moment : D → ℕ) (images : D → ℕ → Files → Type 0) (held : D → Files) (s new : StoreState) (number : ℕ) (e : LogEntry) (old mid end : D) where
@@ -99,7 +100,7 @@ module _ {D : Type 0} (moment : D → ℕ) (images : D → ℕ → Files → Typ
         let before = at_the_end moment images old mid (After (GrowsAhead s.slots s.events) (images old (moment old))) first (held mid) left in
         let has_mid = has_log_same s before.0 (held mid) (logs_ahead s before.0 (held mid) before.2) (has before.0 before.1) in
         let holds_mid = holds_ahead s before.0 (held mid) works (has before.0 before.1) (holds before.0 before.1) before.2 in
-        holds_added s new number e is.session (held mid) c has_mid holds_mid numbered is.act is.alone is.fit added is.contents is.kept is.lot is.events
+        holds_added s new number e is.session (held mid) c has_mid holds_mid numbered is.act is.alone is.fit added is.contents is.kept is.lot is.line is.events
 
     pub since_holds : (tells : Bool) → ((k : ℕ) (c : Files) → images end k c → IsTrue tells) → (IsTrue tells → images mid (moment mid) (held mid)) → (IsTrue tells → IsAdded s new e (held mid))
         → Since moment images mid end (WithOrWithoutEntry number e (images mid (moment mid)) (held mid)) → Since moment images old end (HoldsEither s new)
@@ -161,8 +162,8 @@ module _ {D : Type 0} (moment : D → ℕ) (images : D → ℕ → Files → Typ
       → Since moment images old mid (After (GrowsAhead s.slots s.events) (images old (moment old)))
       → IsConsistent (kept_by s) → (prepared : IsPreparedChange s p) → (same : placeless_entry e ≡ placeless_entry p.entry) → HasLiveContents s p.settled
       → HaveDigests (content_in (held mid)) p.settled.placed → images mid (moment mid) (held mid) → HasSizes slots (held mid) → ReferAlike p.settled.placed (placed_in e) → ArePlaced true slots (held mid) p.settled.placed (placed_in e)
-      → kept_by new ≡ applied no_files (kept_by s) e → new.lot ≡ s.lot → HasEvents new.events (held mid) → IsAdded s new e (held mid)
-  is_added works has holds first consistent prepared same live digests left sizes alike placed kept lot events =
+      → kept_by new ≡ applied no_files (kept_by s) e → new.lot ≡ s.lot → new.events.line ≡ s.events.line → HasEvents new.events (held mid) → IsAdded s new e (held mid)
+  is_added works has holds first consistent prepared same live digests left sizes alike placed kept lot line events =
       let is = entry_acts s p e consistent prepared same in
       let before = at_the_end moment images old mid (After (GrowsAhead s.slots s.events) (images old (moment old))) first (held mid) left in
       let holds_mid = holds_ahead s before.0 (held mid) works (has before.0 before.1) (holds before.0 before.1) before.2 in
@@ -177,6 +178,7 @@ module _ {D : Type 0} (moment : D → ℕ) (images : D → ℕ → Files → Typ
             (subst (λ (l : List ActiveFile). ArePlaced true slots (held mid) p.settled.placed l) is.puts placed);
         kept = kept;
         lot = lot;
+        line = line;
         events = events;
       }
 
@@ -226,7 +228,7 @@ module _ {D : Type 0} (tells : Bool) (moment : D → ℕ) (images : D → ℕ �
       → ((c : Files) → images end (moment end) c → IsTrue tells) → (IsTrue tells → images mid (moment mid) (held mid)) → (IsTrue tells → images end (moment end) (held end)) → (IsTrue tells → IsAdded s new e (held mid))
       → InEach (images end (moment end)) (AddsEntry number e (held mid)) → InEach (images end (moment end)) (IsReadyIn new.log)
       → new.entries ≡ min (s.entries + 1) (2 ^ 64 - 1) → (IsTrue tells → HasSizes slots (held mid)) → ((k : ℕ) → size_of new.slots k ≡ size_of slots k)
-      → (IsTrue tells → IsTrimmed new.events.end (held mid)) → IsKeptOn tells held moment images new end
+      → (IsTrue tells → IsTrimmed new.events.line new.events.end (held mid)) → IsKeptOn tells held moment images new end
   kept_added works has holds first numbered told left last is added ready more sizes same trimmed = record {
     holds = λ f c image. let t = told c image in holds_new moment images held s new number e old mid end works has holds first numbered (left t) (is t) c (added c image);
     log = λ f c image.
@@ -235,5 +237,5 @@ module _ {D : Type 0} (tells : Bool) (moment : D → ℕ) (images : D → ℕ �
         let has_mid = has_log_same s before.0 (held mid) (logs_ahead s before.0 (held mid) before.2) (has before.0 before.1) in
         record { ready = ready c image; entries = entries_more s new e (held mid) c number has_mid numbered (added c image) more };
     sizes = λ f t. claims_added number e slots new.slots (held mid) (held end) (added (held end) (last t)) (sizes t) same;
-    trimmed = λ f t. trimmed_same new.events.end (held mid) (held end) (events_beside_log number e (held mid) (held end) (added (held end) (last t))) (trimmed t);
+    trimmed = λ f t. trimmed_same new.events.line new.events.end (held mid) (held end) (events_beside_log number e (held mid) (held end) (added (held end) (last t))) (trimmed t);
   }

@@ -36,7 +36,7 @@ pub record Agrees (needs : Needs) (old new : Files) : Type 0 where
   pub snapshot : new (snapshot_file needs.log) ≡ old (snapshot_file needs.log)
   pub batches : All (λ batch. new (named Swap batch) ≡ old (named Swap batch)) needs.batches
   pub contents : All (SameContent old new) needs.contents
-  pub events : SameEvents needs.last_event old new
+  pub events : SameEvents 0 needs.last_event old new
 
 -- The current log of these files has this number, and these batches matter there; where the files keep a state, these
 -- are its contents and its last event.

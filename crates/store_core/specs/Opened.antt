@@ -93,6 +93,7 @@ pub record IsReadWhole (tells : Bool) (lot : ℕ) (files : Files) (found : Found
   pub consistent : IsConsistent found.state.kept
   pub no_batches : found.state.kept.batches ≡ []
   pub last_event : known.end ≡ found.state.kept.last_event
+  pub line : known.line ≡ 0
   pub anew : found.log.number ≡ None → found.state.kept ≡ kept_anew (flow_in found.state.kept) lot
   pub empty : found.log.number ≡ None → found.entries ≡ 0
   pub small : found.entries < 2 ^ 64

@@ -139,6 +139,6 @@ pub record PlacesAll (tells : Bool) (files : Files) (all : List Placed) (old new
 pub record AppendsEvents (tells : Bool) (events : List Event) (old new : EventsState) (before after : Files) : Type 0
   where
     pub appended : EventsAreAppended events old new
-    pub added : IsTrue tells → (earlier : List Event) → events_in before old.end ≡ Ok earlier
-        → events_in after new.end ≡ Ok (earlier ++ events)
+    pub added : IsTrue tells → (earlier : List Event) → events_in before old.line old.end ≡ Ok earlier
+        → events_in after new.line new.end ≡ Ok (earlier ++ events)
     pub ready : IsTrue tells → EventsAreReady new after

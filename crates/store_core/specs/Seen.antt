@@ -38,18 +38,20 @@ abbrev pub kept_seen : SeenState → Kept
 kept_seen s = or_anew s.stored
 
 -- The files hold what was seen: they keep it, they have the events that are known, and so they stand for a state. No
--- store is made yet exactly where no log is current.
+-- store is made yet exactly where no log is current, and no event is forgotten.
 pub record IsSeenOn (files : Files) (s : SeenState) : Type 0 where
   pub kept : kept_in no_flow 0 files ≡ Ok (kept_seen s)
   pub made : (s.stored ≡ None) ↔ (current_number files ≡ None)
   pub events : HasEvents s.events files
   pub last_event : s.events.end ≡ (kept_seen s).last_event
+  pub line : s.events.line ≡ 0
   pub stands : stands_for no_flow 0 files ≡ Ok (state_with (content_in files) events.events (kept_seen s))
 
 -- what was read beside what is kept: where the disk tells, the live contents are sound, and the events are known
 pub record IsReadOf (tells : Bool) (files : Files) (stored : Option Kept) (s : SeenState) : Type 0 where
   pub stored_is : s.stored ≡ stored
   pub last_event : s.events.end ≡ (or_anew stored).last_event
+  pub line : s.events.line ≡ 0
   pub sound : IsTrue tells → contents_damage files (live_contents (or_anew stored)) ≡ None
   pub events : IsTrue tells → HasEvents s.events files
 

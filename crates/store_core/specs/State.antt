@@ -81,7 +81,7 @@ state_by files k None (Ok events) = Ok (state_with (content_in files) events k)
 
 -- the state of what is kept in files, or the first damage of a live content or of the events
 unfoldable pub state_of : Files → Kept → Result State Damage
-state_of files k = state_by files k (contents_damage files (live_contents k)) (events_in files k.last_event)
+state_of files k = state_by files k (contents_damage files (live_contents k)) (events_in files 0 k.last_event)
 
 abbrev pub behind_kept : Files → Result Kept Damage → Result State Damage
 behind_kept files (Ok k) = state_of files k

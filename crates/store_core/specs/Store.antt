@@ -67,11 +67,12 @@ pub record IsSoundStore (s : StoreState) : Type 0 where
   pub opened : length s.opened ≤ LIVE_FILES_MAX
   pub works : s.failed ≡ false → IsWorking s
 
--- the files keep what the store has in memory, with all live contents and all events
+-- the files keep what the store has in memory, with all live contents and all events, of which none is forgotten
 pub record FilesHold (s : StoreState) (files : Files) : Type 0 where
   pub kept : kept_in (flow_in (kept_by s)) s.lot files ≡ Ok (kept_by s)
   pub contents : contents_damage files (live_in s) ≡ None
   pub events : HasEvents s.events files
+  pub line : s.events.line ≡ 0
 
 -- the current log of the files is the one in memory
 pub record HasLog (s : StoreState) (files : Files) : Type 0 where
@@ -86,7 +87,7 @@ pub record IsKeptOn {D : Type 0} (tells : Bool) (held : D → Files) (moment : D
   pub holds : s.failed ≡ false → InEach (images disk (moment disk)) (FilesHold s)
   pub log : s.failed ≡ false → InEach (images disk (moment disk)) (HasLog s)
   pub sizes : s.failed ≡ false → IsTrue tells → HasSizes s.slots (held disk)
-  pub trimmed : s.failed ≡ false → IsTrue tells → IsTrimmed s.events.end (held disk)
+  pub trimmed : s.failed ≡ false → IsTrue tells → IsTrimmed s.events.line s.events.end (held disk)
 
 -- one of these contents stands in the claim of this number
 abbrev pub StandsIn : ℕ → List ContentRef → Type 0

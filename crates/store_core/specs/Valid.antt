@@ -49,5 +49,5 @@ QueuedFilesAreLive =
 abbrev pub HeldFilesStandForKept : Type 0
 HeldFilesStandForKept =
     (s : StoreState) (files : Files) (events : List Event) → FilesHold s files
-    → events_in files (kept_by s).last_event ≡ Ok events
+    → events_in files 0 (kept_by s).last_event ≡ Ok events
     → stands_for (flow_in (kept_by s)) s.lot files ≡ Ok (state_with (content_in files) events (kept_by s))

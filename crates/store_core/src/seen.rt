@@ -41,6 +41,7 @@ pub struct Seen {
 }
 
 impl Model for Seen {
+    ghost use Rattle.std.specs.Prelude.{◌≡◌};
     ghost use Rattle.store_core.specs.Seen.{SeenState, seen_in};
     ghost use Rattle.std.specs.Coded.{codes};
     ghost use Rattle.flowfile_record.specs.contracts.attributes.Attributes as attributes;
@@ -50,6 +51,9 @@ impl Model for Seen {
     ghost coded = { Prim.hlevel (codes, attributes.the_row.coded) };
 
     ghost view = { λ seen. seen_in seen.state seen.events };
+
+    // No event is forgotten.
+    ghost invariant = { λ seen. seen.events.line ≡ 0 };
 }
 
 /// Reads what the files of a store stand for, whatever its flow is, and writes nothing. Each live content and each event
@@ -159,7 +163,7 @@ fn see_made<D: Disk>(alloc: Global, disk: &mut D, state: KeptState) -> Result<Se
 {
     let kept = state.stored();
     read_contents(alloc, disk, kept)?;
-    let events = Events::load(alloc, disk, kept.last_event)?;
+    let events = Events::load(alloc, disk, 0, kept.last_event)?;
     Ok(Seen {
         state: Some(state),
         events,
@@ -175,7 +179,7 @@ fn see_none<D: Disk>(alloc: Global, disk: &mut D) -> Result<Seen, StoreError>
     ensures stays { Stays D.held D.moment D.images disk.old disk.new }
     ensures cause { CountsFaults (D.faults disk.old) (D.faults disk.new) (IsErrOf result StoreError.Disk) }
 {
-    let events = Events::load(alloc, disk, 0)?;
+    let events = Events::load(alloc, disk, 0, 0)?;
     Ok(Seen {
         state: None,
         events,
@@ -236,8 +240,8 @@ impl Seen {
         ensures numbered { IfOk result (λ events. map (λ e. e.number) events.items
             ≡ numbers_between (max from 1) (min to self.now.events.end)) }
         // Where there is no such event, the disk isn't asked, and no memory is taken.
-        ensures refused { IsErr result → HasBetween from to self.now.events.end }
-        ensures none { (HasBetween from to self.now.events.end → ⊥) → disk.new ≡ disk.old }
+        ensures refused { IsErr result → HasBetween from to 0 self.now.events.end }
+        ensures none { (HasBetween from to 0 self.now.events.end → ⊥) → disk.new ≡ disk.old }
         ensures undamaged { (damage : TheDamage) → IsErrOf result (StoreError.Damaged damage) → IsTrue D.tells
             → IsSeenOn (D.held disk.old) self.now → ⊥ }
         ensures refusal { IfErr result IsDiskMemoryOrDamage }

@@ -79,7 +79,7 @@ returns-in_err-check_flow-clause-other_flow g c digest other is =
           let has = c.in_ok-events.ensures.found.has told in
           is_other c.args.flow.now c.args.lot (held d0) k has.events digest (c.in_ok-found.ensures.found told).kept
           (moved (held d0) (held c.read_kept.new.disk) k (kept_of c.stored-kept.result.now) None c.read_kept.ensures.stays.files kept_is (c.in_ok-opened.ensures.sound told))
-          (events_told (held d0) (held c.read_contents.new.disk) k c.in_ok-events.events (kept_of c.stored-kept.result.now).last_event files c.in_ok-events.ensures.found.end last_is has)
+          (events_told (held d0) (held c.read_contents.new.disk) k c.in_ok-events.events (kept_of c.stored-kept.result.now).last_event files c.in_ok-events.ensures.found.line c.in_ok-events.ensures.found.end last_is has)
           (flows ∙ is_digest) (λ e. told_of.0 (sym flows ∙ e)),
     )
 
@@ -97,7 +97,7 @@ returns-clause-opened g c =
     let has = c.in_ok-events.ensures.found.has told in
     is_found c.args.flow.now c.args.lot (held d0) k has.events _ (c.in_ok-found.ensures.found told).kept
     (moved (held d0) (held c.read_kept.new.disk) k (kept_of c.stored-kept.result.now) None c.read_kept.ensures.stays.files kept_is (c.in_ok-opened.ensures.sound told))
-    (events_told (held d0) (held c.read_contents.new.disk) k c.in_ok-events.events (kept_of c.stored-kept.result.now).last_event files c.in_ok-events.ensures.found.end last_is has)
+    (events_told (held d0) (held c.read_contents.new.disk) k c.in_ok-events.events (kept_of c.stored-kept.result.now).last_event files c.in_ok-events.ensures.found.line c.in_ok-events.ensures.found.end last_is has)
     revived.kept
     (revived.log ∙ ap (λ (o : Option ℕ). Some (log_opened o)) (sym (number_found c.args.flow.now c.args.lot (held d0) c.in_ok-found.found (c.in_ok-found.ensures.found told)))))
     c.revive.ensures.revived c.revive.ensures.kept c.revive.ensures.tidy
@@ -114,7 +114,7 @@ returns-clause-shut g c told shut =
     absurd
     (not_shut c.args.flow.now c.args.lot (held d0) k has.events (c.in_ok-found.ensures.found told).kept
     (moved (held d0) (held c.read_kept.new.disk) k (kept_of c.stored-kept.result.now) None c.read_kept.ensures.stays.files kept_is (c.in_ok-opened.ensures.sound told))
-    (events_told (held d0) (held c.read_contents.new.disk) k c.in_ok-events.events (kept_of c.stored-kept.result.now).last_event files c.in_ok-events.ensures.found.end last_is has)
+    (events_told (held d0) (held c.read_contents.new.disk) k c.in_ok-events.events (kept_of c.stored-kept.result.now).last_event files c.in_ok-events.ensures.found.line c.in_ok-events.ensures.found.end last_is has)
     (ap flow_in (sym kept_is) ∙ c.in_ok-check_flow.ensures.same) shut)
 
 pub returns-in_err-check_flow-clause-alone : goal.returns-in_err-check_flow-clause-alone

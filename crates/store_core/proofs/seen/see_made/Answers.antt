@@ -30,8 +30,8 @@ returns-in_err-events-clause-damaged g c damage is told =
     let kept_is : kept_of c.stored-kept.result.now ≡ k = c.stored-kept.ensures.kept in
     torn_event held k damage
     (moved held held k (kept_of c.stored-kept.result.now) None refl kept_is (c.in_ok-read_contents.ensures.sound told))
-    (ap (λ (f : Files). events_in f k.last_event) (sym c.read_contents.ensures.stays.files)
-    ∙ ap (λ (x : Kept). events_in mid x.last_event) (sym kept_is)
+    (ap (λ (f : Files). events_in f 0 k.last_event) (sym c.read_contents.ensures.stays.files)
+    ∙ ap (λ (x : Kept). events_in mid 0 x.last_event) (sym kept_is)
     ∙ c.in_err-events.ensures.damaged damage (ap Err same) told)
 
 pub returns-clause-seen : goal.returns-clause-seen
@@ -41,6 +41,7 @@ returns-clause-seen g c =
     let kept_is : kept_of c.stored-kept.result.now ≡ k = c.stored-kept.ensures.kept in
     record {
       stored_is = refl;
+      line = c.in_ok-events.ensures.found.line;
       last_event = c.in_ok-events.ensures.found.end ∙ ap (λ (x : Kept). x.last_event) kept_is;
       sound = λ told. moved held held k (kept_of c.stored-kept.result.now) None refl kept_is (c.in_ok-read_contents.ensures.sound told);
       events = λ told. subst (λ (f : Files). HasEvents c.in_ok-events.events f) c.read_contents.ensures.stays.files (c.in_ok-events.ensures.found.has told);

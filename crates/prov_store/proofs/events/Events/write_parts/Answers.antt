@@ -7,7 +7,7 @@ use Rattle.disk_trait.specs.Images.{HasCalled, next_moment, calls_later}
 use Rattle.flowfile_record.specs.declared.event.Event.{Event}
 use Rattle.prov_store.specs.Blocks.{blocks_of, AreEventParts, AreEncoded, next_offset}
 use Rattle.prov_store.specs.Growing.{Stands}
-use Rattle.prov_store.specs.State.{files_for}
+use Rattle.prov_store.specs.State.{IsEventLine, files_for}
 use Rattle.flowfile_record.specs.declared.limits.TheConstants.{EVENTS_PER_FILE}
 use Rattle.prov_store.specs.declared.blocks.Part.{Part}
 use Rattle.disk_trait.proofs.Moments.{one_call_more}
@@ -75,7 +75,7 @@ write_part-requires-clause-reaches g c κs within told =
     let inv = c.loop-part.invariant in
     let n = c.loop-part.place.end - c.args.self.now.end in
     let known = c.requires.stands told in
-    let there = ends_there c.loop-part.place.end c.loop-part.place.offset (g.D.Disk.held c.loop-part.disk) (known.0 ++ take n c.args.blocks.now.events) (inv.stands told known.0 known.1) in
+    let there = ends_there c.args.self.now.line c.loop-part.place.end c.loop-part.place.offset (g.D.Disk.held c.loop-part.disk) (known.0 ++ take n c.args.blocks.now.events) (inv.stands told known.0 known.1) in
     omega (arith, there)
 
 pub returns-in_err-place-clause-behind : goal.returns-in_err-place-clause-behind
@@ -107,6 +107,11 @@ loop-part-preserved g c =
     let size : c.loop-part.start + part.size - c.loop-part.start ≡ part.size = omega arith in
     let bytes_are : take (c.loop-part.start + part.size - c.loop-part.start) (drop c.loop-part.start c.as_slice-bytes.result.now) ≡ take part.size (drop c.loop-part.start inside.bytes.items) =
     ap (λ (k : ℕ). take k (drop c.loop-part.start c.as_slice-bytes.result.now)) size ∙ ap (λ (l : List ℕ). take part.size (drop c.loop-part.start l)) c.as_slice-bytes.ensures.value in
+    let line : c.self.inside.line ≡ c.args.self.now.line = ap (λ s. s.line) c.self.view_is in
+    let end_is : c.self.inside.end ≡ c.args.self.now.end = ap (λ s. s.end) c.self.view_is in
+    let known = c.self.invariant.1 in
+    let of : IsEventLine c.args.self.now.line c.loop-part.place.end =
+    record { whole = ap (λ (n : ℕ). n % EVENTS_PER_FILE) (sym line) ∙ known.whole; within = omega (arith, known.within, line, end_is, inv.reached) } in
     let offset : c.in_ok-place.place.offset ≡ next_offset (c.loop-part.place.end + part.count) (c.loop-part.place.offset + part.size) = c.in_ok-place.ensures.offset in
     record {
       reached = omega (arith, end, inv.reached);
@@ -117,10 +122,10 @@ loop-part-preserved g c =
           (λ here. subst (λ (k : ℕ). c.args.self.now.offset ≤ k) (sym offset)
           (still_behind c.args.self.now.end c.args.self.now.offset c.loop-part.place.end c.loop-part.place.offset part.count part.size late inv.behind at.some here));
       stands = λ told before stands.
-          subst (λ (k : ℕ). Stands k c.in_ok-place.place.offset (g.D.Disk.held c.write_part.new.disk) (before ++ take (k - c.args.self.now.end) events)) (sym end)
-          (subst (λ (k : ℕ). Stands (c.loop-part.place.end + part.count) k (g.D.Disk.held c.write_part.new.disk) (before ++ take (c.loop-part.place.end + part.count - c.args.self.now.end) events)) (sym offset)
-          (part_stands c.args.self.now.end inside.first events inside.bytes.items _ c.loop-part.place.end c.loop-part.start c.loop-part.part-index c.loop-part.place.offset c.deref-part-items.result.now part
-          (g.D.Disk.held c.loop-part.disk) (g.D.Disk.held c.write_part.new.disk) before at inv.reached bytes_are (inv.stands told before stands) (c.in_ok-place.ensures.written told)));
+          subst (λ (k : ℕ). Stands c.args.self.now.line k c.in_ok-place.place.offset (g.D.Disk.held c.write_part.new.disk) (before ++ take (k - c.args.self.now.end) events)) (sym end)
+          (subst (λ (k : ℕ). Stands c.args.self.now.line (c.loop-part.place.end + part.count) k (g.D.Disk.held c.write_part.new.disk) (before ++ take (c.loop-part.place.end + part.count - c.args.self.now.end) events)) (sym offset)
+          (part_stands c.args.self.now.end inside.first events inside.bytes.items _ c.args.self.now.line c.loop-part.place.end c.loop-part.start c.loop-part.part-index c.loop-part.place.offset c.deref-part-items.result.now part
+          (g.D.Disk.held c.loop-part.disk) (g.D.Disk.held c.write_part.new.disk) before of at inv.reached bytes_are (inv.stands told before stands) (c.in_ok-place.ensures.written told)));
       held = λ told.
           grows_on c.args.self.now (c.loop-part.place.end / EVENTS_PER_FILE) c.loop-part.place.offset _ (g.D.Disk.held c.args.disk.now) (g.D.Disk.held c.loop-part.disk) (g.D.Disk.held c.write_part.new.disk)
           late inv.behind (inv.held told) (c.write_part.ensures.torn told);
@@ -142,7 +147,7 @@ returns-clause-stands g c told before stands =
     let n = c.loop-part.place.end - c.args.self.now.end in
     let none = no_part_is c.loop-part.place.end c.loop-part.part-index c.deref-part-items.result.now (drop n events) c.loop-part-test.false inv.parts in
     let all : n ≡ length events = done c.args.self.now.end c.loop-part.place.end events (drop n events) refl none inv.there in
-    subst (λ (l : List Event). Stands c.loop-part.place.end c.loop-part.place.offset (g.D.Disk.held c.loop-part.disk) (before ++ l)) (take_all n events (omega (arith, all)))
+    subst (λ (l : List Event). Stands c.args.self.now.line c.loop-part.place.end c.loop-part.place.offset (g.D.Disk.held c.loop-part.disk) (before ++ l)) (take_all n events (omega (arith, all)))
     (inv.stands told before stands)
 
 pub returns-clause-end : goal.returns-clause-end

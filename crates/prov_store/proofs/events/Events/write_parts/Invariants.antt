@@ -15,8 +15,8 @@ invariant-loop-part g l = record {
   start : l.start ≡ length (blocks_of (take (l.place.end - l.fn.self.end) l.fn.blocks.events));
   parts : AreEventParts l.place.end (drop l.part-index l.part-items) (drop (l.place.end - l.fn.self.end) l.fn.blocks.events);
   behind : l.place.end / EVENTS_PER_FILE ≡ l.fn.self.end / EVENTS_PER_FILE → l.fn.self.offset ≤ l.place.offset;
-  stands : IsTrue g.D.Disk.tells → (before : List Event) → Stands l.fn.self.end l.fn.self.offset (g.D.Disk.held l.fn.disk) before
-      → Stands l.place.end l.place.offset (g.D.Disk.held l.disk) (before ++ take (l.place.end - l.fn.self.end) l.fn.blocks.events);
+  stands : IsTrue g.D.Disk.tells → (before : List Event) → Stands l.fn.self.line l.fn.self.end l.fn.self.offset (g.D.Disk.held l.fn.disk) before
+      → Stands l.fn.self.line l.place.end l.place.offset (g.D.Disk.held l.disk) (before ++ take (l.place.end - l.fn.self.end) l.fn.blocks.events);
   held : IsTrue g.D.Disk.tells → GrowsBehind l.fn.self (g.D.Disk.held l.fn.disk) (g.D.Disk.held l.disk);
   left : Since g.D.Disk.moment g.D.Disk.images l.fn.disk l.disk (After (GrowsBehind l.fn.self) (g.D.Disk.images l.fn.disk (g.D.Disk.moment l.fn.disk)));
   faults : g.D.Disk.faults l.fn.disk ≤ g.D.Disk.faults l.disk;

@@ -1,4 +1,4 @@
-use Rattle.std.proofs.Common.{◌≡◌, ◌+◌, ◌*◌, ◌++◌, ◌∷◌, [], IsTrue, List, length, drop, refl, ap, ◌∙◌, arith}
+use Rattle.std.proofs.Common.{◌≡◌, ◌+◌, ◌*◌, ◌/◌, ◌++◌, ◌∷◌, [], IsTrue, List, length, drop, refl, ap, ◌∙◌, arith}
 use Rattle.std.specs.Prelude.{Ok, Err}
 use Rattle.std.proofs.lemmas.Result.{err_from_is_err_and}
 use Rattle.prov_store.specs.Events.{count_in, first_event, covered_size}
@@ -16,7 +16,7 @@ pub count_events-requires-clause-room : goal.count_events-requires-clause-room
 count_events-requires-clause-room g c κs within k d lt =
     let loaded = c.requires.read.loaded in
     let most = count_most loaded.events c.args.self.now.counts.counts loaded.long loaded.counts k d lt in
-    let small = c.requires.end in
+    let small = c.requires.may.end in
     omega (arith, most, loaded.many, small, c.min-many.ensures)
 
 pub returns-in_err-size-2-clause-damaged : goal.returns-in_err-size-2-clause-damaged
@@ -24,10 +24,10 @@ returns-in_err-size-2-clause-damaged g c damage is told more =
     let p = err_from_is_err_and c.from_residual-in_err-size-2.result c.from_residual-in_err-size-2.ensures.1 in
     let same : c.in_err-size-2.field-0.0 ≡ Damaged damage = cc (p.1, p.2, is) in
     let files = g.D.Disk.held c.args.disk.now in
-    let many : c.min-many.result ≡ count_in c.args.self.now.end c.args.number = omega (arith, c.min-many.ensures) in
+    let many : c.min-many.result ≡ count_in c.args.self.now.line c.args.self.now.end c.args.number = omega (arith, c.min-many.ensures, c.requires.may.from, c.requires.may.line.whole) in
     let first : c.args.number * EVENTS_PER_FILE + 1 ≡ first_event c.args.number = omega arith in
-    first_damaged c.args.number more c.args.self.now.end files c.requires.read.loaded.events damage (c.requires.read.loaded.says told)
-    (file_read c.args.self.now.end c.args.number c.min-many.result (c.args.number * EVENTS_PER_FILE + 1) c.file_named-file.result (g.D.Disk.held c.size.new.self) files (Err damage)
+    first_damaged c.args.number more c.args.self.now.line c.args.self.now.end files c.requires.read.loaded.events damage (c.requires.read.loaded.says told)
+    (file_read c.args.self.now.line c.args.self.now.end c.args.number c.min-many.result (c.args.number * EVENTS_PER_FILE + 1) c.file_named-file.result (g.D.Disk.held c.size.new.self) files (Err damage)
     c.size.ensures.stays.files c.file_named-file.ensures many first (c.in_err-size-2.ensures.damaged damage (ap Err same) told))
 
 pub returns-in_ok-reserve-clause-read : goal.returns-in_ok-reserve-clause-read
@@ -38,12 +38,12 @@ returns-in_ok-reserve-clause-read g c = record {
       let k = c.args.number in
       let counted = c.in_ok-size-2.ensures.counted in
       let size = c.in_ok-size-2.size in
-      let many : c.min-many.result ≡ count_in old.end k = omega (arith, c.min-many.ensures) in
+      let many : c.min-many.result ≡ count_in old.line old.end k = omega (arith, c.min-many.ensures, c.requires.may.from, c.requires.may.line.whole) in
       let first : k * EVENTS_PER_FILE + 1 ≡ first_event k = omega arith in
-      let offset : IsTrue g.D.Disk.tells → size ≡ covered_size old.end k files = λ told. size_read old.end k c.min-many.result size c.file_named-file.result (g.D.Disk.held c.size.new.self) files c.size.ensures.stays.files c.file_named-file.ensures many (counted.read.reaches told) in
-      let new : Loading = record { end = old.end; offset = size; counts = c.count_events.new.counts; stale = c.push_reserved.new.self; buffer = c.count_events.new.buffer } in
-      more_loaded g.D.Disk.tells files k old new counted.events c.requires.read.loaded c.requires.number (counted.read.count ∙ many) counted.counted counted.long refl offset
-      (λ told. file_read old.end k c.min-many.result (k * EVENTS_PER_FILE + 1) c.file_named-file.result (g.D.Disk.held c.size.new.self) files (Ok counted.events)
+      let offset : IsTrue g.D.Disk.tells → size ≡ covered_size old.line old.end k files = λ told. size_read old.line old.end k c.min-many.result size c.file_named-file.result (g.D.Disk.held c.size.new.self) files c.size.ensures.stays.files c.file_named-file.ensures many (counted.read.reaches told) in
+      let new : Loading = record { line = old.line; end = old.end; offset = size; counts = c.count_events.new.counts; stale = c.push_reserved.new.self; buffer = c.count_events.new.buffer } in
+      more_loaded g.D.Disk.tells files k old new counted.events c.requires.read.loaded c.requires.may.line c.requires.may.from c.requires.may.to (counted.read.count ∙ many) counted.counted counted.long refl refl offset
+      (λ told. file_read old.line old.end k c.min-many.result (k * EVENTS_PER_FILE + 1) c.file_named-file.result (g.D.Disk.held c.size.new.self) files (Ok counted.events)
       c.size.ensures.stays.files c.file_named-file.ensures many first (counted.read.says told))
       (stale_one g.D.Disk.tells files k size old new c.requires.read.loaded
       (c.push_reserved.ensures.items ∙ ap (λ (l : List Stale). l ++ record { file = k; size = size } ∷ []) c.in_ok-reserve.ensures.items) offset);
@@ -52,8 +52,8 @@ returns-in_ok-reserve-clause-read g c = record {
       let k = c.args.number in
       let size = c.in_ok-size-2.size in
       let stale = c.args.self.now.stale.items in
-      one_listed g.D.Disk.tells files stale c.push_reserved.new.self.items (record { file = k; size = size })
-      (c.push_reserved.ensures.items ∙ ap (λ (l : List Stale). l ++ record { file = k; size = size } ∷ []) c.in_ok-reserve.ensures.items) c.requires.read.listed
+      one_listed g.D.Disk.tells files (c.args.self.now.line / EVENTS_PER_FILE) stale c.push_reserved.new.self.items (record { file = k; size = size })
+      (c.push_reserved.ensures.items ∙ ap (λ (l : List Stale). l ++ record { file = k; size = size } ∷ []) c.in_ok-reserve.ensures.items) c.requires.may.from c.requires.read.listed
       (λ told.
       let long = c.in_ok-size.ensures.size told in
       let named = ap (λ f. length (files f)) c.file_named-file.ensures in
@@ -68,12 +68,12 @@ returns-else-size-start-clause-read g c = record {
       let k = c.args.number in
       let counted = c.in_ok-size-2.ensures.counted in
       let size = c.in_ok-size-2.size in
-      let many : c.min-many.result ≡ count_in old.end k = omega (arith, c.min-many.ensures) in
+      let many : c.min-many.result ≡ count_in old.line old.end k = omega (arith, c.min-many.ensures, c.requires.may.from, c.requires.may.line.whole) in
       let first : k * EVENTS_PER_FILE + 1 ≡ first_event k = omega arith in
-      let offset : IsTrue g.D.Disk.tells → size ≡ covered_size old.end k files = λ told. size_read old.end k c.min-many.result size c.file_named-file.result (g.D.Disk.held c.size.new.self) files c.size.ensures.stays.files c.file_named-file.ensures many (counted.read.reaches told) in
-      let new : Loading = record { end = old.end; offset = size; counts = c.count_events.new.counts; stale = old.stale; buffer = c.count_events.new.buffer } in
-      more_loaded g.D.Disk.tells files k old new counted.events c.requires.read.loaded c.requires.number (counted.read.count ∙ many) counted.counted counted.long refl offset
-      (λ told. file_read old.end k c.min-many.result (k * EVENTS_PER_FILE + 1) c.file_named-file.result (g.D.Disk.held c.size.new.self) files (Ok counted.events)
+      let offset : IsTrue g.D.Disk.tells → size ≡ covered_size old.line old.end k files = λ told. size_read old.line old.end k c.min-many.result size c.file_named-file.result (g.D.Disk.held c.size.new.self) files c.size.ensures.stays.files c.file_named-file.ensures many (counted.read.reaches told) in
+      let new : Loading = record { line = old.line; end = old.end; offset = size; counts = c.count_events.new.counts; stale = old.stale; buffer = c.count_events.new.buffer } in
+      more_loaded g.D.Disk.tells files k old new counted.events c.requires.read.loaded c.requires.may.line c.requires.may.from c.requires.may.to (counted.read.count ∙ many) counted.counted counted.long refl refl offset
+      (λ told. file_read old.line old.end k c.min-many.result (k * EVENTS_PER_FILE + 1) c.file_named-file.result (g.D.Disk.held c.size.new.self) files (Ok counted.events)
       c.size.ensures.stays.files c.file_named-file.ensures many first (counted.read.says told))
       (stale_same g.D.Disk.tells files k size old new c.requires.read.loaded refl
       (λ told.
@@ -83,15 +83,15 @@ returns-else-size-start-clause-read g c = record {
       omega (arith, long, named, covered, c.if-size-start.false)));
   listed =
       let stale = c.args.self.now.stale.items in
-      still_listed g.D.Disk.tells (g.D.Disk.held c.args.disk.now) c.args.number (c.args.number + 1) stale stale refl (omega arith) c.requires.read.listed;
+      still_listed g.D.Disk.tells (g.D.Disk.held c.args.disk.now) (c.args.self.now.line / EVENTS_PER_FILE) c.args.number (c.args.number + 1) stale stale refl (omega arith) c.requires.read.listed;
 }
 
 pub returns-in_err-size-2-clause-memory : goal.returns-in_err-size-2-clause-memory
 returns-in_err-size-2-clause-memory g c is told some =
     let p = err_from_is_err_and c.from_residual-in_err-size-2.result c.from_residual-in_err-size-2.ensures.1 in
     let same : c.in_err-size-2.field-0.0 ≡ Memory = cc (p.1, p.2, is) in
-    whole_at_first c.args.number c.args.self.now.end c.file_named-file.result (g.D.Disk.held c.size.new.self) (g.D.Disk.held c.args.disk.now) c.requires.read.loaded.events
-    (c.requires.read.loaded.says told) c.size.ensures.stays.files c.file_named-file.ensures some (λ zero. c.in_err-size-2.ensures.memory (ap Err same) told)
+    whole_at_first c.args.number c.args.self.now.line c.args.self.now.end c.file_named-file.result (g.D.Disk.held c.size.new.self) (g.D.Disk.held c.args.disk.now) c.requires.read.loaded.events
+    (c.requires.read.loaded.says told) c.requires.may.line c.requires.may.from c.size.ensures.stays.files c.file_named-file.ensures some (λ first. c.in_err-size-2.ensures.memory (ap Err same) told)
 
 pub returns-in_err-reserve-clause-memory : goal.returns-in_err-reserve-clause-memory
 returns-in_err-reserve-clause-memory g c is told some =
@@ -99,6 +99,6 @@ returns-in_err-reserve-clause-memory g c is told some =
     let k = c.args.number in
     let file = c.file_named-file.result in
     let read = g.D.Disk.held c.size.new.self in
-    whole_at_first k c.args.self.now.end file read (g.D.Disk.held c.args.disk.now) c.requires.read.loaded.events
-    (c.requires.read.loaded.says told) c.size.ensures.stays.files c.file_named-file.ensures some
-    (λ zero. first_whole c.min-many.result file 0 (k * EVENTS_PER_FILE + 1) (drop 0 (read file)) counted.events (counted.read.says told) (omega (arith, some, zero, c.min-many.ensures)))
+    whole_at_first k c.args.self.now.line c.args.self.now.end file read (g.D.Disk.held c.args.disk.now) c.requires.read.loaded.events
+    (c.requires.read.loaded.says told) c.requires.may.line c.requires.may.from c.size.ensures.stays.files c.file_named-file.ensures some
+    (λ first. first_whole c.min-many.result file 0 (k * EVENTS_PER_FILE + 1) (drop 0 (read file)) counted.events (counted.read.says told) (omega (arith, some, first, c.min-many.ensures)))

@@ -19,7 +19,7 @@ returns-in_err-cursor-clause-undamaged g c damage is told here says =
     let n = c.saturating_sub.result in
     let m = min self.last (EVENTS_PER_FILE * k + EVENTS_PER_FILE) + 1 - (first_event k + n) in
     let skip : n ≡ self.first - first_event k = omega (arith, c.saturating_sub.ensures) in
-    let fi = found_in self.end self.first self.last k n m files here says c.requires.may.counted c.requires.may.some c.requires.may.there c.requires.from c.requires.to skip refl in
+    let fi = found_in self.line self.end self.first self.last k n m files here says c.requires.may.whole c.requires.may.past c.requires.may.some c.requires.may.there c.requires.from c.requires.to skip refl in
     let p = err_from_is_err_and c.from_residual-in_err-cursor.result c.from_residual-in_err-cursor.ensures.1 in
     let same : c.in_err-cursor.field-0.0 ≡ Damaged damage = cc (p.1, p.2, is) in
     c.in_err-cursor.ensures.undamaged damage (ap Err same) told (take n here)
@@ -36,7 +36,7 @@ returns-in_err-read_events-clause-undamaged g c damage is told here says =
     let number : c.in_ok-cursor.cursor.number ≡ k * EVENTS_PER_FILE + 1 + n = ap (λ (c : Cursor). c.number) c.in_ok-cursor.ensures.skipped.behind in
     let many : m ≡ min self.last (EVENTS_PER_FILE * k + EVENTS_PER_FILE) + 1 - (first_event k + n) = omega (arith, c.min-last.ensures, number) in
     let held : g.D.Disk.held c.skip_events.new.disk ≡ files = c.skip_events.ensures.stays.files ∙ c.size.ensures.stays.files in
-    let fi = found_in self.end self.first self.last k n m files here says c.requires.may.counted c.requires.may.some c.requires.may.there c.requires.from c.requires.to skip many in
+    let fi = found_in self.line self.end self.first self.last k n m files here says c.requires.may.whole c.requires.may.past c.requires.may.some c.requires.may.there c.requires.from c.requires.to skip many in
     let all = there_in_file self.end self.first self.last k n m (k * EVENTS_PER_FILE + 1) c.file_named-file.result c.in_ok-size.field-0 g.D.Disk.tells files (g.D.Disk.held c.size.new.self)
     (g.D.Disk.held c.skip_events.new.disk) here c.in_ok-cursor.cursor fi c.size.ensures.stays.files held c.file_named-file.ensures (omega arith) c.in_ok-cursor.ensures.skipped told in
     let p = err_from_is_err_and c.from_residual-in_err-read_events.result c.from_residual-in_err-read_events.ensures.1 in
@@ -55,7 +55,7 @@ returns-clause-found g c told here is =
     let number : c.in_ok-cursor.cursor.number ≡ k * EVENTS_PER_FILE + 1 + n = ap (λ (c : Cursor). c.number) c.in_ok-cursor.ensures.skipped.behind in
     let many : m ≡ min self.last (EVENTS_PER_FILE * k + EVENTS_PER_FILE) + 1 - (first_event k + n) = omega (arith, c.min-last.ensures, number) in
     let held : g.D.Disk.held c.skip_events.new.disk ≡ files = c.skip_events.ensures.stays.files ∙ c.size.ensures.stays.files in
-    let fi = found_in self.end self.first self.last k n m files here is c.requires.may.counted c.requires.may.some c.requires.may.there c.requires.from c.requires.to skip many in
+    let fi = found_in self.line self.end self.first self.last k n m files here is c.requires.may.whole c.requires.may.past c.requires.may.some c.requires.may.there c.requires.from c.requires.to skip many in
     let all = there_in_file self.end self.first self.last k n m (k * EVENTS_PER_FILE + 1) c.file_named-file.result c.in_ok-size.field-0 g.D.Disk.tells files (g.D.Disk.held c.size.new.self)
     (g.D.Disk.held c.skip_events.new.disk) here c.in_ok-cursor.cursor fi c.size.ensures.stays.files held c.file_named-file.ensures (omega arith) c.in_ok-cursor.ensures.skipped told in
     let read = c.in_ok-read_events.ensures.read in

@@ -9,7 +9,7 @@ use Rattle.prov_store.proofs.scan.Scan.scan_files.Given as goal
 abbrev pub invariant-loop-number : goal.invariant-loop-number
 invariant-loop-number g l = record {
   same : SameScan l.fn.self l.self;
-  found : IsTrue g.D.Disk.tells → (events : List Event) → events_of_files l.number l.fn.self.end 0 (g.D.Disk.held l.fn.disk) ≡ Ok events
+  found : IsTrue g.D.Disk.tells → (events : List Event) → events_of_files l.number l.fn.self.line l.fn.self.end 0 (g.D.Disk.held l.fn.disk) ≡ Ok events
       → l.self.found.items ≡ filter (is_within l.fn.self.first l.fn.self.last) events;
   numbered : map (λ e. e.number) l.self.found.items ≡ numbers_between l.fn.self.first (min l.fn.self.last (first_event l.number - 1));
   stays : Stays g.D.Disk.held g.D.Disk.moment g.D.Disk.images l.fn.disk l.disk;

@@ -1,4 +1,4 @@
-use Rattle.std.proofs.Common.{◌≡◌, ℕ, min, refl, ap, ◌∙◌, arith}
+use Rattle.std.proofs.Common.{◌≡◌, ℕ, ◌+◌, max, min, refl, ap, ◌∙◌, arith}
 use Rattle.std.specs.Prelude.{Err}
 use Rattle.std.proofs.lemmas.Result.{err_from_is_err_and}
 use Rattle.prov_store.specs.Scanning.{HasBetween, numbers_between}
@@ -18,26 +18,27 @@ returns-in_err-events-clause-undamaged g c damage is told seen =
 
 pub returns-clause-events : goal.returns-clause-events
 returns-clause-events g c told seen state stands =
-    all_are (g.D.Disk.held c.args.disk.now) c.args.self.now state c.self.inside.events c.end.result c.in_ok-events.events.items (ap (λ (s : SeenState). s.events) c.self.view_is) c.end.ensures seen stands
+    all_are (g.D.Disk.held c.args.disk.now) c.args.self.now state c.self.inside.events c.end.result c.in_ok-events.events.items (ap (λ (s : SeenState). s.events) c.self.view_is) c.self.invariant c.end.ensures seen stands
     (c.in_ok-events.ensures.found told)
 
 pub returns-clause-numbered : goal.returns-clause-numbered
 returns-clause-numbered g c =
     let known : c.self.inside.events ≡ c.args.self.now.events = ap (λ (s : SeenState). s.events) c.self.view_is in
     let end : min c.end.result c.self.inside.events.end ≡ c.args.self.now.events.end = omega (arith, c.end.ensures) ∙ ap (λ (e : EventsState). e.end) known in
-    c.in_ok-events.ensures.numbered ∙ ap (λ (n : ℕ). numbers_between 1 n) end
+    let first : max 1 (c.self.inside.events.line + 1) ≡ 1 = omega (arith, c.self.invariant) in
+    c.in_ok-events.ensures.numbered ∙ ap (λ (n : ℕ). numbers_between n (min c.end.result c.self.inside.events.end)) first ∙ ap (λ (n : ℕ). numbers_between 1 n) end
 
 pub returns-in_err-events-clause-refused : goal.returns-in_err-events-clause-refused
 returns-in_err-events-clause-refused g c is =
     let known : c.self.inside.events.end ≡ c.args.self.now.events.end = ap (λ (s : SeenState). s.events.end) c.self.view_is in
-    omega (arith, c.in_err-events.ensures.refused refl, c.end.ensures, known)
+    omega (arith, c.in_err-events.ensures.refused refl, c.end.ensures, known, c.self.invariant)
 
 pub returns-in_err-events-clause-none : goal.returns-in_err-events-clause-none
 returns-in_err-events-clause-none g c none =
     let known : c.self.inside.events.end ≡ c.args.self.now.events.end = ap (λ (s : SeenState). s.events.end) c.self.view_is in
-    c.scan.ensures.none (λ (has : HasBetween 1 c.end.result c.self.inside.events.end). omega (arith, has, c.end.ensures, known, none))
+    c.scan.ensures.none (λ (has : HasBetween 1 c.end.result c.self.inside.events.line c.self.inside.events.end). omega (arith, has, c.end.ensures, known, none))
 
 pub returns-clause-none : goal.returns-clause-none
 returns-clause-none g c none =
     let known : c.self.inside.events.end ≡ c.args.self.now.events.end = ap (λ (s : SeenState). s.events.end) c.self.view_is in
-    c.scan.ensures.none (λ (has : HasBetween 1 c.end.result c.self.inside.events.end). omega (arith, has, c.end.ensures, known, none))
+    c.scan.ensures.none (λ (has : HasBetween 1 c.end.result c.self.inside.events.line c.self.inside.events.end). omega (arith, has, c.end.ensures, known, none))

@@ -1,4 +1,4 @@
-use Rattle.std.proofs.Common.{◌≡◌, max, min, refl, ap, subst, ◌∙◌}
+use Rattle.std.proofs.Common.{◌≡◌, ℕ, ◌+◌, max, min, refl, ap, subst, ◌∙◌}
 use Rattle.std.specs.Prelude.{Err}
 use Rattle.std.proofs.lemmas.Result.{err_from_is_err_and}
 use Rattle.prov_store.specs.Scanning.{HasBetween, numbers_between}
@@ -23,16 +23,20 @@ returns-clause-events g c told seen state stands =
 pub returns-clause-numbered : goal.returns-clause-numbered
 returns-clause-numbered g c =
     c.in_ok-events.ensures.numbered
+    ∙ ap (λ (n : ℕ). numbers_between (max c.args.from (n + 1)) (min c.args.to c.self.inside.events.end)) c.self.invariant
     ∙ ap (λ (s : SeenState). numbers_between (max c.args.from 1) (min c.args.to s.events.end)) c.self.view_is
 
 pub returns-in_err-events-clause-refused : goal.returns-in_err-events-clause-refused
 returns-in_err-events-clause-refused g c is =
-    subst (λ (s : SeenState). HasBetween c.args.from c.args.to s.events.end) c.self.view_is (c.in_err-events.ensures.refused refl)
+    subst (λ (s : SeenState). HasBetween c.args.from c.args.to 0 s.events.end) c.self.view_is
+    (subst (λ (n : ℕ). HasBetween c.args.from c.args.to n c.self.inside.events.end) c.self.invariant (c.in_err-events.ensures.refused refl))
 
 pub returns-in_err-events-clause-none : goal.returns-in_err-events-clause-none
 returns-in_err-events-clause-none g c none =
-    c.scan.ensures.none (λ has. none (subst (λ (s : SeenState). HasBetween c.args.from c.args.to s.events.end) c.self.view_is has))
+    c.scan.ensures.none (λ has. none (subst (λ (s : SeenState). HasBetween c.args.from c.args.to 0 s.events.end) c.self.view_is
+    (subst (λ (n : ℕ). HasBetween c.args.from c.args.to n c.self.inside.events.end) c.self.invariant has)))
 
 pub returns-clause-none : goal.returns-clause-none
 returns-clause-none g c none =
-    c.scan.ensures.none (λ has. none (subst (λ (s : SeenState). HasBetween c.args.from c.args.to s.events.end) c.self.view_is has))
+    c.scan.ensures.none (λ has. none (subst (λ (s : SeenState). HasBetween c.args.from c.args.to 0 s.events.end) c.self.view_is
+    (subst (λ (n : ℕ). HasBetween c.args.from c.args.to n c.self.inside.events.end) c.self.invariant has)))
