@@ -1,4 +1,5 @@
 use Rattle.std.proofs.Common.{◌≡◌, ◌+◌, false, rules, refl, sym, ap, subst, ◌∙◌}
+use Rattle.record_codec.specs.declared.TheConstants.{FORMAT_VERSION}
 use Rattle.std.specs.Prelude.{Some}
 use Rattle.flowfile_record.specs.Stored.{kept_of}
 use Rattle.record_codec.specs.declared.TheConstants.{FORMAT_VERSION}
