@@ -1,7 +1,7 @@
 use Rattle.std.proofs.Common.{◌≡◌, ◌+◌, false, rules, refl, sym, ap, subst, ◌∙◌}
+use Rattle.record_codec.specs.declared.TheConstants.{FORMAT_VERSION}
 use Rattle.std.specs.Prelude.{Some}
 use Rattle.flowfile_record.specs.Stored.{kept_of}
-use Rattle.record_codec.specs.declared.TheConstants.{FORMAT_VERSION}
 use Rattle.flowfile_wal.specs.Steps.{LogState}
 use Rattle.flowfile_wal.proofs.Beginnings.{begun_in}
 use Rattle.store_core.specs.Store.{StoreState, store_in, IsKeptOn}
