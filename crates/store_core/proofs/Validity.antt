@@ -304,9 +304,9 @@ module _ (contents : ContentRef → List ℕ) (events : List Event) (k : Kept) w
         (λ i d lt. ordered contents events k is (get_or (enumerate_from 0 k.connections) i d).0);
     batches = λ one other batch has _. absurd (no_batch one batch has);
     events = record {
-      line = omega (arith, is.encoded.line);
-      numbers = in_row ∙ ap (λ n. range_with_len (n + 1) (length events)) (sym is.encoded.line);
-      last_event = omega (arith, last, is.encoded.line);
+      line = omega (arith, (is.encoded.first refl).1);
+      numbers = in_row ∙ ap (λ n. range_with_len (n + 1) (length events)) (sym (is.encoded.first refl).1);
+      last_event = omega (arith, last, (is.encoded.first refl).1);
     };
     kin = refl;
   }
