@@ -24,15 +24,11 @@ use Rattle.engine_queues.specs.Queues.{AreQueuesOf}
 
 -- ---- what is known before
 
--- the files that are out live
-abbrev pub AreLive : Kept → (out : List ℕ) → Type 0
-AreLive k out = All (λ number. IsSome (active_of number k.files)) out
-
--- the queues are those of what is kept, and a session may be settled there, whichever files are out
+-- The queues are those of what is kept, and a session may be settled there, whichever live files are out.
 pub record MaySettleOver (flow : Flow) (k : Kept) (out : List ℕ) (settled : Settled) (queues : List QueueState)
     : Type 0 where
   pub of_kept : AreQueuesOf flow k out queues
-  pub live : AreLive k out
+  pub live : All (λ number. IsSome (active_of number k.files)) out
   pub connections : length k.connections ≡ length flow.connections
   pub consistent : IsConsistent k
   pub no_batches : k.batches ≡ []
