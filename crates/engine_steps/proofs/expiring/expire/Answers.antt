@@ -17,6 +17,7 @@ use Rattle.store_core.specs.declared.error.StoreError.{StoreError}
 use Rattle.engine_queues.specs.Settling.{MayTakeFrom}
 use Rattle.run_law.proofs.Writing.{touches_log}
 use Rattle.engine_steps.proofs.Tends.{committed, committed_between, kept_after, limit_of, passes, refuses}
+use Rattle.engine_steps.proofs.Expired.{due_kept}
 use Rattle.engine_steps.proofs.expiring.expire.Goals as goal
 
 pub returns-in_err-prepared-clause-step : goal.returns-in_err-prepared-clause-step
@@ -152,3 +153,8 @@ pub commit-requires-clause-digests : goal.commit-requires-clause-digests
 commit-requires-clause-digests g c κs within telling =
     subst (λ (s : Settled). HaveDigests (content_in (g.D.Disk.held c.args.disk.now)) s.placed) (sym (c.in_ok-prepared.ensures.prepared.0 ∙ c.in_ok-expiry.ensures.may.expires.as_session))
     (All-nil (λ (p : Placed). is_stored p.fresh ≡ true → sha256 (content_in (g.D.Disk.held c.args.disk.now) p.file.content) ≡ p.file.content.digest))
+
+pub settle_expiry-requires-clause-due : goal.settle_expiry-requires-clause-due
+settle_expiry-requires-clause-due g c =
+    due_kept c.what_is_kept_is_seen.ensures.shown c.args.flow.now (kept_by c.args.store.now) c.args.queues.now c.args.expiry.connection c.args.expiry.numbers c.args.moment
+    c.holds_its_state.ensures.kept.0 c.requires.work.work.flow_is c.requires.work.are c.requires.due
