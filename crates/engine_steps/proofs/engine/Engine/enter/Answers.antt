@@ -1,4 +1,4 @@
-use Rattle.std.proofs.Common.{◌≡◌, ◌<◌, ◌≤◌, ap, ◌∙◌, sym, subst, refl, List, ℕ, IsTrue, length, arith, rules, ⊎_elim, inl, inr, true≢false}
+use Rattle.std.proofs.Common.{◌≡◌, ◌<◌, ◌≤◌, ap, ◌∙◌, sym, subst, refl, List, ℕ, length, arith, rules, ⊎_elim, inl, inr, true≢false}
 use Rattle.std.specs.Prelude.{Err, IfSome, IsErrOf, None, Option, Result, Some, slice_get}
 use Rattle.std.proofs.lemmas.Result.{err_from_is_err_and}
 use Rattle.flowfile_record.specs.NamedFile.{NamedFile}

@@ -1,5 +1,5 @@
-use Rattle.std.proofs.Common.{rules, ◌≡◌, sym, subst, refl}
-use Rattle.std.specs.Prelude.{IfOk, IsTrue, Result}
+use Rattle.std.proofs.Common.{sym, subst, refl}
+use Rattle.std.specs.Prelude.{IfOk, IsTrue}
 use Rattle.content_repo.specs.Claims.{content_in}
 use Rattle.store_core.specs.Store.{kept_by}
 use Rattle.engine_session.specs.Job.{MayHand}
@@ -7,7 +7,6 @@ use Rattle.engine_session.specs.declared.job.Job.{Job}
 use Rattle.engine_steps.specs.Engine.{AreTakeable, EngineState}
 use Rattle.engine_steps.specs.Handing.{JobIsHanded, MayBeTaken}
 use Rattle.engine_steps.specs.Standing.{HandedStands}
-use Rattle.engine_steps.specs.declared.error.EngineError.{EngineError}
 use Rattle.engine_steps.proofs.Chosen.{may_hand, next_is_left}
 use Rattle.engine_steps.proofs.NextJob.{next_session}
 use Rattle.engine_steps.proofs.StandsStill.{stands_so}

@@ -1,4 +1,4 @@
-use Rattle.std.proofs.Common.{rules, ◌≡◌, sym, ◌∙◌, subst, ap, List, ℕ}
+use Rattle.std.proofs.Common.{rules, ◌≡◌, sym, ◌∙◌, subst, List}
 use Rattle.std.specs.Prelude.{Some}
 use Rattle.disk_trait.specs.Files.{Files}
 use Rattle.flowfile_record.specs.NamedFile.{NamedFile}
