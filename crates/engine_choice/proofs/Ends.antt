@@ -1,8 +1,9 @@
 -- Where no file has expired and no session comes, it ends as the machine does.
-use Rattle.std.proofs.Common.{◌≡◌, ℕ, ◌+◌, ◌==◌, ◌&&◌, ◌||◌, not, Bool, true, false, cond, List, [], ◌∷◌, ◌++◌, length, map, take, drop, min, refl, sym, ap, subst, ◌∙◌, arith, take-append-drop}
-use Rattle.std.specs.Prelude.{nat_lt, Option, Some, None, filter, find, is_some, option_map, option_and_then, slice_get, slice_index, bytes_eq}
+use Rattle.std.proofs.Common.{◌≡◌, ℕ, zero, suc, ◌+◌, ◌<◌, ◌≤◌, ◌==◌, ◌&&◌, ◌||◌, not, Bool, true, false, cond, List, [], ◌∷◌, ◌++◌, length, map, take, drop, min, refl, sym, ap, subst, ◌∙◌, arith, take-append-drop}
+use Rattle.std.specs.Prelude.{All, nat_le, nat_lt, Option, Some, None, filter, find, is_some, option_map, option_and_then, slice_get, slice_index, bytes_eq}
 use Rattle.std.specs.List.{cons_option, enumerate_from, filter_map, flat_map, list_all, list_any, reduce}
-use Rattle.std.proofs.lemmas.Bool.{lt-ltb, true≢false}
+use Rattle.std.proofs.lemmas.Bool.{and_parts, leb-true, lt-ltb, true≢false}
+use Rattle.std.proofs.lemmas.List.Elements.{All-head, All-tail}
 use Rattle.machine_model.specs.declared.flow.Connection.{Connection}
 use Rattle.machine_model.specs.declared.flow.Flow.{Flow}
 use Rattle.machine_model.specs.declared.flow.Processor.{Processor}
@@ -13,20 +14,22 @@ use Rattle.machine_model.specs.Acting.{passes}
 use Rattle.machine_model.specs.Due.{at_place, due_expiry, expired_numbers, some_numbers}
 use Rattle.machine_model.specs.Files.{queues_of}
 use Rattle.machine_model.specs.Quiet.{gives_a_pick, has_source, holds_back, holds_back_any, is_held_back, is_nothing_due_in, nothing_due, quiet_but_for_swaps, blocked_but_for_swaps, wanting, wants}
-use Rattle.machine_model.specs.Kinds.{is_source, take_rule_of}
+use Rattle.machine_model.specs.declared.limits.TheConstants.{PENALTY_MAX, TASKS_MAX}
+use Rattle.machine_model.specs.Kinds.{is_among, is_source, relationships_of, take_rule_of}
 use Rattle.machine_model.specs.Order.{eligible_files}
+use Rattle.machine_model.specs.Sound.{are_distinct_texts, is_id, is_sound_processor, within}
 use Rattle.machine_model.specs.State.{State, World}
 use Rattle.machine_model.specs.Taking.{picks}
 use Rattle.machine_model.specs.Stepping.{may_get}
 use Rattle.machine_model.specs.View.{FileView, QueueView, is_penalised}
 use Rattle.engine_queues.specs.Picking.{first_pick}
-use Rattle.engine_queues.specs.Laws.{BlockedIsSeen, QuietIsSeen, SeesTheSame, wants_by}
+use Rattle.engine_queues.specs.Laws.{BlockedIsSeen, QuietIsSeen, wants_by}
 use Rattle.engine_choice.specs.declared.choice.Ending.{Ending}
 use Rattle.engine_choice.specs.declared.choice.Ending.TheVariants.{Blocked, Quiet, Rest}
 use Rattle.engine_choice.specs.declared.choice.Taking.{Taking}
 use Rattle.engine_choice.specs.declared.choice.Taking.TheVariants.{Files, Generate, Receive}
-use Rattle.engine_choice.specs.Choice.{choice_at, choice_of, coming_of, ending_by, ending_of, first_blocking, first_penalty_end, fits_content, in_turn, is_ready, next_choice, place_behind, takers, taking_by, taking_of}
-use Rattle.engine_choice.specs.Laws.{EndsAreMachineEnds, IsEndAt, IsMachineEnd}
+use Rattle.engine_choice.specs.Choice.{Known, may_begin, choice_at, choice_of, coming_of, ending_by, ending_of, first_blocking, first_penalty_end, fits_content, in_turn, is_ready, next_choice, place_behind, takers, taking_by, taking_of}
+use Rattle.engine_choice.specs.Laws.{EndsAreMachineEnds, IsEndAt, IsKnownAtRest, IsMachineEnd}
 use Rattle.engine_choice.proofs.Found.{Each, any-append, each-weaker, none-found-any}
 use Rattle.engine_choice.proofs.Sessions.{stands-among}
 
@@ -64,31 +67,31 @@ found-passes {X} test (y ∷ xs) x is = by_test (test y) refl is (λ later. foun
     by_test true holds is rest = let same : y ≡ x = cc in ap test (sym same) ∙ holds
     by_test false fails is rest = rest is
 
-module _ (flow : Flow) (queues : ℕ → QueueView) (counts : List ℕ) (coming : List (List ℕ)) (moment : ℕ) where
+module _ (flow : Flow) (known : Known) where
   abbrev ready : ℕ × Processor → Bool
-  ready = is_ready flow queues counts coming moment
+  ready = is_ready flow known
 
   abbrev takes : ℕ × Processor → Bool
-  takes p = is_some (taking_of flow queues counts coming moment p)
+  takes p = is_some (taking_of flow known p)
 
-  ready-chooses : (p : ℕ × Processor) → is_ready flow queues counts coming moment p ≡ true → choice_of flow queues counts coming moment p ≡ None → ⊥
-  ready-chooses p is none = by_parts (taking_of flow queues counts coming moment p) (is_held_back flow queues p) is none
+  ready-chooses : (p : ℕ × Processor) → is_ready flow known p ≡ true → choice_of flow known p ≡ None → ⊥
+  ready-chooses p is none = by_parts (taking_of flow known p) (may_begin flow known p) is none
     where
-      by_parts : (t : Option Taking) (held : Bool) → (is_some t && not held) ≡ true
-          → cond held None (option_map (choice_at p.0) t) ≡ None → ⊥
-      by_parts None held is none = true≢false (sym is)
-      by_parts (Some t) true is none = true≢false (sym is)
-      by_parts (Some t) false is none = cc
+      by_parts : (t : Option Taking) (begins : Bool) → (is_some t && begins) ≡ true
+          → cond begins (option_map (choice_at p.0) t) None ≡ None → ⊥
+      by_parts None begins is none = true≢false (sym is)
+      by_parts (Some t) false is none = true≢false (sym is)
+      by_parts (Some t) true is none = cc
 
-  none-ready-found : (last : Option ℕ) → next_choice flow queues counts coming moment last ≡ None → find ready (in_turn last (enumerate_from 0 flow.processors)) ≡ None
+  none-ready-found : (last : Option ℕ) → next_choice flow known last ≡ None → find ready (in_turn last (enumerate_from 0 flow.processors)) ≡ None
   none-ready-found last none = by_found (find ready (in_turn last (enumerate_from 0 flow.processors))) refl none
     where
-      by_found : (o : Option (ℕ × Processor)) → find ready (in_turn last (enumerate_from 0 flow.processors)) ≡ o → option_and_then (choice_of flow queues counts coming moment) o ≡ None
+      by_found : (o : Option (ℕ × Processor)) → find ready (in_turn last (enumerate_from 0 flow.processors)) ≡ o → option_and_then (choice_of flow known) o ≡ None
           → find ready (in_turn last (enumerate_from 0 flow.processors)) ≡ None
       by_found None e none = e
       by_found (Some p) e none = absurd (ready-chooses p (found-passes ready (in_turn last (enumerate_from 0 flow.processors)) p e) none)
 
-  none-ready : (last : Option ℕ) → next_choice flow queues counts coming moment last ≡ None → list_any ready (enumerate_from 0 flow.processors) ≡ false
+  none-ready : (last : Option ℕ) → next_choice flow known last ≡ None → list_any ready (enumerate_from 0 flow.processors) ≡ false
   none-ready last none =
       let all = enumerate_from 0 flow.processors in
       let n = place_behind last in
@@ -97,16 +100,21 @@ module _ (flow : Flow) (queues : ℕ → QueueView) (counts : List ℕ) (coming 
       ∙ ap (λ b. b || list_any ready (drop n all)) (none-right (list_any ready (drop n all)) (list_any ready (take n all)) fails)
       ∙ none-left (list_any ready (drop n all)) (list_any ready (take n all)) fails
 
-  -- each that has something to take is held back
-  takers-held : (ps : List (ℕ × Processor)) → list_any ready ps ≡ false → list_all (is_held_back flow queues) (filter takes ps) ≡ true
-  takers-held [] none = refl
-  takers-held (p ∷ ps) none =
-      by_parts (takes p) (is_held_back flow queues p) refl (none-left (ready p) (list_any ready ps) none) (takers-held ps (none-right (ready p) (list_any ready ps) none))
+  -- each that has something to take is held back, where each has a task that is free
+  abbrev is_free : ℕ × Processor → Bool
+  is_free p = nat_lt (slice_index known.busy p.0) p.1.tasks
+
+  takers-held : (ps : List (ℕ × Processor)) → Each (λ p. is_free p ≡ true) ps → list_any ready ps ≡ false → list_all (is_held_back flow known.queues) (filter takes ps) ≡ true
+  takers-held [] free none = refl
+  takers-held (p ∷ ps) free none =
+      by_parts (takes p) (is_held_back flow known.queues p) refl
+      (ap (λ b. takes p && (b && not (is_held_back flow known.queues p))) (sym free.0) ∙ none-left (ready p) (list_any ready ps) none)
+      (takers-held ps free.1 (none-right (ready p) (list_any ready ps) none))
     where
-      by_parts : (t held : Bool) → is_held_back flow queues p ≡ held → (t && not held) ≡ false → list_all (is_held_back flow queues) (filter takes ps) ≡ true
-          → list_all (is_held_back flow queues) (cond t (p ∷ filter takes ps) (filter takes ps)) ≡ true
+      by_parts : (t held : Bool) → is_held_back flow known.queues p ≡ held → (t && (true && not held)) ≡ false → list_all (is_held_back flow known.queues) (filter takes ps) ≡ true
+          → list_all (is_held_back flow known.queues) (cond t (p ∷ filter takes ps) (filter takes ps)) ≡ true
       by_parts false held e isnt rest = rest
-      by_parts true true e isnt rest = ap (λ b. b && list_all (is_held_back flow queues) (filter takes ps)) e ∙ rest
+      by_parts true true e isnt rest = ap (λ b. b && list_all (is_held_back flow known.queues) (filter takes ps)) e ∙ rest
       by_parts true false e isnt rest = absurd (true≢false isnt)
 
 any-more : {X : Type 0} (test other : X → Bool) → ((x : X) → test x ≡ true → other x ≡ true) → (xs : List X) → list_any test xs ≡ true → list_any other xs ≡ true
@@ -128,6 +136,32 @@ some-holds flow queues p ps held none =
 none-holds : (queues : ℕ → QueueView) (cs : List (ℕ × Connection)) → find (holds_back_any queues []) cs ≡ None
 none-holds queues [] = refl
 none-holds queues (c ∷ cs) = none-holds queues cs
+
+-- ---- no session is in flight
+
+none-busy : (busy : List ℕ) (place : ℕ) → All (λ n. n ≡ 0) busy → slice_index busy place ≡ 0
+none-busy [] zero idle = refl
+none-busy [] (suc place) idle = refl
+none-busy (n ∷ busy) zero idle = All-head (λ m. m ≡ 0) n busy idle
+none-busy (n ∷ busy) (suc place) idle = none-busy busy place (All-tail (λ m. m ≡ 0) n busy idle)
+
+-- a sound processor may have a session
+has-tasks : (p : Processor) → is_sound_processor p ≡ true → 0 < p.tasks
+has-tasks p sound =
+    let a = and_parts (is_id p.id && within 1 p.tasks TASKS_MAX && nat_le p.penalty PENALTY_MAX && are_distinct_texts p.terminated)
+    (list_all (λ name. is_among name (relationships_of p.kind)) p.terminated) sound in
+    let b = and_parts (is_id p.id && within 1 p.tasks TASKS_MAX && nat_le p.penalty PENALTY_MAX) (are_distinct_texts p.terminated) a.0 in
+    let c = and_parts (is_id p.id && within 1 p.tasks TASKS_MAX) (nat_le p.penalty PENALTY_MAX) b.0 in
+    let d = and_parts (is_id p.id) (within 1 p.tasks TASKS_MAX) c.0 in
+    let e = and_parts (nat_le 1 p.tasks) (nat_le p.tasks TASKS_MAX) d.1 in
+    let one : 1 ≤ p.tasks = leb-true 1 p.tasks e.0 in
+    omega (arith, one)
+
+all-free : (flow : Flow) (known : Known) → All (λ n. n ≡ 0) known.busy → (from : ℕ) (ps : List Processor) → list_all is_sound_processor ps ≡ true → Each (λ p. is_free flow known p ≡ true) (enumerate_from from ps)
+all-free flow known idle from [] sound = tt
+all-free flow known idle from (p ∷ ps) sound =
+    let parts = and_parts (is_sound_processor p) (list_all is_sound_processor ps) sound in
+    (ap (λ n. nat_lt n p.tasks) (none-busy known.busy from idle) ∙ lt-ltb 0 p.tasks (has-tasks p parts.0), all-free flow known idle (from + 1) ps parts.1)
 
 -- ---- what a processor wants is what it has to take
 
@@ -176,7 +210,7 @@ three-same : (there passes fits : Bool) → there ≡ true → (passes && fits) 
 three-same true passes fits is = refl
 three-same false passes fits is = absurd (true≢false (sym is))
 
-module _ (flow : Flow) (queues : ℕ → QueueView) (state : State) (world : World) (moment : ℕ) where
+module _ (flow : Flow) (state : State) (world : World) (known : Known) (knows : IsKnownAtRest flow state world known) where
   got-same : (filter : Option Pattern) → is_some (find (passes filter) (coming_of world)) ≡ list_any (may_get filter world) world.left
   got-same filter =
       some-found (passes filter) (coming_of world) ∙ any-filtered (passes filter) (fits_content world) world.left
@@ -186,11 +220,12 @@ module _ (flow : Flow) (queues : ℕ → QueueView) (state : State) (world : Wor
 
   -- fails rule of a source picks
   kind-wants : (kind : Kind) (place : ℕ) (pick : Option (ℕ × List ℕ)) (any : Bool) → is_some pick ≡ any → IsNoneOfSource kind any
-      → is_some (taking_by kind (coming_of world) (slice_index state.counts place) pick) ≡ (has_source kind place state world || any)
+      → is_some (taking_by kind (coming_of world) (slice_index state.counts place) 0 pick) ≡ (has_source kind place state world || any)
   kind-wants (GetFile filter) place pick any same none =
       some-mapped (λ name. Receive name) (find (passes filter) (coming_of world)) ∙ got-same filter ∙ or-none (list_any (may_get filter world) world.left) any none
   kind-wants (GenerateFlowFile count text) place pick any same none =
-      some-if (nat_lt (slice_index state.counts place) count) (Generate (slice_index state.counts place + 1)) ∙ or-none (nat_lt (slice_index state.counts place) count) any none
+      some-if (nat_lt (slice_index state.counts place + 0) count) (Generate (slice_index state.counts place + 1))
+      ∙ (let none_busy : slice_index state.counts place + 0 ≡ slice_index state.counts place = omega arith in ap (λ n. nat_lt n count) none_busy) ∙ or-none (nat_lt (slice_index state.counts place) count) any none
   kind-wants kind place pick any same none = some-mapped (λ files. Files files.0 files.1) pick ∙ same
 
   source-picks-none : (kind : Kind) (files : List FileView) → is_source kind ≡ true → is_some (picks (take_rule_of kind) files) ≡ false
@@ -198,20 +233,21 @@ module _ (flow : Flow) (queues : ℕ → QueueView) (state : State) (world : Wor
   source-picks-none (GenerateFlowFile count text) files is = refl
   source-picks-none kind files is = absurd (true≢false (sym is))
 
-  none-gives : (place : ℕ) (processor : Processor) → is_source processor.kind ≡ true → (cs : List (ℕ × Connection)) → list_any (gives_a_pick queues moment place processor) cs ≡ false
+  none-gives : (place : ℕ) (processor : Processor) → is_source processor.kind ≡ true → (cs : List (ℕ × Connection)) → list_any (gives_a_pick known.queues known.moment place processor) cs ≡ false
   none-gives place processor is [] = refl
   none-gives place processor is (c ∷ cs) =
-      let fails = source-picks-none processor.kind (eligible_files c.1.order c.1.limits moment (queues c.0).active) is in
-      ap (λ b. ((c.1.target == place) && b) || list_any (gives_a_pick queues moment place processor) cs) fails ∙ by_target (c.1.target == place) (none-gives place processor is cs)
+      let fails = source-picks-none processor.kind (eligible_files c.1.order c.1.limits known.moment (known.queues c.0).active) is in
+      ap (λ b. ((c.1.target == place) && b) || list_any (gives_a_pick known.queues known.moment place processor) cs) fails ∙ by_target (c.1.target == place) (none-gives place processor is cs)
     where
-      by_target : (b : Bool) → list_any (gives_a_pick queues moment place processor) cs ≡ false → ((b && false) || list_any (gives_a_pick queues moment place processor) cs) ≡ false
+      by_target : (b : Bool) → list_any (gives_a_pick known.queues known.moment place processor) cs ≡ false → ((b && false) || list_any (gives_a_pick known.queues known.moment place processor) cs) ≡ false
       by_target true rest = rest
       by_target false rest = rest
 
-  pub wants-takes : PicksAreGiven → (p : ℕ × Processor) → takes flow queues state.counts (coming_of world) moment p ≡ wants_by flow queues state world moment p
+  pub wants-takes : PicksAreGiven → (p : ℕ × Processor) → takes flow known p ≡ wants_by flow known.queues state world known.moment p
   wants-takes given p =
-      kind-wants p.1.kind p.0 (first_pick flow queues moment p) (list_any (gives_a_pick queues moment p.0 p.1) (enumerate_from 0 flow.connections))
-      (given flow queues moment p.0 p.1) (λ is. none-gives p.0 p.1 is (enumerate_from 0 flow.connections))
+      (λ i. is_some (taking_by p.1.kind (knows.coming i) (slice_index (knows.counts i) p.0) (none-busy known.busy p.0 knows.idle i) (first_pick flow known.queues known.moment p)))
+      ∙ kind-wants p.1.kind p.0 (first_pick flow known.queues known.moment p) (list_any (gives_a_pick known.queues known.moment p.0 p.1) (enumerate_from 0 flow.connections))
+      (given flow known.queues known.moment p.0 p.1) (λ is. none-gives p.0 p.1 is (enumerate_from 0 flow.connections))
 
 -- ---- nothing waits for its penalty's end
 
@@ -303,56 +339,56 @@ none-filtered test (x ∷ xs) is = by_test (test x) is (λ later. none-filtered 
 
 -- ---- the end
 
-module _ (given : PicksAreGiven) (quiet_law : QuietIsSeen) (blocked_law : BlockedIsSeen) (flow : Flow) (queues : ℕ → QueueView) (state : State) (world : World) (moment : ℕ)
-    (same : SeesTheSame flow queues (queues_of state)) (due : nothing_due flow queues moment ≡ true)
-    (held : list_all (is_held_back flow queues) (takers flow queues state.counts (coming_of world) moment) ≡ true) where
-  wanting-is : filter (wants_by flow queues state world moment) (enumerate_from 0 flow.processors) ≡ takers flow queues state.counts (coming_of world) moment
-  wanting-is = λ i. filter (λ p. sym (wants-takes flow queues state world moment given p) i) (enumerate_from 0 flow.processors)
+module _ (given : PicksAreGiven) (quiet_law : QuietIsSeen) (blocked_law : BlockedIsSeen) (flow : Flow) (state : State) (world : World) (known : Known)
+    (knows : IsKnownAtRest flow state world known) (due : nothing_due flow known.queues known.moment ≡ true)
+    (held : list_all (is_held_back flow known.queues) (takers flow known) ≡ true) where
+  wanting-is : filter (wants_by flow known.queues state world known.moment) (enumerate_from 0 flow.processors) ≡ takers flow known
+  wanting-is = λ i. filter (λ p. sym (wants-takes flow state world known knows given p) i) (enumerate_from 0 flow.processors)
 
-  blocked-at : (p : ℕ × Processor) (ps : List (ℕ × Processor)) (c : ℕ × Connection) → takers flow queues state.counts (coming_of world) moment ≡ p ∷ ps
-      → find (holds_back_any queues (p ∷ ps)) (enumerate_from 0 flow.connections) ≡ Some c → blocked_but_for_swaps flow state world moment ≡ Some c.0
+  blocked-at : (p : ℕ × Processor) (ps : List (ℕ × Processor)) (c : ℕ × Connection) → takers flow known ≡ p ∷ ps
+      → find (holds_back_any known.queues (p ∷ ps)) (enumerate_from 0 flow.connections) ≡ Some c → blocked_but_for_swaps flow state world known.moment ≡ Some c.0
   blocked-at p ps c are is =
       let wanting = wanting-is ∙ are in
-      let held_all : list_all (is_held_back flow queues) (p ∷ ps) ≡ true = ap (list_all (is_held_back flow queues)) (sym are) ∙ held in
+      let held_all : list_all (is_held_back flow known.queues) (p ∷ ps) ≡ true = ap (list_all (is_held_back flow known.queues)) (sym are) ∙ held in
       let nonempty : nat_lt 0 (length (p ∷ ps)) ≡ true = lt-ltb 0 (length (p ∷ ps)) (omega arith) in
-      let answer = option_map (λ c. c.0) (find (holds_back_any queues (p ∷ ps)) (enumerate_from 0 flow.connections)) in
-      blocked_law flow queues state world moment same
+      let answer = option_map (λ c. c.0) (find (holds_back_any known.queues (p ∷ ps)) (enumerate_from 0 flow.connections)) in
+      blocked_law flow known.queues state world known.moment knows.seen
       ∙ (λ i. let processors = wanting i in
-      cond (due i && nat_lt 0 (length processors) && list_all (is_held_back flow queues) processors)
-      (option_map (λ c. c.0) (find (holds_back_any queues processors) (enumerate_from 0 flow.connections))) None)
+      cond (due i && nat_lt 0 (length processors) && list_all (is_held_back flow known.queues) processors)
+      (option_map (λ c. c.0) (find (holds_back_any known.queues processors) (enumerate_from 0 flow.connections))) None)
       ∙ (λ i. cond (true && nonempty i && held_all i) answer None)
       ∙ ap (option_map (λ c. c.0)) is
 
-  quiet-at : takers flow queues state.counts (coming_of world) moment ≡ [] → quiet_but_for_swaps flow state world moment ≡ true
+  quiet-at : takers flow known ≡ [] → quiet_but_for_swaps flow state world known.moment ≡ true
   quiet-at none =
-      quiet_law flow queues state world moment same
-      ∙ ap (λ b. b && not (list_any (wants_by flow queues state world moment) (enumerate_from 0 flow.processors))) due
-      ∙ ap not (none-filtered (wants_by flow queues state world moment) (enumerate_from 0 flow.processors) (wanting-is ∙ none))
+      quiet_law flow known.queues state world known.moment knows.seen
+      ∙ ap (λ b. b && not (list_any (wants_by flow known.queues state world known.moment) (enumerate_from 0 flow.processors))) due
+      ∙ ap not (none-filtered (wants_by flow known.queues state world known.moment) (enumerate_from 0 flow.processors) (wanting-is ∙ none))
 
-  pub end-at : IsEndAt flow state world moment (ending_of flow queues state.counts (coming_of world) moment)
+  pub end-at : IsEndAt flow state world known.moment (ending_of flow known)
   end-at =
-      let Is : Ending → Type 0 = IsEndAt flow state world moment in
-      subst Is (ap (λ rest. ending_by rest (first_blocking flow queues state.counts (coming_of world) moment)) (sym (no-penalty flow queues moment due)))
-      (by_takers (takers flow queues state.counts (coming_of world) moment) refl)
+      let Is : Ending → Type 0 = IsEndAt flow state world known.moment in
+      subst Is (ap (λ rest. ending_by rest (first_blocking flow known)) (sym (no-penalty flow known.queues known.moment due)))
+      (by_takers (takers flow known) refl)
     where
-      by_takers : (ps : List (ℕ × Processor)) → takers flow queues state.counts (coming_of world) moment ≡ ps
-          → IsEndAt flow state world moment (ending_by None (first_blocking flow queues state.counts (coming_of world) moment))
+      by_takers : (ps : List (ℕ × Processor)) → takers flow known ≡ ps
+          → IsEndAt flow state world known.moment (ending_by None (first_blocking flow known))
       by_takers [] are =
-          let nothing : first_blocking flow queues state.counts (coming_of world) moment ≡ None =
-          ap (λ l. option_map (λ c. c.0) (find (holds_back_any queues l) (enumerate_from 0 flow.connections))) are
-          ∙ ap (option_map (λ c. c.0)) (none-holds queues (enumerate_from 0 flow.connections)) in
-          let Is : Ending → Type 0 = IsEndAt flow state world moment in
+          let nothing : first_blocking flow known ≡ None =
+          ap (λ l. option_map (λ c. c.0) (find (holds_back_any known.queues l) (enumerate_from 0 flow.connections))) are
+          ∙ ap (option_map (λ c. c.0)) (none-holds known.queues (enumerate_from 0 flow.connections)) in
+          let Is : Ending → Type 0 = IsEndAt flow state world known.moment in
           subst Is (ap (ending_by None) (sym nothing)) (quiet-at are)
-      by_takers (p ∷ ps) are = by_found (find (holds_back_any queues (p ∷ ps)) (enumerate_from 0 flow.connections)) refl
+      by_takers (p ∷ ps) are = by_found (find (holds_back_any known.queues (p ∷ ps)) (enumerate_from 0 flow.connections)) refl
         where
-          by_found : (o : Option (ℕ × Connection)) → find (holds_back_any queues (p ∷ ps)) (enumerate_from 0 flow.connections) ≡ o
-              → IsEndAt flow state world moment (ending_by None (first_blocking flow queues state.counts (coming_of world) moment))
+          by_found : (o : Option (ℕ × Connection)) → find (holds_back_any known.queues (p ∷ ps)) (enumerate_from 0 flow.connections) ≡ o
+              → IsEndAt flow state world known.moment (ending_by None (first_blocking flow known))
           by_found None e =
-              absurd (some-holds flow queues p ps (and-left (is_held_back flow queues p) (list_all (is_held_back flow queues) ps) (ap (list_all (is_held_back flow queues)) (sym are) ∙ held)) e)
+              absurd (some-holds flow known.queues p ps (and-left (is_held_back flow known.queues p) (list_all (is_held_back flow known.queues) ps) (ap (list_all (is_held_back flow known.queues)) (sym are) ∙ held)) e)
           by_found (Some c) e =
-              let it : first_blocking flow queues state.counts (coming_of world) moment ≡ Some c.0 =
-              ap (λ l. option_map (λ c. c.0) (find (holds_back_any queues l) (enumerate_from 0 flow.connections))) are ∙ ap (option_map (λ c. c.0)) e in
-              let Is : Ending → Type 0 = IsEndAt flow state world moment in
+              let it : first_blocking flow known ≡ Some c.0 =
+              ap (λ l. option_map (λ c. c.0) (find (holds_back_any known.queues l) (enumerate_from 0 flow.connections))) are ∙ ap (option_map (λ c. c.0)) e in
+              let Is : Ending → Type 0 = IsEndAt flow state world known.moment in
               subst Is (ap (ending_by None) (sym it)) (blocked-at p ps c are e)
 
 -- ---- it is quiet and blocked exactly where the machine is
@@ -406,14 +442,14 @@ module _ (flow : Flow) (state : State) (world : World) (moment : ℕ) where
   }
 
 pub ends-are-machine-ends : PicksAreGiven → QuietIsSeen → BlockedIsSeen → EndsAreMachineEnds
-ends-are-machine-ends given quiet_law blocked_law flow queues state world moment last same fresh none = by_rest (first_penalty_end flow queues moment) refl
+ends-are-machine-ends given quiet_law blocked_law flow state world known last sound knows fresh none = by_rest (first_penalty_end flow known.queues known.moment) refl
   where
-    by_rest : (rest : Option ℕ) → first_penalty_end flow queues moment ≡ rest → IsMachineEnd flow state world moment (ending_of flow queues state.counts (coming_of world) moment)
+    by_rest : (rest : Option ℕ) → first_penalty_end flow known.queues known.moment ≡ rest → IsMachineEnd flow state world known.moment (ending_of flow known)
     by_rest (Some until) is =
-        let Is : Ending → Type 0 = IsMachineEnd flow state world moment in
-        let waits : nothing_due flow (queues_of state) moment ≡ true → ⊥ = λ due. let free = sym is ∙ no-penalty flow queues moment (same.due moment ∙ due) in absurd cc in
-        subst Is (ap (λ rest. ending_by rest (first_blocking flow queues state.counts (coming_of world) moment)) (sym is)) (rests flow state world moment until waits)
+        let Is : Ending → Type 0 = IsMachineEnd flow state world known.moment in
+        let waits : nothing_due flow (queues_of state) known.moment ≡ true → ⊥ = λ due. let free = sym is ∙ no-penalty flow known.queues known.moment (knows.seen.due known.moment ∙ due) in absurd cc in
+        subst Is (ap (λ rest. ending_by rest (first_blocking flow known)) (sym is)) (rests flow state world known.moment until waits)
     by_rest None is =
-        exactly flow state world moment (ending_of flow queues state.counts (coming_of world) moment)
-        (end-at given quiet_law blocked_law flow queues state world moment same (none-due flow queues moment fresh is)
-        (takers-held flow queues state.counts (coming_of world) moment (enumerate_from 0 flow.processors) (none-ready flow queues state.counts (coming_of world) moment last none)))
+        exactly flow state world known.moment (ending_of flow known)
+        (end-at given quiet_law blocked_law flow state world known knows (none-due flow known.queues known.moment fresh is)
+        (takers-held flow known (enumerate_from 0 flow.processors) (all-free flow known knows.idle 0 flow.processors sound.processors) (none-ready flow known last none)))

@@ -1,6 +1,8 @@
 -- What is found among the items of a list, and where those stand.
-use Rattle.std.proofs.Common.{◌≡◌, ℕ, zero, suc, ◌+◌, ◌||◌, Bool, true, false, cond, List, [], ◌∷◌, ◌++◌, take, drop, refl, ap, subst, ◌∙◌, arith}
-use Rattle.std.specs.Prelude.{Option, Some, None, find, filter, slice_get}
+use Rattle.std.proofs.Common.{◌≡◌, ℕ, zero, suc, ◌+◌, ◌||◌, Bool, true, false, cond, List, [], ◌∷◌, ◌++◌, take, drop, inl, inr, refl, ap, subst, ◌∙◌, arith}
+use Rattle.std.specs.Prelude.{All, Option, Some, None, find, filter, slice_get}
+use Rattle.std.proofs.lemmas.List.Elements.{All-head, All-tail}
+use Rattle.machine_model.proofs.Among.{Among}
 use Rattle.std.specs.List.{cons_option, filter_map, enumerate_from, list_any}
 
 -- each item of a list
@@ -25,6 +27,15 @@ each-drop P (suc n) (x ∷ xs) each = each-drop P n xs each.1
 pub each-weaker : {X : Type 0} (P Q : X → Type 0) → ((x : X) → P x → Q x) → (xs : List X) → Each P xs → Each Q xs
 each-weaker P Q weaker [] each = tt
 each-weaker P Q weaker (x ∷ xs) each = (weaker x each.0, each-weaker P Q weaker xs each.1)
+
+pub each-of : {X : Type 0} (P : X → Type 0) (xs : List X) → All P xs → Each P xs
+each-of P [] all = tt
+each-of P (x ∷ xs) all = (All-head P x xs all, each-of P xs (All-tail P x xs all))
+
+pub each-among : {X : Type 0} (P : X → Type 0) (x : X) (xs : List X) → Each P xs → Among x xs → P x
+each-among P x [] each h = absurd h
+each-among P x (y ∷ xs) each (inl is) = subst P is each.0
+each-among P x (y ∷ xs) each (inr h) = each-among P x xs each.1 h
 
 -- those that pass a test
 pub each-passed : {X : Type 0} (P : X → Type 0) (test : X → Bool) (xs : List X) → Each P xs → Each (λ x. P x × (test x ≡ true)) (filter test xs)

@@ -1,4 +1,6 @@
+pub mod AtRest
 pub mod Ends
+pub mod ForCallers
 pub mod Found
 pub mod Penalties
 pub mod Seen

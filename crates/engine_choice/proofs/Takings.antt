@@ -22,23 +22,23 @@ pub mapped-twice : {X Y Z : Type 0} (f : X → Y) (g : Y → Z) (o : Option X) �
 mapped-twice f g None = refl
 mapped-twice f g (Some x) = refl
 
-pub receives : (kind : Kind) (filter : Option Pattern) (names : List (List ℕ)) (made : ℕ) (pick : Option (ℕ × List ℕ)) (first : Option (List ℕ)) (taking : Option Taking)
-    → kind ≡ GetFile filter → first ≡ first_passed kind names → taking ≡ option_map (λ name. Receive name) first → taking ≡ taking_by kind names made pick
-receives kind filter names made pick first taking is found takes =
-    let P : Kind → Type 0 = λ k. first ≡ first_passed k names → taking ≡ taking_by k names made pick in
+pub receives : (kind : Kind) (filter : Option Pattern) (names : List (List ℕ)) (made busy : ℕ) (pick : Option (ℕ × List ℕ)) (first : Option (List ℕ)) (taking : Option Taking)
+    → kind ≡ GetFile filter → first ≡ first_passed kind names → taking ≡ option_map (λ name. Receive name) first → taking ≡ taking_by kind names made busy pick
+receives kind filter names made busy pick first taking is found takes =
+    let P : Kind → Type 0 = λ k. first ≡ first_passed k names → taking ≡ taking_by k names made busy pick in
     let here : P (GetFile filter) = λ found. takes ∙ ap (option_map (λ name. Receive name)) found in
     subst P (sym is) here found
 
-pub generates : (kind : Kind) (count : ℕ) (text : Expr) (names : List (List ℕ)) (made : ℕ) (pick : Option (ℕ × List ℕ)) (taking : Option Taking)
-    → kind ≡ GenerateFlowFile count text → taking ≡ cond (nat_lt made count) (Some (Generate (made + 1))) None → taking ≡ taking_by kind names made pick
-generates kind count text names made pick taking is takes =
-    let P : Kind → Type 0 = λ k. taking ≡ taking_by k names made pick in
+pub generates : (kind : Kind) (count : ℕ) (text : Expr) (names : List (List ℕ)) (made busy : ℕ) (pick : Option (ℕ × List ℕ)) (taking : Option Taking)
+    → kind ≡ GenerateFlowFile count text → taking ≡ cond (nat_lt (made + busy) count) (Some (Generate (made + 1))) None → taking ≡ taking_by kind names made busy pick
+generates kind count text names made busy pick taking is takes =
+    let P : Kind → Type 0 = λ k. taking ≡ taking_by k names made busy pick in
     let here : P (GenerateFlowFile count text) = takes in
     subst P (sym is) here
 
-pub takes-picked : (kind : Kind) (names : List (List ℕ)) (made : ℕ) (pick : Option (ℕ × List ℕ)) (taking : Option Taking)
+pub takes-picked : (kind : Kind) (names : List (List ℕ)) (made busy : ℕ) (pick : Option (ℕ × List ℕ)) (taking : Option Taking)
     → ((filter : Option Pattern) → kind ≡ GetFile filter → ⊥) → ((count : ℕ) (text : Expr) → kind ≡ GenerateFlowFile count text → ⊥)
-    → taking ≡ option_map (λ files. Files files.0 files.1) pick → taking ≡ taking_by kind names made pick
-takes-picked (GetFile filter) names made pick taking not_get not_made is = absurd (not_get filter refl)
-takes-picked (GenerateFlowFile count text) names made pick taking not_get not_made is = absurd (not_made count text refl)
-takes-picked kind names made pick taking not_get not_made is = is
+    → taking ≡ option_map (λ files. Files files.0 files.1) pick → taking ≡ taking_by kind names made busy pick
+takes-picked (GetFile filter) names made busy pick taking not_get not_made is = absurd (not_get filter refl)
+takes-picked (GenerateFlowFile count text) names made busy pick taking not_get not_made is = absurd (not_made count text refl)
+takes-picked kind names made busy pick taking not_get not_made is = is

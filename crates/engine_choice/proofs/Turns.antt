@@ -1,5 +1,5 @@
 -- The first processor in turn, from what is known of the processors from one place to another.
-use Rattle.std.proofs.Common.{◌≡◌, ◌⊎◌, inl, inr, ℕ, zero, suc, ◌+◌, ◌-◌, ◌<◌, ◌≤◌, ◌&&◌, not, nat_lt, Bool, true, false, cond, List, [], ◌∷◌, ◌++◌, length, map, take, drop, refl, sym, ap, subst, ◌∙◌, add-one, arith}
+use Rattle.std.proofs.Common.{◌≡◌, ◌⊎◌, inl, inr, ℕ, zero, suc, ◌+◌, ◌-◌, ◌<◌, ◌≤◌, ◌&&◌, nat_lt, Bool, true, false, cond, List, [], ◌∷◌, ◌++◌, length, map, take, drop, refl, sym, ap, subst, ◌∙◌, add-one, arith}
 use Rattle.std.specs.Prelude.{IfOk, Result, Ok, Err, Option, Some, None, filter, find, is_some, option_map, option_and_then, slice_get}
 use Rattle.std.specs.List.{enumerate_from}
 use Rattle.std.proofs.lemmas.Bool.{cases_order, ltb-false}
@@ -7,11 +7,9 @@ use Rattle.std.proofs.lemmas.List.FromFn.{length-enumerate_from}
 use Rattle.std.proofs.lemmas.Option.{slice_get_cases, slice_get_within}
 use Rattle.machine_model.specs.declared.flow.Flow.{Flow}
 use Rattle.machine_model.specs.declared.flow.Processor.{Processor}
-use Rattle.machine_model.specs.Quiet.{is_held_back}
-use Rattle.machine_model.specs.View.{QueueView}
 use Rattle.engine_choice.specs.declared.choice.Choice.{Choice}
 use Rattle.engine_choice.specs.declared.choice.Taking.{Taking}
-use Rattle.engine_choice.specs.Choice.{choice_at, choice_of, from_place, in_turn, is_ready, next_choice, place_within, taking_of}
+use Rattle.engine_choice.specs.Choice.{Known, choice_at, choice_of, from_place, in_turn, is_ready, may_begin, next_choice, place_within, taking_of}
 use Rattle.engine_choice.specs.First.{GiveNothing, IsFirstGiven, IsGivenBy}
 use Rattle.engine_queues.proofs.First.{none-found, first-found}
 
@@ -113,29 +111,29 @@ nothing-more {X} {Y} gives xs start place nothing is k x from lt there = by_plac
 
 -- ---- the first processor that is ready
 
-module _ (flow : Flow) (queues : ℕ → QueueView) (counts : List ℕ) (coming : List (List ℕ)) (moment : ℕ) where
+module _ (flow : Flow) (known : Known) where
   abbrev ready : ℕ × Processor → Bool
-  ready = is_ready flow queues counts coming moment
+  ready = is_ready flow known
 
   abbrev gives : ℕ × Processor → Option Choice
-  gives = choice_of flow queues counts coming moment
+  gives = choice_of flow known
 
-  not-ready : (p : ℕ × Processor) → choice_of flow queues counts coming moment p ≡ None → is_ready flow queues counts coming moment p ≡ false
-  not-ready p none = by_parts (taking_of flow queues counts coming moment p) (is_held_back flow queues p) none
+  not-ready : (p : ℕ × Processor) → choice_of flow known p ≡ None → is_ready flow known p ≡ false
+  not-ready p none = by_parts (taking_of flow known p) (may_begin flow known p) none
     where
-      by_parts : (t : Option Taking) (held : Bool) → cond held None (option_map (choice_at p.0) t) ≡ None → (is_some t && not held) ≡ false
-      by_parts None held none = refl
-      by_parts (Some t) true none = refl
-      by_parts (Some t) false none = cc
+      by_parts : (t : Option Taking) (begins : Bool) → cond begins (option_map (choice_at p.0) t) None ≡ None → (is_some t && begins) ≡ false
+      by_parts None begins none = refl
+      by_parts (Some t) true none = cc
+      by_parts (Some t) false none = refl
 
-  is-ready : (p : ℕ × Processor) (choice : Choice) → choice_of flow queues counts coming moment p ≡ Some choice → is_ready flow queues counts coming moment p ≡ true
-  is-ready p choice is = by_parts (taking_of flow queues counts coming moment p) (is_held_back flow queues p) is
+  is-ready : (p : ℕ × Processor) (choice : Choice) → choice_of flow known p ≡ Some choice → is_ready flow known p ≡ true
+  is-ready p choice is = by_parts (taking_of flow known p) (may_begin flow known p) is
     where
-      by_parts : (t : Option Taking) (held : Bool) → cond held None (option_map (choice_at p.0) t) ≡ Some choice → (is_some t && not held) ≡ true
+      by_parts : (t : Option Taking) (begins : Bool) → cond begins (option_map (choice_at p.0) t) None ≡ Some choice → (is_some t && begins) ≡ true
       by_parts None true is = cc
       by_parts None false is = cc
-      by_parts (Some t) true is = cc
-      by_parts (Some t) false is = refl
+      by_parts (Some t) true is = refl
+      by_parts (Some t) false is = cc
 
   none-behind : (start : ℕ) → GiveNothing gives flow.processors start (length flow.processors) → find ready (drop start (enumerate_from 0 flow.processors)) ≡ None
   none-behind start nothing =
@@ -196,7 +194,7 @@ module _ (flow : Flow) (queues : ℕ → QueueView) (counts : List ℕ) (coming 
       ∙ ap (λ n. from_place (place_within n last) (enumerate_from 0 flow.processors)) (length-enumerate_from 0 flow.processors)
 
   pub chosen-behind : (last : Option ℕ) (choice : Choice) → IsGivenBy gives flow.processors (place_within (length flow.processors) last) (length flow.processors) choice
-      → Some choice ≡ next_choice flow queues counts coming moment last
+      → Some choice ≡ next_choice flow known last
   chosen-behind last choice it =
       let all = enumerate_from 0 flow.processors in
       let start = place_within (length flow.processors) last in
@@ -204,7 +202,7 @@ module _ (flow : Flow) (queues : ℕ → QueueView) (counts : List ℕ) (coming 
       ∙ ap (option_and_then gives) (find-append-some ready (drop start all) (take start all) (it.place, it.item) (first-behind start choice it)) ∙ it.is_given)
 
   pub chosen-before : (last : Option ℕ) (found : Option Choice) → GiveNothing gives flow.processors (place_within (length flow.processors) last) (length flow.processors)
-      → IsFirstGiven gives flow.processors 0 (place_within (length flow.processors) last) found → found ≡ next_choice flow queues counts coming moment last
+      → IsFirstGiven gives flow.processors 0 (place_within (length flow.processors) last) found → found ≡ next_choice flow known last
   chosen-before last found nothing is =
       let all = enumerate_from 0 flow.processors in
       let start = place_within (length flow.processors) last in

@@ -1,5 +1,5 @@
 -- That the session that comes next is one of the machine, and that where none comes the machine is quiet or blocked.
-use Rattle.std.specs.Prelude.{◌≡◌, ◌↔◌, ℕ, Bool, true, List, [], Option, None, Some, slice_get}
+use Rattle.std.specs.Prelude.{◌≡◌, ◌↔◌, ℕ, Bool, true, false, List, [], All, Contains, Option, None, Some, slice_get}
 use Rattle.machine_model.specs.declared.flow.Flow.{Flow}
 use Rattle.machine_model.specs.declared.flow.Processor.{Processor}
 use Rattle.machine_model.specs.declared.given.Given.{Given}
@@ -7,17 +7,19 @@ use Rattle.machine_model.specs.Due.{due_expiry}
 use Rattle.machine_model.specs.Files.{queues_of}
 use Rattle.machine_model.specs.Kinds.{take_rule_of}
 use Rattle.machine_model.specs.Quiet.{blocked_but_for_swaps, quiet_but_for_swaps}
+use Rattle.machine_model.specs.Sound.{IsSound}
 use Rattle.machine_model.specs.State.{QueuedFile, State, World}
 use Rattle.machine_model.specs.Stepping.{given_in, is_there, taken_files}
 use Rattle.machine_model.specs.Valid.{IsValid}
 use Rattle.machine_model.specs.View.{QueueView}
+use Rattle.engine_queues.specs.Beside.{beside, is_out}
 use Rattle.engine_queues.specs.Laws.{SeesTheSame}
 use Rattle.engine_choice.specs.declared.choice.Choice.{Choice}
 use Rattle.engine_choice.specs.declared.choice.Ending.{Ending}
 use Rattle.engine_choice.specs.declared.choice.Ending.TheVariants.{Rest, Blocked, Quiet}
 use Rattle.engine_choice.specs.declared.choice.Taking.{Taking}
 use Rattle.engine_choice.specs.declared.choice.Taking.TheVariants.{Files, Generate, Receive}
-use Rattle.engine_choice.specs.Choice.{coming_of, ending_of, next_choice}
+use Rattle.engine_choice.specs.Choice.{Known, coming_of, ending_of, next_choice}
 
 -- ---- a session
 
@@ -48,20 +50,26 @@ pub record IsSessionAt (flow : Flow) (state : State) (world : World) (moment : �
   pub given : given_in processor.kind choice.processor state world files
       (given_for moment (is_there world files) choice.taking) ≡ Some handed
 
--- the session that comes next, by views that see the same as the queues of a state
+-- What is known is that of the machine beside sessions in flight, which took these files: the queues are seen as its
+-- queues beside them, and each name that comes is one of its world.
+pub record IsKnownOf (flow : Flow) (state : State) (world : World) (out : List ℕ) (known : Known) : Type 0 where
+  pub seen : SeesTheSame flow known.queues (beside out (queues_of state))
+  pub counts : known.counts ≡ state.counts
+  pub coming : All (Contains (coming_of world)) known.coming
+
+-- the session that comes next is one of the machine, and takes none of the files that are out
 abbrev pub ChoicesAreSessions : Type 0
 ChoicesAreSessions =
-    (flow : Flow) (queues : ℕ → QueueView) (state : State) (world : World) (moment : ℕ) (last : Option ℕ)
-    (choice : Choice) → IsValid flow state → SeesTheSame flow queues (queues_of state)
-    → next_choice flow queues state.counts (coming_of world) moment last ≡ Some choice
-    → IsSessionAt flow state world moment choice
+    (flow : Flow) (state : State) (world : World) (out : List ℕ) (known : Known) (last : Option ℕ) (choice : Choice)
+    → IsValid flow state → IsKnownOf flow state world out known → next_choice flow known last ≡ Some choice
+    → IsSessionAt flow state world known.moment choice
+    × All (λ number. is_out out number ≡ false) (numbers_in choice.taking)
 
 -- by views that see the same the same session comes next
 abbrev pub ChoicesAreSeen : Type 0
 ChoicesAreSeen =
-    (flow : Flow) (one other : ℕ → QueueView) (counts : List ℕ) (coming : List (List ℕ)) (moment : ℕ)
-    (last : Option ℕ) → SeesTheSame flow one other
-    → next_choice flow one counts coming moment last ≡ next_choice flow other counts coming moment last
+    (flow : Flow) (known : Known) (other : ℕ → QueueView) (last : Option ℕ) → SeesTheSame flow known.queues other
+    → next_choice flow known last ≡ next_choice flow (record known { queues = other }) last
 
 -- ---- the end
 
@@ -78,10 +86,16 @@ pub record IsMachineEnd (flow : Flow) (state : State) (world : World) (moment : 
   pub is_blocked : (connection : ℕ)
       → (ending ≡ Blocked connection) ↔ (blocked_but_for_swaps flow state world moment ≡ Some connection)
 
--- where no file has expired and no session comes, by views that see the same as the queues of a state
+-- What is known is that of the machine where no session is in flight.
+pub record IsKnownAtRest (flow : Flow) (state : State) (world : World) (known : Known) : Type 0 where
+  pub seen : SeesTheSame flow known.queues (queues_of state)
+  pub counts : known.counts ≡ state.counts
+  pub coming : known.coming ≡ coming_of world
+  pub idle : All (λ sessions. sessions ≡ 0) known.busy
+
+-- where no session is in flight, no file has expired and no session comes
 abbrev pub EndsAreMachineEnds : Type 0
 EndsAreMachineEnds =
-    (flow : Flow) (queues : ℕ → QueueView) (state : State) (world : World) (moment : ℕ) (last : Option ℕ)
-    → SeesTheSame flow queues (queues_of state) → due_expiry flow queues moment ≡ None
-    → next_choice flow queues state.counts (coming_of world) moment last ≡ None
-    → IsMachineEnd flow state world moment (ending_of flow queues state.counts (coming_of world) moment)
+    (flow : Flow) (state : State) (world : World) (known : Known) (last : Option ℕ) → IsSound flow
+    → IsKnownAtRest flow state world known → due_expiry flow known.queues known.moment ≡ None
+    → next_choice flow known last ≡ None → IsMachineEnd flow state world known.moment (ending_of flow known)

@@ -1,12 +1,12 @@
 //! Which session comes next, and how it ends where none does.
-ghost use Rattle.std.specs.Prelude.{◌≡◌, ◌+◌, ◌<◌, ◌≤◌, nat_lt, None, Some, length, map, IfOk, slice_get, option_map, if◌then◌else◌};
+ghost use Rattle.std.specs.Prelude.{◌≡◌, ◌+◌, ◌<◌, ◌≤◌, nat_lt, None, Some, length, map, IfOk, slice_get, slice_index, option_map, if◌then◌else◌};
 ghost use Rattle.machine_model.specs.declared.flow.Processor.{Processor};
 ghost use Rattle.machine_model.specs.declared.limits.TheConstants.{CONNECTIONS_MAX};
 ghost use Rattle.machine_model.specs.Quiet.{is_held_back};
 ghost use Rattle.engine_queues.specs.Picking.{AreOf, first_pick};
 ghost use Rattle.engine_queues.specs.Queues.{queue_seen};
 ghost use Rattle.engine_choice.specs.declared.choice.Taking.TheVariants.{Files, Generate, Receive};
-ghost use Rattle.engine_choice.specs.Choice.{MayChoose, taking_of, place_within, choice_of, next_choice, takers, ending_of};
+ghost use Rattle.engine_choice.specs.Choice.{Known, known_by, MayChoose, may_begin, taking_of, place_within, choice_of, next_choice, takers, ending_of};
 ghost use Rattle.engine_choice.specs.First.{IsFirstGiven};
 
 use crate::{Choice, Ending, Taking};
@@ -16,25 +16,28 @@ use machine_model::{Flow, Kind};
 use std::alloc::{AllocError, Global};
 
 /// The session of the first processor that is ready, in turn: from behind the one that got the last job, or from the
-/// first one.
+/// first one. `busy` has how many sessions of each processor are in flight; those past its end have none.
 pub fn choose(
     alloc: Global,
     flow: &Flow,
     queues: &Queues,
     counts: &[u64],
+    busy: &[u16],
     listing: &Listing,
     last: Option<u16>,
     moment: u64,
 ) -> Result<Option<Choice>, AllocError>
     requires { MayChoose flow.now queues.now counts.now listing.now }
     ensures { IfOk result (λ choice.
-        choice ≡ next_choice flow.now (queue_seen queues.now) counts.now listing.now.names moment last) }
+        choice ≡ next_choice flow.now (known_by queues.now counts.now busy.now listing.now moment) last) }
 {
     let count = flow.processors.len() as u16;
     let start = place_behind(last, count);
-    match first_choice(alloc, flow, queues, counts, listing, moment, start, count)? {
+    match first_choice(
+        alloc, flow, queues, counts, busy, listing, moment, start, count,
+    )? {
         Some(choice) => Ok(Some(choice)),
-        None => first_choice(alloc, flow, queues, counts, listing, moment, 0, start),
+        None => first_choice(alloc, flow, queues, counts, busy, listing, moment, 0, start),
     }
 }
 
@@ -45,17 +48,18 @@ pub fn ending(
     flow: &Flow,
     queues: &Queues,
     counts: &[u64],
+    busy: &[u16],
     listing: &Listing,
     moment: u64,
 ) -> Result<Ending, AllocError>
     requires { MayChoose flow.now queues.now counts.now listing.now }
     ensures { IfOk result (λ ending.
-        ending ≡ ending_of flow.now (queue_seen queues.now) counts.now listing.now.names moment) }
+        ending ≡ ending_of flow.now (known_by queues.now counts.now busy.now listing.now moment)) }
 {
     if let Some(until) = queues.next_penalty_end(moment) {
         return Ok(Ending::Rest { until });
     }
-    let takers = takers(alloc, flow, queues, counts, listing, moment)?;
+    let takers = takers(alloc, flow, queues, counts, busy, listing, moment)?;
     match queues.first_holding_back(flow, &takers) {
         Some(connection) => Ok(Ending::Blocked(connection)),
         None => Ok(Ending::Quiet),
@@ -78,6 +82,7 @@ fn first_choice(
     flow: &Flow,
     queues: &Queues,
     counts: &[u64],
+    busy: &[u16],
     listing: &Listing,
     moment: u64,
     start: u16,
@@ -86,11 +91,13 @@ fn first_choice(
     requires may { MayChoose flow.now queues.now counts.now listing.now }
     requires end { end ≤ length flow.now.processors }
     ensures { IfOk result (IsFirstGiven
-        (choice_of flow.now (queue_seen queues.now) counts.now listing.now.names moment)
+        (choice_of flow.now (known_by queues.now counts.now busy.now listing.now moment))
         flow.now.processors start end) }
 {
     for processor in start..end {
-        if let Some(choice) = choice_for(alloc, flow, queues, counts, listing, moment, processor)? {
+        if let Some(choice) = choice_for(
+            alloc, flow, queues, counts, busy, listing, moment, processor,
+        )? {
             return Ok(Some(choice));
         }
     }
@@ -103,6 +110,7 @@ fn choice_for(
     flow: &Flow,
     queues: &Queues,
     counts: &[u64],
+    busy: &[u16],
     listing: &Listing,
     moment: u64,
     processor: u16,
@@ -110,12 +118,14 @@ fn choice_for(
     requires may { MayChoose flow.now queues.now counts.now listing.now }
     requires processor { processor < length flow.now.processors }
     ensures { IfOk result (λ choice. (p : Processor) → slice_get flow.now.processors processor ≡ Some p
-        → choice ≡ choice_of flow.now (queue_seen queues.now) counts.now listing.now.names moment (processor, p)) }
+        → choice ≡ choice_of flow.now (known_by queues.now counts.now busy.now listing.now moment) (processor, p)) }
 {
-    if is_held_back(flow, queues, listing, processor) {
+    if !may_begin(flow, queues, busy, listing, processor) {
         return Ok(None);
     }
-    match taking_for(alloc, flow, queues, counts, listing, moment, processor)? {
+    match taking_for(
+        alloc, flow, queues, counts, busy, listing, moment, processor,
+    )? {
         Some(taking) => Ok(Some(Choice { processor, taking })),
         None => Ok(None),
     }
@@ -127,16 +137,21 @@ fn takers(
     flow: &Flow,
     queues: &Queues,
     counts: &[u64],
+    busy: &[u16],
     listing: &Listing,
     moment: u64,
 ) -> Result<Vec<u16>, AllocError>
     requires { MayChoose flow.now queues.now counts.now listing.now }
     ensures { IfOk result (λ places. places.items
-        ≡ map (λ p. p.0) (takers flow.now (queue_seen queues.now) counts.now listing.now.names moment)) }
+        ≡ map (λ p. p.0) (takers flow.now (known_by queues.now counts.now busy.now listing.now moment))) }
 {
     let mut takers = Vec::new(alloc);
     for processor in 0..flow.processors.len() as u16 {
-        if taking_for(alloc, flow, queues, counts, listing, moment, processor)?.is_some() {
+        if taking_for(
+            alloc, flow, queues, counts, busy, listing, moment, processor,
+        )?
+        .is_some()
+        {
             takers.push(processor)?;
         }
     }
@@ -149,6 +164,7 @@ fn taking_for(
     flow: &Flow,
     queues: &Queues,
     counts: &[u64],
+    busy: &[u16],
     listing: &Listing,
     moment: u64,
     processor: u16,
@@ -156,14 +172,48 @@ fn taking_for(
     requires may { MayChoose flow.now queues.now counts.now listing.now }
     requires processor { processor < length flow.now.processors }
     ensures { IfOk result (λ taking. (p : Processor) → slice_get flow.now.processors processor ≡ Some p
-        → taking ≡ taking_of flow.now (queue_seen queues.now) counts.now listing.now.names moment (processor, p)) }
+        → taking ≡ taking_of flow.now (known_by queues.now counts.now busy.now listing.now moment) (processor, p)) }
 {
     let place = usize::from(processor);
     match &flow.processors.as_slice()[place].kind {
         Kind::GetFile { .. } => received(listing.first_for(processor)),
-        Kind::GenerateFlowFile { count, .. } => Ok(generated(*count, counts[place])),
+        Kind::GenerateFlowFile { count, .. } => {
+            Ok(generated(*count, counts[place], sessions_of(busy, place)))
+        }
         _ => Ok(picked(pick(alloc, flow, queues, listing, processor, moment)?)),
     }
+}
+
+// How many sessions of a processor are in flight. Those of no place have none.
+fn sessions_of(busy: &[u16], place: usize) -> u16
+    ensures { result ≡ slice_index busy.now place }
+{
+    match busy.get(place) {
+        Some(sessions) => *sessions,
+        None => 0,
+    }
+}
+
+// Whether a processor may begin a session: it has fewer in flight than it may have, and no full connection leaves it.
+fn may_begin(flow: &Flow, queues: &Queues, busy: &[u16], listing: &Listing, processor: u16) -> bool
+    requires queues { AreOf flow.now queues.now }
+    requires listing { listing.now.flow ≡ flow.now }
+    requires processor { processor < length flow.now.processors }
+    ensures { (known : Known) → known.queues ≡ queue_seen queues.now → known.busy ≡ busy.now → (p : Processor)
+        → slice_get flow.now.processors processor ≡ Some p → result ≡ may_begin flow.now known (processor, p) }
+{
+    has_task(flow, busy, processor) && !is_held_back(flow, queues, listing, processor)
+}
+
+// Whether a processor has fewer sessions in flight than it may have.
+fn has_task(flow: &Flow, busy: &[u16], processor: u16) -> bool
+    requires { processor < length flow.now.processors }
+    ensures { (p : Processor) → slice_get flow.now.processors processor ≡ Some p
+        → result ≡ nat_lt (slice_index busy.now processor) p.tasks }
+{
+    let place = usize::from(processor);
+    let tasks = u16::from(flow.processors.as_slice()[place].tasks);
+    sessions_of(busy, place) < tasks
 }
 
 // Whether a full connection leaves a processor: of its own connections, which the listing has at hand.
@@ -209,10 +259,12 @@ fn received(name: Option<&Name>) -> Result<Option<Taking>, AllocError>
     }
 }
 
-fn generated(count: u32, made: u64) -> Option<Taking>
-    ensures { result ≡ (if nat_lt made count then Some (Generate (made + 1)) else None) }
+// The next index, where fewer files are made or about to be than are wanted.
+fn generated(count: u32, made: u64, busy: u16) -> Option<Taking>
+    ensures { result ≡ (if nat_lt (made + busy) count then Some (Generate (made + 1)) else None) }
 {
-    if made < u64::from(count) {
+    let count = u64::from(count);
+    if made < count && u64::from(busy) < count - made {
         Some(Taking::Generate { index: made + 1 })
     } else {
         None

@@ -2,13 +2,14 @@
 ghost use Rattle.engine_choice.specs.Laws.{ChoicesAreSeen, ChoicesAreSessions, EndsAreMachineEnds};
 
 use engine_queues::{picks_are_given, quiet_and_blocked_are_seen};
-use machine_model::picks_may_be_taken;
+use machine_model::{one_connection_has_files, picks_may_be_taken};
 
-/// The session that comes next is one of the machine.
+/// The session that comes next is one of the machine, and takes none of the files that sessions in flight took.
 pub fn choices_are_sessions()
     ensures { ChoicesAreSessions }
 {
     picks_may_be_taken();
+    one_connection_has_files();
 }
 
 /// Which session comes next goes by what views of the queues show.
@@ -16,7 +17,8 @@ pub fn choices_are_seen()
     ensures { ChoicesAreSeen }
 {}
 
-/// Where no file has expired and no session comes, it ends as the machine does: quiet and blocked exactly where that is.
+/// Where no session is in flight, no file has expired and no session comes, it ends as the machine does: quiet and
+/// blocked exactly where that is.
 pub fn ends_are_machine_ends()
     ensures { EndsAreMachineEnds }
 {

@@ -1,5 +1,5 @@
 -- What crates above cite: queues that have more room are those of the same state, and files that are kept are active.
-use Rattle.std.proofs.Common.{◌≡◌, ℕ, ◌<◌, true, List, [], ◌∷◌, length, map, Some, refl, sym, ap, ◌∙◌, arith}
+use Rattle.std.proofs.Common.{◌≡◌, ℕ, ◌<◌, true, List, [], ◌∷◌, length, map, Some, refl, sym, ap, subst, ◌∙◌, arith}
 use Rattle.std.specs.Prelude.{All, Contains, slice_get}
 use Rattle.std.specs.Option.{option_map}
 use Rattle.std.proofs.lemmas.Bool.{and_from, eq-eqb}
@@ -9,6 +9,8 @@ use Rattle.std.proofs.lemmas.Option.{same_Some, slice_get-map, slice_get_within}
 use Rattle.flowfile_record.specs.NumberedItems.{AscendsByNumber}
 use Rattle.flowfile_record.specs.Stored.{Kept}
 use Rattle.flowfile_record.specs.declared.change.Settled.{Settled}
+use Rattle.flowfile_record.specs.declared.content.ContentRef.{ContentRef}
+use Rattle.flowfile_record.specs.declared.event.Event.{Event}
 use Rattle.flowfile_record.specs.declared.flow_file.FlowFile.{FlowFile}
 use Rattle.flowfile_record.specs.declared.stored.ActiveFile.{ActiveFile}
 use Rattle.record_codec.specs.ActiveFile.{active}
@@ -16,10 +18,17 @@ use Rattle.checkpoint_store.specs.Consistent.{IsConsistent}
 use Rattle.kept_state.specs.Applied.{active_number}
 use Rattle.kept_state.specs.Fits.{active_of, is_in_connection, are_active_in}
 use Rattle.machine_model.specs.declared.flow.Flow.{Flow}
+use Rattle.machine_model.specs.Files.{queues_of}
+use Rattle.machine_model.specs.View.{QueueView}
 use Rattle.flow_queue.specs.Queue.{QueueState}
 use Rattle.flow_queue.proofs.Numbered.{item_of-at}
-use Rattle.engine_queues.specs.Queues.{AreQueuesOf}
+use Rattle.store_core.specs.State.{state_with}
+use Rattle.engine_queues.specs.Beside.{beside}
+use Rattle.engine_queues.specs.Laws.{KeptIsSeen, QueuesAreSeen, QueuesShowKept, SeesTheSame}
+use Rattle.engine_queues.specs.Queues.{AreQueuesOf, queue_seen}
 use Rattle.engine_queues.specs.Settling.{without_room, MaySettleOver}
+use Rattle.engine_queues.specs.Views.{HaveSizes, kept_queues}
+use Rattle.engine_queues.proofs.Besides.{none-is-out}
 use Rattle.engine_queues.proofs.Changing.{at_place}
 
 module _ (old new : List QueueState) (same : map without_room new ≡ map without_room old) where
@@ -35,8 +44,8 @@ module _ (old new : List QueueState) (same : map without_room new ≡ map withou
       ∙ slice_get-map without_room old place ∙ ap (option_map without_room) was.1 in
       (was.0, was.1, same_Some (without_room queue) (without_room was.0) is)
 
-  pub are_same_queues : (flow : Flow) (k : Kept) → AreQueuesOf flow k old → AreQueuesOf flow k new
-  are_same_queues flow k are = record {
+  pub are_same_queues : (flow : Flow) (k : Kept) (out : List ℕ) → AreQueuesOf flow k out old → AreQueuesOf flow k out new
+  are_same_queues flow k out are = record {
     count = as_many ∙ are.count;
     each = λ place connection queue at got.
         let found = before place queue got in
@@ -49,9 +58,10 @@ module _ (old new : List QueueState) (same : map without_room new ≡ map withou
         };
   }
 
-  pub may_still_settle : (flow : Flow) (k : Kept) (settled : Settled) → MaySettleOver flow k settled old → MaySettleOver flow k settled new
-  may_still_settle flow k settled over = record {
-    of_kept = are_same_queues flow k over.of_kept;
+  pub may_still_settle : (flow : Flow) (k : Kept) (out : List ℕ) (settled : Settled) → MaySettleOver flow k out settled old → MaySettleOver flow k out settled new
+  may_still_settle flow k out settled over = record {
+    of_kept = are_same_queues flow k out over.of_kept;
+    live = over.live;
     connections = over.connections;
     consistent = over.consistent;
     no_batches = over.no_batches;
@@ -74,3 +84,22 @@ taken_are_active k connection (file ∷ taken) consistent all =
     let here : is_in_connection connection (active_of file.number k.files) ≡ true = ap (is_in_connection connection) found ∙ eq-eqb connection connection refl in
     let later = taken_are_active k connection taken consistent (All-tail (λ (f : FlowFile). Contains k.files (active connection f)) file taken all) in
     and_from (is_in_connection connection (active_of file.number k.files)) (are_active_in k.files connection (map (λ (f : FlowFile). f.number) taken)) here later
+
+-- ---- where no session is in flight
+
+pub shown_alone : QueuesShowKept → (flow : Flow) (k : Kept) (queues : List QueueState) → IsConsistent k → length k.connections ≡ length flow.connections → AreQueuesOf flow k [] queues
+    → queue_seen queues ≡ kept_queues k
+shown_alone law flow k queues consistent count are = law flow k [] queues consistent count are ∙ none-is-out (kept_queues k)
+
+pub seen_alone : QueuesAreSeen → (flow : Flow) (contents : ContentRef → List ℕ) (events : List Event) (k : Kept) (queues : List QueueState) → IsConsistent k → HaveSizes contents k
+    → length k.connections ≡ length flow.connections → AreQueuesOf flow k [] queues → SeesTheSame flow (queue_seen queues) (queues_of (state_with contents events k))
+seen_alone law flow contents events k queues consistent sizes count are =
+    subst (λ (views : ℕ → QueueView). SeesTheSame flow (queue_seen queues) views) (none-is-out (queues_of (state_with contents events k)))
+    (law flow contents events k [] queues consistent sizes count are)
+
+pub kept_alone : KeptIsSeen → (flow : Flow) (contents : ContentRef → List ℕ) (events : List Event) (k : Kept) → IsConsistent k → HaveSizes contents k
+    → SeesTheSame flow (kept_queues k) (queues_of (state_with contents events k))
+kept_alone law flow contents events k consistent sizes =
+    subst (λ (views : ℕ → QueueView). SeesTheSame flow views (queues_of (state_with contents events k))) (none-is-out (kept_queues k))
+    (subst (λ (views : ℕ → QueueView). SeesTheSame flow (beside [] (kept_queues k)) views) (none-is-out (queues_of (state_with contents events k)))
+    (law flow contents events k [] consistent sizes))

@@ -19,10 +19,12 @@ use Rattle.machine_model.proofs.Ordered.{pairs_nil}
 use Rattle.store_core.specs.State.{queued_active, queue_of, state_with}
 use Rattle.store_core.proofs.ByKey.{filter_fold, put}
 use Rattle.engine_queues.proofs.Places.{queue_there, queue_past}
+use Rattle.engine_queues.specs.Beside.{beside, queue_beside}
 use Rattle.engine_queues.specs.Laws.{KeptIsSeen}
 use Rattle.engine_queues.specs.Views.{HaveSizes, kept_queues, kept_views, view_of_kept}
 use Rattle.engine_queues.proofs.Alike.{AreAlike, alike-same, arrival_of, by_arrival, by_arrival-alike}
 use Rattle.engine_queues.proofs.Arranged.{arranged, arranged-each}
+use Rattle.engine_queues.proofs.Besides.{arrival-beside, differ-beside}
 
 -- ---- files of a queue, as they are seen
 
@@ -137,7 +139,10 @@ arrivals_differ k place is =
 -- ---- all queues
 
 pub kept-seen : KeptIsSeen
-kept-seen flow contents events k is sizes =
-    alike-same flow (kept_queues k) (queues_of (state_with contents events k)) (λ place.
-    subst (AreAlike (kept_queues k place)) (sym (seen_is contents events k is sizes place))
-    (by_arrival-alike (kept_queues k place) (arrivals_differ k place is)))
+kept-seen flow contents events k out is sizes =
+    alike-same flow (beside out (kept_queues k)) (beside out (queues_of (state_with contents events k))) (λ place.
+    let shown = kept_queues k place in
+    let seen : queue_beside out (queues_of (state_with contents events k) place) ≡ by_arrival (queue_beside out shown) =
+    ap (queue_beside out) (seen_is contents events k is sizes place) ∙ arrival-beside out shown in
+    subst (AreAlike (queue_beside out shown)) (sym seen)
+    (by_arrival-alike (queue_beside out shown) (differ-beside out shown.active (arrivals_differ k place is))))

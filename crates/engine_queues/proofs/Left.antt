@@ -5,8 +5,8 @@ use Rattle.std.specs.List.{slice_index_or}
 use Rattle.std.proofs.lemmas.Option.{slice_get_within, get_or_from_slice_get}
 use Rattle.std.proofs.lemmas.Slice.Eq.{bytes_eq-Decides}
 use Rattle.machine_model.specs.Stepping.{without_name}
-use Rattle.engine_queues.specs.Listing.{AreDistinct}
-use Rattle.engine_queues.specs.ListingInside.{left_of, IsFirstOpen}
+use Rattle.engine_queues.specs.Listing.{AreDistinct, left_of}
+use Rattle.engine_queues.specs.ListingInside.{IsFirstOpen}
 
 -- ---- the first that passes
 

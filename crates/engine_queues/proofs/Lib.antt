@@ -1,12 +1,16 @@
 pub mod Alike
 pub mod Arranged
+pub mod Besides
 pub mod Changing
 pub mod Due
 pub mod First
+pub mod Flights
 pub mod ForCallers
+pub mod GivenBack
 pub mod Held
 pub mod KeptQueues
 pub mod Least
+pub mod Marking
 pub mod Linking
 pub mod Opened
 pub mod Places

@@ -24,13 +24,13 @@ with_files k files = record k { files = files }
 
 -- ---- no files
 
-pub are-empty : (flow : Flow) (k : Kept) → AreQueuesOf flow (with_files k []) (map empty_queue flow.connections)
+pub are-empty : (flow : Flow) (k : Kept) → AreQueuesOf flow (with_files k []) [] (map empty_queue flow.connections)
 are-empty flow k = record {
   count = length-map flow.connections empty_queue;
   each = λ place connection queue at there.
       let is : Some (empty_queue connection) ≡ Some queue = sym (ap (option_map empty_queue) at) ∙ sym (slice_get-map empty_queue flow.connections place) ∙ there in
       let same : empty_queue connection ≡ queue = cc in
-      subst (IsQueueOf (with_files k []) place connection) same (record { order = refl; limits = refl; files = refl; batches = refl });
+      subst (IsQueueOf (with_files k []) [] place connection) same (record { order = refl; limits = refl; files = refl; batches = refl });
 }
 
 -- ---- one more file
@@ -72,7 +72,7 @@ new active = record { file = active.file; in_flight = false }
 
 -- of the files of a connection the same holds
 behind-held : (k : Kept) (place : ℕ) (files : List ActiveFile) (active : ActiveFile) → ComesBehind files active
-    → All (λ (held : Held). (held.file.number < active.file.number) × (held.file.arrival ≢ active.file.arrival)) (held_of (with_files k files) place)
+    → All (λ (held : Held). (held.file.number < active.file.number) × (held.file.arrival ≢ active.file.arrival)) (held_of [] (with_files k files) place)
 behind-held k place files active behind =
     All-map (λ (held : Held). (held.file.number < active.file.number) × (held.file.arrival ≢ active.file.arrival)) (λ (a : ActiveFile). record { file = a.file; in_flight = false })
     (filter (λ (a : ActiveFile). a.connection == place) files)
@@ -85,7 +85,7 @@ at-the-end file (held ∷ files) below =
     rw lt (ap (λ l. held ∷ l) (at-the-end file files (All-tail (λ (other : Held). other.file.number < file.number) held files below)))
 
 held-more : (k : Kept) (place : ℕ) (files : List ActiveFile) (active : ActiveFile)
-    → held_of (with_files k (files ++ active ∷ [])) place ≡ cond (active.connection == place) (held_of (with_files k files) place ++ new active ∷ []) (held_of (with_files k files) place)
+    → held_of [] (with_files k (files ++ active ∷ [])) place ≡ cond (active.connection == place) (held_of [] (with_files k files) place ++ new active ∷ []) (held_of [] (with_files k files) place)
 unfolding new
 held-more k place files active =
     let here : ActiveFile → Bool = λ a. a.connection == place in
@@ -97,25 +97,25 @@ held-more k place files active =
     ]
 
 module _ (flow : Flow) (k : Kept) (files : List ActiveFile) (active : ActiveFile) (behind : ComesBehind files active) where
-  held-behind : (place : ℕ) → All (λ (held : Held). (held.file.number < active.file.number) × (held.file.arrival ≢ active.file.arrival)) (held_of (with_files k files) place)
+  held-behind : (place : ℕ) → All (λ (held : Held). (held.file.number < active.file.number) × (held.file.arrival ≢ active.file.arrival)) (held_of [] (with_files k files) place)
   held-behind place = behind-held k place files active behind
 
-  pub is-apart : (held : List Held) → held ≡ held_of (with_files k files) active.connection → IsApart active.file held
+  pub is-apart : (held : List Held) → held ≡ held_of [] (with_files k files) active.connection → IsApart active.file held
   is-apart held is =
       subst (IsApart active.file) (sym is)
       (All-weaker (λ (held : Held). (held.file.number < active.file.number) × (held.file.arrival ≢ active.file.arrival)) (λ (held : Held). (held.file.number ≢ active.file.number) × (held.file.arrival ≢ active.file.arrival))
       (λ held h. ((λ e. let lt = h.0 in omega (arith, lt, e)), h.1)) _ (held-behind active.connection))
 
-  held-now : (held : List Held) → held ≡ held_of (with_files k files) active.connection → queue_with_file active.file held ≡ held_of (with_files k (files ++ active ∷ [])) active.connection
+  held-now : (held : List Held) → held ≡ held_of [] (with_files k files) active.connection → queue_with_file active.file held ≡ held_of [] (with_files k (files ++ active ∷ [])) active.connection
   unfolding new
   held-now held is =
       ap (queue_with_file active.file) is
-      ∙ at-the-end active.file (held_of (with_files k files) active.connection)
+      ∙ at-the-end active.file (held_of [] (with_files k files) active.connection)
       (All-weaker (λ (held : Held). (held.file.number < active.file.number) × (held.file.arrival ≢ active.file.arrival)) (λ (held : Held). held.file.number < active.file.number) (λ held h. h.0) _ (held-behind active.connection))
       ∙ (let here : (active.connection == active.connection) ≡ true = eq-eqb active.connection active.connection refl in sym (held-more k active.connection files active ∙ rw here refl))
 
-  pub one-more : (queues : List QueueState) (queue after : QueueState) → AreQueuesOf flow (with_files k files) queues → slice_get queues active.connection ≡ Some queue
-      → after ≡ record queue { files = queue_with_file active.file queue.files; spare = after.spare; batch_room = after.batch_room } → AreQueuesOf flow (with_files k (files ++ active ∷ [])) (set queues active.connection after)
+  pub one-more : (queues : List QueueState) (queue after : QueueState) → AreQueuesOf flow (with_files k files) [] queues → slice_get queues active.connection ≡ Some queue
+      → after ≡ record queue { files = queue_with_file active.file queue.files; spare = after.spare; batch_room = after.batch_room } → AreQueuesOf flow (with_files k (files ++ active ∷ [])) [] (set queues active.connection after)
   one-more queues queue after are there is = record {
     count = length-set queues active.connection after ∙ are.count;
     each = λ place connection now at there_now.
@@ -129,20 +129,20 @@ module _ (flow : Flow) (k : Kept) (files : List ActiveFile) (active : ActiveFile
       within = slice_get_within queues active.connection queue there
 
       at-it : (place : ℕ) (connection : Connection) (now : QueueState) → place ≡ active.connection → slice_get flow.connections place ≡ Some connection
-          → slice_get (set queues active.connection after) place ≡ Some now → IsQueueOf (with_files k (files ++ active ∷ [])) place connection now
+          → slice_get (set queues active.connection after) place ≡ Some now → IsQueueOf (with_files k (files ++ active ∷ [])) [] place connection now
       at-it place connection now same at there_now =
           let before = are.each active.connection connection queue (ap (slice_get flow.connections) (sym same) ∙ at) there in
           let it : after ≡ now = sym (get_or-set_same queues active.connection after after within) ∙ get_or_from_slice_get (set queues active.connection after) active.connection now after (ap (slice_get (set queues active.connection after)) (sym same) ∙ there_now) in
-          subst (λ q. IsQueueOf (with_files k (files ++ active ∷ [])) place connection q) it
+          subst (λ q. IsQueueOf (with_files k (files ++ active ∷ [])) [] place connection q) it
           (record {
             order = ap (λ q. q.order) is ∙ before.order;
             limits = ap (λ q. q.limits) is ∙ before.limits;
-            files = ap (λ q. q.files) is ∙ held-now queue.files before.files ∙ ap (held_of (with_files k (files ++ active ∷ []))) (sym same);
+            files = ap (λ q. q.files) is ∙ held-now queue.files before.files ∙ ap (held_of [] (with_files k (files ++ active ∷ []))) (sym same);
             batches = ap (λ q. q.batches) is ∙ before.batches;
           })
 
       elsewhere : (place : ℕ) (connection : Connection) (now : QueueState) → place ≢ active.connection → slice_get flow.connections place ≡ Some connection
-          → slice_get (set queues active.connection after) place ≡ Some now → IsQueueOf (with_files k (files ++ active ∷ [])) place connection now
+          → slice_get (set queues active.connection after) place ≡ Some now → IsQueueOf (with_files k (files ++ active ∷ [])) [] place connection now
       elsewhere place connection now other at there_now =
           let lt : place < length queues = omega (arith, slice_get_within (set queues active.connection after) place now there_now, length-set queues active.connection after) in
           let was : slice_get queues place ≡ Some now =

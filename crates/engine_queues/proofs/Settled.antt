@@ -30,9 +30,11 @@ use Rattle.kept_state.proofs.Moving.{stays_with}
 use Rattle.kept_state.proofs.Placing.{placeless_session}
 use Rattle.machine_model.specs.declared.flow.Flow.{Flow}
 use Rattle.flow_queue.specs.Queue.{QueueState}
+use Rattle.engine_queues.specs.Beside.{out_without}
 use Rattle.engine_queues.specs.Queues.{AreQueuesOf}
 use Rattle.engine_queues.specs.Settling.{MaySettleOver, IsKeptAfter, HasRoomIn, HasRoomFor, placed_connections, changed_at, queue_without, queues_without, queues_with, HasFiles, MayAllJoin, active_content, as_kept}
-use Rattle.engine_queues.proofs.Changing.{length-changed, room_out, leaving, all_into}
+use Rattle.engine_queues.proofs.Changing.{length-changed, room_out, leaving, all_into, same_files}
+use Rattle.engine_queues.proofs.Flights.{left-have, left-others, placed-at-rest}
 
 -- ---- the entry that was applied
 
@@ -167,8 +169,8 @@ of_recorded n (p ∷ placed) all =
     (of_recorded n placed (All-tail (λ (a : ActiveFile). a.connection < n) (record_of p) (map record_of placed) all))
 
 -- each placed file's connection has a queue
-pub placed_within : (flow : Flow) (k : Kept) (settled : Settled) (queues : List QueueState) → MaySettleOver flow k settled queues → All (λ (p : Placed). p.connection < length queues) settled.placed
-placed_within flow k settled queues over =
+pub placed_within : (flow : Flow) (k : Kept) (out : List ℕ) (settled : Settled) (queues : List QueueState) → MaySettleOver flow k out settled queues → All (λ (p : Placed). p.connection < length queues) settled.placed
+placed_within flow k out settled queues over =
     let suits = suits_from k (entry_of_session k settled) over.no_batches over.may.suits in
     of_recorded (length queues) settled.placed
     (have_connections k (entry_of_session k settled) (length queues) (map record_of settled.placed) (over.connections ∙ sym over.of_kept.count) suits.places)
@@ -176,19 +178,19 @@ placed_within flow k settled queues over =
 -- ---- the session as a whole
 
 -- the queues after the session, and that each step on the way may be made
-pub record IsSettledIn (flow : Flow) (connection : ℕ) (settled : Settled) (queues : List QueueState) (after : Kept) : Type 0 where
+pub record IsSettledIn (flow : Flow) (out : List ℕ) (connection : ℕ) (settled : Settled) (queues : List QueueState) (after : Kept) : Type 0 where
   pub leave : HasFiles connection settled.gone queues
   pub join : MayAllJoin (map (as_kept after.files) settled.placed) (queues_without connection settled.gone queues)
-  pub of_after : AreQueuesOf flow after (queues_with (map (as_kept after.files) settled.placed) (queues_without connection settled.gone queues))
+  pub of_after : AreQueuesOf flow after (out_without settled.gone out) (queues_with (map (as_kept after.files) settled.placed) (queues_without connection settled.gone queues))
 
 length-without : (connection : ℕ) (numbers : List ℕ) (queues : List QueueState) → length (queues_without connection numbers queues) ≡ length queues
 length-without connection [] queues = refl
 length-without connection (n ∷ numbers) queues =
     length-without connection numbers (changed_at connection (queue_without n) queues) ∙ length-changed connection (queue_without n) queues
 
-pub settled_in : (flow : Flow) (k : Kept) (connection : ℕ) (settled : Settled) (queues : List QueueState) (after : Kept) → MaySettleOver flow k settled queues → IsKeptAfter k connection settled after
-    → HasRoomFor settled queues → IsSettledIn flow connection settled queues after
-settled_in flow k connection settled queues after over kept room =
+pub settled_in : (flow : Flow) (k : Kept) (out : List ℕ) (connection : ℕ) (settled : Settled) (queues : List QueueState) (after : Kept) → MaySettleOver flow k out settled queues → IsKeptAfter k connection settled after
+    → HasRoomFor settled queues → IsSettledIn flow out connection settled queues after
+settled_in flow k out connection settled queues after over kept room =
     let t = entry_of_session k settled in
     let entry = session_from kept.entry t kept.same in
     let s = entry.session in
@@ -204,7 +206,8 @@ settled_in flow k connection settled queues after over kept room =
     let numbers : AreApart active_number s.placed left = subst (λ (ns : List ℕ). AreApart active_number s.placed (left_after ns k.files)) gone suits.numbers in
     let arrivals : AreApart arrival_of s.placed left = subst (λ (ns : List ℕ). AreApart arrival_of s.placed (left_after ns k.files)) gone suits.arrivals in
     let distinct : are_distinct_numbers settled.gone ≡ true = ap are_distinct_numbers (sym gone) ∙ suits.distinct in
-    let out = leaving flow settled.gone k mid connection queues over.of_kept over.connections over.consistent distinct kept.active refl in
+    let others = out_without settled.gone out in
+    let went = leaving flow out settled.gone k mid connection queues over.of_kept over.connections over.consistent distinct kept.active refl in
     let fewer = queues_without connection settled.gone queues in
     let many : length k.connections ≡ length fewer = over.connections ∙ sym over.of_kept.count ∙ sym (length-without connection settled.gone queues) in
     let within = have_connections k s (length fewer) s.placed many suits.places in
@@ -213,11 +216,13 @@ settled_in flow k connection settled queues after over kept room =
     let room_left : HasRoomIn (map (λ (a : ActiveFile). a.connection) s.placed) fewer =
     subst (λ (cs : List ℕ). HasRoomIn cs fewer) connections (room_out connection settled.gone (placed_connections settled) queues room) in
     let ascends = ascends-filter active_number (λ a. not (is_file_among settled.gone a)) k.files over.consistent.numbers in
-    let in_all = all_into flow s.placed mid after fewer out.0 ascends numbers arrivals within room_left files in
+    let are : AreQueuesOf flow mid others fewer = same_files flow out others mid mid fewer (λ place. left-others settled.gone out place k.files) went.0 in
+    let rests = placed-at-rest s.placed left others (left-have settled.gone out k.files over.live) numbers in
+    let in_all = all_into flow others s.placed mid after fewer are ascends numbers arrivals within room_left rests files in
     let found = subst (λ (fs : List ActiveFile). All (λ (a : ActiveFile). active_of (active_number a) fs ≡ Some a) s.placed) (sym files) (found_joined s.placed left numbers) in
     let as_entered : map (as_kept after.files) settled.placed ≡ s.placed = kept_as settled.placed s.placed after.files placed found in
     record {
-      leave = out.1;
+      leave = went.1;
       join = subst (λ (l : List ActiveFile). MayAllJoin l fewer) (sym as_entered) in_all.1;
-      of_after = subst (λ (l : List ActiveFile). AreQueuesOf flow after (queues_with l fewer)) (sym as_entered) in_all.0;
+      of_after = subst (λ (l : List ActiveFile). AreQueuesOf flow after others (queues_with l fewer)) (sym as_entered) in_all.0;
     }

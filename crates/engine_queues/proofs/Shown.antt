@@ -19,42 +19,43 @@ use Rattle.machine_model.specs.View.{FileView, QueueView}
 use Rattle.flow_queue.specs.Queue.{QueueState, queue_as_seen, seen_batch, views_of}
 use Rattle.store_core.specs.State.{contents_damage, digest_damage, first_damage, state_with}
 use Rattle.engine_queues.specs.Laws.{HeldContentsHaveSizes, QueuesAreSeen, QueuesShowKept, SeesTheSame}
-use Rattle.engine_queues.specs.Queues.{AreQueuesOf, queue_seen}
+use Rattle.engine_queues.specs.Beside.{beside, file_beside, queue_beside}
+use Rattle.engine_queues.specs.Queues.{AreQueuesOf, held_beside, queue_seen}
 use Rattle.engine_queues.specs.Views.{kept_queues, view_of_kept}
 use Rattle.engine_queues.proofs.KeptQueues.{kept-seen, none_there}
 
 -- ---- queues in memory
 
-held_views : (files : List ActiveFile) → views_of (map (λ a. record { file = a.file; in_flight = false }) files) ≡ map (λ a. view_of_kept a.file) files
-held_views [] = refl
-held_views (a ∷ files) = ap (λ (views : List FileView). view_of_kept a.file ∷ views) (held_views files)
+held_views : (out : List ℕ) (files : List ActiveFile) → views_of (map (held_beside out) files) ≡ map (file_beside out) (map (λ a. view_of_kept a.file) files)
+held_views out [] = refl
+held_views out (a ∷ files) = ap (λ (views : List FileView). file_beside out (view_of_kept a.file) ∷ views) (held_views out files)
 
 abbrev empty_queue : QueueView
 empty_queue = record { active = []; batches = [] }
 
-shown_at : (flow : Flow) (k : Kept) (queues : List QueueState) (place : ℕ) → IsConsistent k → length k.connections ≡ length flow.connections → AreQueuesOf flow k queues
-    → queue_seen queues place ≡ kept_queues k place
-shown_at flow k queues place is count are = elim (slice_get_cases flow.connections place).1 [
+shown_at : (flow : Flow) (k : Kept) (out : List ℕ) (queues : List QueueState) (place : ℕ) → IsConsistent k → length k.connections ≡ length flow.connections → AreQueuesOf flow k out queues
+    → queue_seen queues place ≡ queue_beside out (kept_queues k place)
+shown_at flow k out queues place is count are = elim (slice_get_cases flow.connections place).1 [
   | inl there ↦ elim (slice_get_cases queues place).1 [
     | inl found ↦
         let files = (are.each place there.0 found.0 there.2 found.2).files in
         let none = (are.each place there.0 found.0 there.2 found.2).batches in
-        let views = ap views_of files ∙ held_views (filter (λ a. a.connection == place) k.files) in
+        let views = ap views_of files ∙ held_views out (filter (λ a. a.connection == place) k.files) in
         ap (λ (queue : Option QueueState). option_map_or queue_as_seen queue empty_queue) found.2 ∙ (λ i. record { active = views i; batches = map seen_batch (none i) })
     | inr past ↦ absurd (omega (arith, there.1, past.0, are.count))
   ]
   | inr past ↦
       ap (λ (queue : Option QueueState). option_map_or queue_as_seen queue empty_queue) (slice_get_past queues place (omega (arith, past.0, are.count)))
-      ∙ sym (ap (λ (files : List ActiveFile). record { active = map (λ a. view_of_kept a.file) files; batches = [] }) (none_there k place is (omega (arith, past.0, count))))
+      ∙ sym (ap (λ (files : List ActiveFile). record { active = map (file_beside out) (map (λ a. view_of_kept a.file) files); batches = [] }) (none_there k place is (omega (arith, past.0, count))))
 ]
 
 pub queues-shown : QueuesShowKept
-queues-shown flow k queues is count are = λ i place. shown_at flow k queues place is count are i
+queues-shown flow k out queues is count are = λ i place. shown_at flow k out queues place is count are i
 
 pub queues-seen : QueuesAreSeen
-queues-seen flow contents events k queues is sizes count are =
-    subst (λ (views : ℕ → QueueView). SeesTheSame flow views (queues_of (state_with contents events k))) (sym (queues-shown flow k queues is count are))
-    (kept-seen flow contents events k is sizes)
+queues-seen flow contents events k out queues is sizes count are =
+    subst (λ (views : ℕ → QueueView). SeesTheSame flow views (beside out (queues_of (state_with contents events k)))) (sym (queues-shown flow k out queues is count are))
+    (kept-seen flow contents events k out is sizes)
 
 -- ---- contents
 

@@ -1,6 +1,6 @@
 -- The sources of a listing, by the places of their processors.
 use Rattle.std.proofs.Common.{◌≡◌, ◌⊎◌, inl, inr, ℕ, ◌<◌, ◌≤◌, Bool, true, false, List, [], ◌∷◌, length, replicate, refl, sym, ap, subst, ◌∙◌, arith}
-use Rattle.std.specs.Prelude.{Option, Some, None, All, MatchOption, find, is_some, nat_lt, option_and_then, option_map, slice_get, slice_set, unwrap_or}
+use Rattle.std.specs.Prelude.{Option, Some, None, All, find, is_some, nat_lt, option_and_then, option_map, slice_get, slice_set, unwrap_or}
 use Rattle.std.specs.List.{slice_index_or}
 use Rattle.std.proofs.lemmas.Bool.{ltb-false, ltb-true}
 use Rattle.std.proofs.lemmas.List.{length-map, length-set}
@@ -10,11 +10,10 @@ use Rattle.machine_model.specs.declared.flow.Processor.{Processor}
 use Rattle.machine_model.specs.declared.kind.Kind.{Kind}
 use Rattle.machine_model.specs.declared.pattern.Pattern.{Pattern}
 use Rattle.machine_model.specs.Acting.{passes}
-use Rattle.machine_model.specs.Stepping.{without_name}
 use Rattle.engine_queues.specs.declared.listing.Source.{Source}
 use Rattle.engine_queues.specs.declared.listing.Listing.TheInside.{Inside}
-use Rattle.engine_queues.specs.Listing.{Left, AreDistinct, filter_of, first_passed}
-use Rattle.engine_queues.specs.ListingInside.{HasMarks, IsFirstOpen, IsSoundListing, StillSuits, Suits, left_of}
+use Rattle.engine_queues.specs.Listing.{Left, AreDistinct, TakesFirst, TakesFrom, filter_of, first_passed, left_of, names_left, with_mark}
+use Rattle.engine_queues.specs.ListingInside.{HasMarks, IsFirstOpen, IsSoundListing, StillSuits, Suits}
 use Rattle.engine_queues.proofs.Left.{found-first, left-taken}
 
 -- the first so many processors have their sources
@@ -99,14 +98,14 @@ left-at listing sound place processor source s there is e within =
     let P : Option Source → Type 0 = Suits (filter_of processor.kind) listing.names.items listing.taken.items in
     first-left (filter_of processor.kind) listing.names.items listing.taken.items s sound.marks (subst P e (source-at listing sound place processor source source there is)) within
 
--- the fields with a name taken, and each source moved past it, are sound
-pub still-sound : (listing after : Inside) (place : ℕ) → IsSoundListing listing → after.flow ≡ listing.flow → after.names ≡ listing.names → after.too_large ≡ listing.too_large
-    → after.taken.items ≡ slice_set listing.taken.items place true → length after.sources.items ≡ length listing.sources.items
-    → ((k : ℕ) (was now : Option Source) → slice_get listing.sources.items k ≡ Some was → slice_get after.sources.items k ≡ Some now → StillSuits after.taken.items place was now)
+-- the fields with a name taken and each source moved past it, or given back and each moved back to it, are sound
+pub still-sound : (mark : Bool) (listing after : Inside) (place : ℕ) → IsSoundListing listing → after.flow ≡ listing.flow → after.names ≡ listing.names → after.too_large ≡ listing.too_large
+    → after.taken.items ≡ slice_set listing.taken.items place mark → length after.sources.items ≡ length listing.sources.items
+    → ((k : ℕ) (was now : Option Source) → slice_get listing.sources.items k ≡ Some was → slice_get after.sources.items k ≡ Some now → StillSuits mark after.taken.items place was now)
     → IsSoundListing after
-still-sound listing after place sound flow names large taken count moved = record {
+still-sound mark listing after place sound flow names large taken count moved = record {
   few = let lengths : length after.names.items ≡ length listing.names.items = ap (λ v. length v.items) names in omega (arith, lengths, large, sound.few);
-  marks = ap length taken ∙ length-set listing.taken.items place true ∙ sound.marks ∙ ap (λ v. length v.items) (sym names);
+  marks = ap length taken ∙ length-set listing.taken.items place mark ∙ sound.marks ∙ ap (λ v. length v.items) (sym names);
   distinct = let P : List (List ℕ) → Type 0 = AreDistinct in subst P (ap (λ v. v.items) (sym names)) sound.distinct;
   count = count ∙ sound.count ∙ ap (λ f. length f.processors) (sym flow);
   each = each;
@@ -135,27 +134,26 @@ all-left (name ∷ names) = ap (λ rest. name ∷ rest) (all-left names)
 
 -- ---- what taking a first name answers
 
-abbrev pub left_with : Flow → (too_large : ℕ) → List (List ℕ) → Left
-left_with flow too_large names = record { flow = flow; names = names; too_large = too_large }
+pub takes-none : (now : Left) (kind : Kind) → None ≡ first_passed kind (names_left now) → TakesFrom kind None now now
+takes-none now kind e = (sym e, refl)
 
-pub takes-none : (now : Left) (kind : Kind) → None ≡ first_passed kind now.names
-    → MatchOption (first_passed kind now.names) (now ≡ now) (λ name. now ≡ left_with now.flow now.too_large (without_name now.names name))
-takes-none now kind e =
-    let P : Option (List ℕ) → Type 0 = λ o. MatchOption o (now ≡ now) (λ name. now ≡ left_with now.flow now.too_large (without_name now.names name)) in
-    let none : P None = refl in subst P e none
+-- the listing of these fields
+abbrev pub listing_of : Flow → List (List ℕ) → List Bool → (too_large : ℕ) → Left
+listing_of flow listed taken too_large = record { flow = flow; listed = listed; taken = taken; too_large = too_large }
 
-pub takes-first : (now after : Left) (kind : Kind) (name : List ℕ) → Some name ≡ first_passed kind now.names → after ≡ left_with now.flow now.too_large (without_name now.names name)
-    → MatchOption (first_passed kind now.names) (after ≡ now) (λ name. after ≡ left_with now.flow now.too_large (without_name now.names name))
-takes-first now after kind name e is =
-    let P : Option (List ℕ) → Type 0 = λ o. MatchOption o (after ≡ now) (λ name. after ≡ left_with now.flow now.too_large (without_name now.names name)) in
-    let here : P (Some name) = is in subst P e here
-
--- the state behind it
-pub state-behind : (flow : Flow) (too_large : ℕ) (names : List (List ℕ)) (taken : List Bool) (place : ℕ) (now : Left) (name : List ℕ) → left_with flow too_large (left_of names taken) ≡ now
-    → AreDistinct names → slice_get names place ≡ Some name → slice_get taken place ≡ Some false
-    → left_with flow too_large (left_of names (slice_set taken place true)) ≡ left_with now.flow now.too_large (without_name now.names name)
-state-behind flow too_large names taken place now name view distinct there left =
-    ap (left_with flow too_large) (left-taken name names taken place distinct there left) ∙ ap (λ s. left_with s.flow s.too_large (without_name s.names name)) view
+pub takes-first : (flow : Flow) (listed : List (List ℕ)) (taken : List Bool) (too_large : ℕ) (kind : Kind) (place : ℕ) (now : Left) (name : List ℕ)
+    → listing_of flow listed taken too_large ≡ now → AreDistinct listed → slice_get listed place ≡ Some name → slice_get taken place ≡ Some false
+    → Some name ≡ first_passed kind (left_of listed taken) → TakesFirst kind place now (with_mark true place (listing_of flow listed taken too_large))
+takes-first flow listed taken too_large kind place now name view distinct there left first =
+    let after = with_mark true place (listing_of flow listed taken too_large) in
+    subst (λ (old : Left). TakesFirst kind place old after) view (record {
+      name = name;
+      first = sym first;
+      there = there;
+      was_left = left;
+      new_is = refl;
+      others = left-taken name listed taken place distinct there left;
+    })
 
 -- ---- an element by its place
 

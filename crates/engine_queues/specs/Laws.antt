@@ -1,5 +1,6 @@
--- That what is kept in memory is seen as the machine's queues, and tells whether a flow is quiet or blocked.
-use Rattle.std.specs.Prelude.{◌≡◌, ℕ, ◌&&◌, ◌||◌, not, nat_lt, Bool, List, length, filter, Option, None, option_map, if◌then◌else◌}
+-- That what is kept in memory is seen as the machine's queues beside the sessions in flight, and tells whether a flow is
+-- quiet or blocked.
+use Rattle.std.specs.Prelude.{◌≡◌, ◌≢◌, ℕ, ◌&&◌, ◌||◌, not, nat_lt, Bool, true, false, All, List, [], length, filter, Option, None, Some, option_map, slice_get, if◌then◌else◌}
 use Rattle.std.specs.List.{list_all, list_any, enumerate_from, find}
 use Rattle.disk_trait.specs.Files.{Files}
 use Rattle.flowfile_record.specs.Stored.{Kept}
@@ -20,6 +21,8 @@ use Rattle.machine_model.specs.View.{QueueView}
 use Rattle.flow_queue.specs.Queue.{QueueState}
 use Rattle.store_core.specs.State.{state_with}
 use Rattle.store_core.specs.Store.{StoreState, kept_by, FilesHold}
+use Rattle.engine_queues.specs.Beside.{beside, is_out}
+use Rattle.engine_queues.specs.Listing.{Left, with_mark}
 use Rattle.engine_queues.specs.Queues.{AreQueuesOf, queue_seen}
 use Rattle.engine_queues.specs.Views.{HaveSizes, kept_queues}
 
@@ -39,23 +42,38 @@ pub record SeesTheSame (flow : Flow) (one other : ℕ → QueueView) : Type 0 wh
   pub held_back : (processor : ℕ × Processor) → is_held_back flow one processor ≡ is_held_back flow other processor
 
 -- what is kept shows the queues as those of the machine's state that it is, where contents have the sizes that
--- references say
+-- references say, and whichever files are out
 abbrev pub KeptIsSeen : Type 0
 KeptIsSeen =
-    (flow : Flow) (contents : ContentRef → List ℕ) (events : List Event) (k : Kept) → IsConsistent k
-    → HaveSizes contents k → SeesTheSame flow (kept_queues k) (queues_of (state_with contents events k))
+    (flow : Flow) (contents : ContentRef → List ℕ) (events : List Event) (k : Kept) (out : List ℕ) → IsConsistent k
+    → HaveSizes contents k
+    → SeesTheSame flow (beside out (kept_queues k)) (beside out (queues_of (state_with contents events k)))
 
--- the queues of a flow in memory show what is kept, and so the same as those of the machine's state
+-- the queues of a flow in memory show what is kept beside the files that are out, and so the same as those of the
+-- machine's state
 abbrev pub QueuesShowKept : Type 0
 QueuesShowKept =
-    (flow : Flow) (k : Kept) (queues : List QueueState) → IsConsistent k
-    → length k.connections ≡ length flow.connections → AreQueuesOf flow k queues → queue_seen queues ≡ kept_queues k
+    (flow : Flow) (k : Kept) (out : List ℕ) (queues : List QueueState) → IsConsistent k
+    → length k.connections ≡ length flow.connections → AreQueuesOf flow k out queues
+    → queue_seen queues ≡ beside out (kept_queues k)
 
 abbrev pub QueuesAreSeen : Type 0
 QueuesAreSeen =
-    (flow : Flow) (contents : ContentRef → List ℕ) (events : List Event) (k : Kept) (queues : List QueueState)
-    → IsConsistent k → HaveSizes contents k → length k.connections ≡ length flow.connections
-    → AreQueuesOf flow k queues → SeesTheSame flow (queue_seen queues) (queues_of (state_with contents events k))
+    (flow : Flow) (contents : ContentRef → List ℕ) (events : List Event) (k : Kept) (out : List ℕ)
+    (queues : List QueueState) → IsConsistent k → HaveSizes contents k
+    → length k.connections ≡ length flow.connections → AreQueuesOf flow k out queues
+    → SeesTheSame flow (queue_seen queues) (beside out (queues_of (state_with contents events k)))
+
+-- where no file is out the queues are seen as they are
+abbrev pub NoneIsOut : Type 0
+NoneIsOut = (queues : ℕ → QueueView) → beside [] queues ≡ queues
+
+-- what expires beside sessions in flight is none of the files that are out
+abbrev pub ExpiredAreAtRest : Type 0
+ExpiredAreAtRest =
+    (flow : Flow) (out : List ℕ) (queues : ℕ → QueueView) (moment place : ℕ) (numbers : List ℕ)
+    → due_expiry flow (beside out queues) moment ≡ Some (place, numbers)
+    → All (λ number. is_out out number ≡ false) numbers
 
 -- files that hold what a store has in memory have each live content in its size
 abbrev pub HeldContentsHaveSizes : Type 0
@@ -97,3 +115,15 @@ BlockedIsSeen =
     (flow : Flow) (queues : ℕ → QueueView) (state : State) (world : World) (moment : ℕ)
     → SeesTheSame flow queues (queues_of state)
     → blocked_but_for_swaps flow state world moment ≡ blocked_by flow queues state world moment
+
+-- ---- names of an inbox
+
+-- a listing is as it was before once a name that was taken is given back, and names may be given back in any order
+pub record GoBack (listing : Left) : Type 0 where
+  pub as_before : (place : ℕ) → slice_get listing.taken place ≡ Some false
+      → with_mark false place (with_mark true place listing) ≡ listing
+  pub in_any_order : (one other : ℕ) → one ≢ other
+      → with_mark false other (with_mark false one listing) ≡ with_mark false one (with_mark false other listing)
+
+abbrev pub NamesGoBack : Type 0
+NamesGoBack = (listing : Left) → GoBack listing

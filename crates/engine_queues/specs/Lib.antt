@@ -1,3 +1,4 @@
+pub mod Beside
 pub mod Laws
 pub mod Linked
 pub mod Listing

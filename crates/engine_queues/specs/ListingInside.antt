@@ -1,18 +1,11 @@
 -- The fields of a listing, and what they stand for.
-use Rattle.std.specs.Prelude.{◌≡◌, ℕ, ◌+◌, ◌^◌, ◌<◌, ◌≤◌, Bool, true, false, List, [], ◌∷◌, length, map, Option, None, Some, IfSome, slice_get, slice_set}
+use Rattle.std.specs.Prelude.{◌≡◌, ℕ, ◌+◌, ◌^◌, ◌<◌, ◌≤◌, Bool, true, false, List, length, map, Option, None, Some, IfSome, slice_get, slice_set}
 use Rattle.machine_model.specs.declared.flow.Processor.{Processor}
 use Rattle.machine_model.specs.declared.pattern.Pattern.{Pattern}
 use Rattle.machine_model.specs.Acting.{passes}
 use Rattle.engine_queues.specs.declared.listing.Source.{Source}
 use Rattle.engine_queues.specs.declared.listing.Listing.TheInside.{Inside}
 use Rattle.engine_queues.specs.Listing.{Left, AreDistinct, filter_of}
-
--- the names that aren't taken
-abbrev pub left_of : List (List ℕ) → (taken : List Bool) → List (List ℕ)
-left_of [] taken = []
-left_of (name ∷ names) [] = []
-left_of (name ∷ names) (true ∷ taken) = left_of names taken
-left_of (name ∷ names) (false ∷ taken) = name ∷ left_of names taken
 
 -- the name at a place is left, and passes
 pub record IsOpen (taken passing : List Bool) (place : ℕ) : Type 0 where
@@ -38,11 +31,12 @@ Suits (Some filter) names taken None = ⊥
 Suits None names taken (Some source) = ⊥
 Suits None names taken None = Unit {0}
 
--- what was a source before the name at a place was taken is one afterwards
-abbrev pub StillSuits : (taken : List Bool) → (place : ℕ) → (before after : Option Source) → Type 0
-StillSuits taken place before after =
+-- what was a source before the name at a place was taken, or given back, is one afterwards
+abbrev pub StillSuits : (is_taken : Bool) → (taken : List Bool) → (place : ℕ) → (before after : Option Source) →
+    Type 0
+StillSuits is_taken taken place before after =
     (filter : Option (Option Pattern)) (names : List (List ℕ)) (was : List Bool) → length was ≡ length names
-    → taken ≡ slice_set was place true → Suits filter names was before → Suits filter names taken after
+    → taken ≡ slice_set was place is_taken → Suits filter names was before → Suits filter names taken after
 
 -- a source has a mark for each name
 abbrev pub HasMarks : (count : ℕ) → Option Source → Type 0
@@ -51,7 +45,8 @@ HasMarks count source = IfSome source (λ source. length source.passing.items �
 abbrev pub listing_in : Inside → Left
 listing_in listing = record {
   flow = listing.flow;
-  names = left_of listing.names.items listing.taken.items;
+  listed = listing.names.items;
+  taken = listing.taken.items;
   too_large = listing.too_large;
 }
 

@@ -1,5 +1,6 @@
--- How the queues of a flow change with a session that is committed, and with files that expire.
-use Rattle.std.specs.Prelude.{◌≡◌, ℕ, ◌+◌, ◌-◌, ◌<◌, ◌≤◌, ◌==◌, zero, suc, false, true, List, [], ◌∷◌, length, map, count_by, Some, IsSome, slice_get}
+-- How the queues of a flow change with a session that is checked out, given back or committed, and with files that
+-- expire.
+use Rattle.std.specs.Prelude.{◌≡◌, ℕ, ◌+◌, ◌-◌, ◌<◌, ◌≤◌, ◌==◌, zero, suc, false, true, not, Bool, List, [], ◌∷◌, length, map, count_by, All, Some, IsSome, slice_get}
 use Rattle.std.specs.Option.{option_map_or}
 use Rattle.flowfile_record.specs.Stored.{Kept}
 use Rattle.flowfile_record.specs.declared.change.Change.TheVariants as change
@@ -16,14 +17,18 @@ use Rattle.kept_state.specs.Applied.{applied}
 use Rattle.kept_state.specs.Changes.{entry_of_change, at_content, no_files, MaySettleAs}
 use Rattle.kept_state.specs.Fits.{active_of, are_active_in, are_distinct_numbers}
 use Rattle.machine_model.specs.declared.flow.Flow.{Flow}
-use Rattle.flow_queue.specs.Queue.{QueueState, queue_with_file, without_file, flight_of, IsApart}
+use Rattle.flow_queue.specs.Queue.{QueueState, queue_with_file, without_file, flight_of, with_flight, IsApart}
+use Rattle.flow_queue.specs.declared.held.Held.{Held}
+use Rattle.engine_queues.specs.Beside.{is_out}
 use Rattle.engine_queues.specs.Queues.{AreQueuesOf}
 
 -- ---- what is known before
 
--- the queues are those of what is kept, and a session may be settled there
-pub record MaySettleOver (flow : Flow) (k : Kept) (settled : Settled) (queues : List QueueState) : Type 0 where
-  pub of_kept : AreQueuesOf flow k queues
+-- The queues are those of what is kept, and a session may be settled there, whichever live files are out.
+pub record MaySettleOver (flow : Flow) (k : Kept) (out : List ℕ) (settled : Settled) (queues : List QueueState)
+    : Type 0 where
+  pub of_kept : AreQueuesOf flow k out queues
+  pub live : All (λ number. IsSome (active_of number k.files)) out
   pub connections : length k.connections ≡ length flow.connections
   pub consistent : IsConsistent k
   pub no_batches : k.batches ≡ []
@@ -36,14 +41,26 @@ pub record IsKeptAfter (k : Kept) (connection : ℕ) (settled : Settled) (after 
   pub same : placeless_entry entry ≡ placeless_entry (entry_of_change k (change.Session settled))
   pub kept : after ≡ applied no_files k entry
 
--- the queues are those of what is kept, and files of these numbers may expire in this connection
-pub record MayExpireInQueues (flow : Flow) (k : Kept) (connection : ℕ) (numbers : List ℕ) (queues : List QueueState)
-    : Type 0 where
-  pub of_kept : AreQueuesOf flow k queues
+-- The queues are those of what is kept, and the files of these numbers are active in this connection; all of them are
+-- out, or none is.
+pub record AreInQueue (flow : Flow) (k : Kept) (out : List ℕ) (are_out : Bool) (connection : ℕ) (numbers : List ℕ)
+    (queues : List QueueState) : Type 0 where
+  pub of_kept : AreQueuesOf flow k out queues
   pub connections : length k.connections ≡ length flow.connections
   pub consistent : IsConsistent k
   pub distinct : are_distinct_numbers numbers ≡ true
   pub active : are_active_in k.files connection numbers ≡ true
+  pub flights : All (λ number. is_out out number ≡ are_out) numbers
+
+-- sessions may take these files, or they may expire: none of them is in flight
+abbrev pub MayTakeFrom : Flow → Kept → (out : List ℕ) → (connection : ℕ) → (numbers : List ℕ) → List QueueState →
+    Type 0
+MayTakeFrom flow k out connection numbers queues = AreInQueue flow k out false connection numbers queues
+
+-- a session that took these files may give them back
+abbrev pub MayGiveBack : Flow → Kept → (out : List ℕ) → (connection : ℕ) → (numbers : List ℕ) → List QueueState →
+    Type 0
+MayGiveBack flow k out connection numbers queues = AreInQueue flow k out true connection numbers queues
 
 -- each queue has room for the files that go into its connection, which are placed into these connections
 pub record HasRoomIn (connections : List ℕ) (queues : List QueueState) : Type 0 where
@@ -62,16 +79,46 @@ HasRoomFor settled queues = HasRoomIn (placed_connections settled) queues
 abbrev pub without_room : QueueState → QueueState
 without_room queue = record queue { spare = 0; batch_room = false }
 
--- ---- files leave
+-- the file, and the queue, but for what is in flight
+abbrev pub as_at_rest : Held → Held
+as_at_rest held = record held { in_flight = false }
 
-abbrev pub queue_without : ℕ → QueueState → QueueState
-queue_without number queue = record queue { files = without_file number queue.files; spare = queue.spare + 1 }
+abbrev pub without_flights : QueueState → QueueState
+without_flights queue = record queue { files = map as_at_rest queue.files }
+
+-- ---- files are taken and given back
 
 -- the queues, that at a place changed
 abbrev pub changed_at : ℕ → (QueueState → QueueState) → List QueueState → List QueueState
 changed_at place change [] = []
 changed_at zero change (queue ∷ queues) = change queue ∷ queues
 changed_at (suc place) change (queue ∷ queues) = queue ∷ changed_at place change queues
+
+abbrev pub queue_marked : (in_flight : Bool) → ℕ → QueueState → QueueState
+queue_marked in_flight number queue = record queue { files = with_flight number in_flight queue.files }
+
+-- the queues, that at a place with the files of these numbers in flight, or at rest
+abbrev pub queues_marked : (in_flight : Bool) → ℕ → List ℕ → List QueueState → List QueueState
+queues_marked in_flight place [] queues = queues
+queues_marked in_flight place (number ∷ numbers) queues =
+    queues_marked in_flight place numbers (changed_at place (queue_marked in_flight number) queues)
+
+-- the queue at a place has a file of this number, which is in flight, or at rest
+pub record HasFlight (in_flight : Bool) (place number : ℕ) (queues : List QueueState) : Type 0 where
+  pub within : place < length queues
+  pub there : (queue : QueueState) → slice_get queues place ≡ Some queue → flight_of number queue.files ≡ Some in_flight
+
+-- when the turn of each of these comes it is at rest, and may be marked as in flight; or the other way round
+abbrev pub MayBeMarked : (in_flight : Bool) → ℕ → List ℕ → List QueueState → Type 0
+MayBeMarked in_flight place [] queues = Unit {0}
+MayBeMarked in_flight place (number ∷ numbers) queues =
+    HasFlight (not in_flight) place number queues
+    × MayBeMarked in_flight place numbers (changed_at place (queue_marked in_flight number) queues)
+
+-- ---- files leave
+
+abbrev pub queue_without : ℕ → QueueState → QueueState
+queue_without number queue = record queue { files = without_file number queue.files; spare = queue.spare + 1 }
 
 -- the queues, that at a place without the files of these numbers
 abbrev pub queues_without : ℕ → List ℕ → List QueueState → List QueueState

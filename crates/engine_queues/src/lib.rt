@@ -9,7 +9,9 @@ mod picking;
 mod queues;
 mod settling;
 
-pub use laws::{quiet_and_blocked_are_seen, what_is_kept_is_seen};
+pub use laws::{
+    names_go_back, quiet_and_blocked_are_seen, what_expires_is_at_rest, what_is_kept_is_seen,
+};
 pub use linked::LinkedFlow;
 pub use listing::Listing;
 pub use picking::{Expiry, Picked, picks_are_given};

@@ -1,10 +1,9 @@
 //! The names of an inbox that are left, and which of them each GetFile of a flow takes first.
-ghost use Rattle.std.specs.Prelude.{◌≡◌, ℕ, ◌+◌, ◌^◌, ◌<◌, ◌≤◌, Option, length, map, All, Some, MatchOption, IfOk, slice_get, option_map};
+ghost use Rattle.std.specs.Prelude.{◌≡◌, ℕ, ◌+◌, ◌^◌, ◌<◌, ◌≤◌, Option, true, false, length, map, replicate, All, Some, IfOk, slice_get, option_map};
 ghost use Rattle.machine_model.specs.declared.flow.Processor.{Processor};
 ghost use Rattle.machine_model.specs.Acting.{passes};
-ghost use Rattle.machine_model.specs.Stepping.{without_name};
 ghost use Rattle.engine_queues.specs.declared.listing.Source.{Source as TheSource};
-ghost use Rattle.engine_queues.specs.Listing.{AreDistinct, filter_of, first_passed};
+ghost use Rattle.engine_queues.specs.Listing.{AreDistinct, filter_of, first_passed, names_left, with_mark, TakesFrom};
 ghost use Rattle.engine_queues.specs.ListingInside.{IsFirstOpen, Suits, StillSuits, HasMarks};
 
 use crate::LinkedFlow;
@@ -14,7 +13,8 @@ use std::alloc::{AllocError, Global};
 use std::marker::Model;
 
 /// The names of an inbox that are left, in their order, for the processors of a flow, and how many others it has, whose
-/// files are too large for any. However many are taken one after another, each name is looked at once for each GetFile.
+/// files are too large for any. However many are taken one after another, each name is looked at once for each GetFile,
+/// and again once for each name that is given back before it.
 #[derive(Drop)]
 pub struct Listing<'f> {
     flow: LinkedFlow<'f>,
@@ -59,8 +59,12 @@ impl<'f> Listing<'f> {
     ) -> Result<Listing<'f>, AllocError>
         requires distinct { AreDistinct names.items }
         requires few { length names.items + too_large < 2 ^ 64 }
-        ensures { IfOk result (λ listing. listing
-            ≡ record { flow = flow.now; names = names.items; too_large = too_large }) }
+        ensures { IfOk result (λ listing. listing ≡ record {
+          flow = flow.now;
+          listed = names.items;
+          taken = replicate (length names.items) false;
+          too_large = too_large;
+        }) }
     {
         let taken = vec![in alloc; false; names.len()]?;
         let mut sources = Vec::new(alloc);
@@ -88,7 +92,7 @@ impl<'f> Listing<'f> {
     pub fn first_for(&self, processor: u16) -> Option<&Name>
         requires { processor < length self.now.flow.processors }
         ensures { (p : Processor) → slice_get self.now.flow.processors processor ≡ Some p
-            → option_map (λ name. name.now) result ≡ first_passed p.kind self.now.names }
+            → option_map (λ name. name.now) result ≡ first_passed p.kind (names_left self.now) }
     {
         let Some(source) = &self.sources[usize::from(processor)] else {
             return None;
@@ -98,7 +102,7 @@ impl<'f> Listing<'f> {
 
     /// How many names are left, those of files that are too large among them.
     pub fn count_left(&self) -> u64
-        ensures { result ≡ length self.now.names + self.now.too_large }
+        ensures { result ≡ length (names_left self.now) + self.now.too_large }
     {
         let mut count = self.too_large;
         for is_taken in self.taken.as_slice() {
@@ -109,22 +113,31 @@ impl<'f> Listing<'f> {
         count
     }
 
-    /// Takes the name that a processor takes first, if there is one.
-    pub fn take_first(&mut self, processor: u16)
+    /// Takes the name that a processor takes first, if there is one, and answers its place among all that were listed.
+    pub fn take_first(&mut self, processor: u16) -> Option<usize>
         requires { processor < length self.old.flow.processors }
         ensures { (p : Processor) → slice_get self.old.flow.processors processor ≡ Some p
-            → MatchOption (first_passed p.kind self.old.names) (self.new ≡ self.old)
-            (λ name. self.new ≡ record self.old { names = without_name self.old.names name }) }
+            → TakesFrom p.kind result self.old self.new }
     {
         let Some(source) = &self.sources[usize::from(processor)] else {
-            return;
+            return None;
         };
         let place = source.first;
         if place >= self.names.len() {
-            return;
+            return None;
         }
         self.taken[place] = true;
         move_past(&mut self.sources, &self.taken, place);
+        Some(place)
+    }
+
+    /// Gives back the name at a place, which was taken: it is left again, at its place in the order.
+    pub fn give_back(&mut self, place: usize)
+        requires { slice_get self.old.taken place ≡ Some true }
+        ensures { self.new ≡ with_mark false place self.old }
+    {
+        self.taken[place] = false;
+        move_back(&mut self.sources, &self.taken, place);
     }
 }
 
@@ -180,7 +193,7 @@ fn move_past(sources: &mut [Option<Source>], taken: &[bool], place: usize)
     requires place { place < length taken.now }
     requires marks { All (HasMarks (length taken.now)) sources.old }
     ensures { (k : ℕ) (before after : Option TheSource) → slice_get sources.old k ≡ Some before
-        → slice_get sources.new k ≡ Some after → StillSuits taken.now place before after }
+        → slice_get sources.new k ≡ Some after → StillSuits true taken.now place before after }
 {
     for source in sources.iter_mut() {
         move_source(source, taken, place);
@@ -191,11 +204,37 @@ fn move_past(sources: &mut [Option<Source>], taken: &[bool], place: usize)
 fn move_source(source: &mut Option<Source>, taken: &[bool], place: usize)
     requires place { place < length taken.now }
     requires marks { HasMarks (length taken.now) source.old }
-    ensures { StillSuits taken.now place source.old source.new }
+    ensures { StillSuits true taken.now place source.old source.new }
 {
     if let Some(source) = source
         && source.first == place
     {
         source.first = first_open(taken, &source.passing, place + 1);
+    }
+}
+
+// Moves each source back to a place whose name is left again.
+fn move_back(sources: &mut [Option<Source>], taken: &[bool], place: usize)
+    requires place { place < length taken.now }
+    requires marks { All (HasMarks (length taken.now)) sources.old }
+    ensures { (k : ℕ) (before after : Option TheSource) → slice_get sources.old k ≡ Some before
+        → slice_get sources.new k ≡ Some after → StillSuits false taken.now place before after }
+{
+    for source in sources.iter_mut() {
+        move_source_back(source, taken, place);
+    }
+}
+
+// Moves a source back to a place whose name is left again, where it stands behind that and passes the name.
+fn move_source_back(source: &mut Option<Source>, taken: &[bool], place: usize)
+    requires place { place < length taken.now }
+    requires marks { HasMarks (length taken.now) source.old }
+    ensures { StillSuits false taken.now place source.old source.new }
+{
+    if let Some(source) = source
+        && place < source.first
+        && source.passing[place]
+    {
+        source.first = place;
     }
 }

@@ -1,5 +1,5 @@
 //! The queues of what a store keeps.
-ghost use Rattle.std.specs.Prelude.{◌≡◌, length, map, IfOk, OnOk};
+ghost use Rattle.std.specs.Prelude.{◌≡◌, [], length, map, IfOk, OnOk};
 ghost use Rattle.flowfile_record.specs.Stored.{kept_of};
 ghost use Rattle.checkpoint_store.specs.Consistent.{IsConsistent};
 ghost use Rattle.flow_queue.specs.Queue.{IsApart, queue_with_file};
@@ -17,7 +17,7 @@ impl Queues {
     pub fn open(alloc: Global, flow: &Flow, stored: &Stored) -> Result<Queues, AllocError>
         requires consistent { IsConsistent (kept_of stored.now) }
         requires count { length (kept_of stored.now).connections ≡ length flow.now.connections }
-        ensures { IfOk result (AreQueuesOf flow.now (kept_of stored.now)) }
+        ensures { IfOk result (AreQueuesOf flow.now (kept_of stored.now) []) }
     {
         let mut list = empty_queues(alloc, flow.connections.as_slice())?;
         for active in stored.files.iter() {

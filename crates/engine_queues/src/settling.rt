@@ -1,10 +1,12 @@
 //! How the queues follow what is kept.
-ghost use Rattle.std.specs.Prelude.{◌≡◌, ◌<◌, ◌^◌, length, map, All, OnOk};
+ghost use Rattle.std.specs.Prelude.{◌≡◌, ◌++◌, ◌<◌, ◌^◌, ℕ, List, Some, not, length, map, All, OnOk};
 ghost use Rattle.flowfile_record.specs.Stored.{Kept, kept_of};
 ghost use Rattle.kept_state.specs.Applied.{left_after};
 ghost use Rattle.machine_model.specs.declared.flow.Flow.{Flow};
+ghost use Rattle.flow_queue.specs.Queue.{flight_of};
+ghost use Rattle.engine_queues.specs.Beside.{out_without};
 ghost use Rattle.engine_queues.specs.Queues.{AreQueuesOf};
-ghost use Rattle.engine_queues.specs.Settling.{MaySettleOver, IsKeptAfter, MayExpireInQueues, HasRoomIn, HasRoomFor, without_room, queues_without, HasFiles, queues_with, MayAllJoin, as_kept};
+ghost use Rattle.engine_queues.specs.Settling.{MaySettleOver, IsKeptAfter, MayTakeFrom, MayGiveBack, HasRoomIn, HasRoomFor, without_room, without_flights, queue_marked, queues_marked, MayBeMarked, queues_without, HasFiles, queues_with, MayAllJoin, as_kept};
 
 use crate::Queues;
 use flow_queue::Queue;
@@ -12,9 +14,31 @@ use flowfile_record::{ActiveFile, ActiveList, Placed, Settled, Stored};
 use std::alloc::AllocError;
 
 impl Queues {
+    /// A session takes files of a connection, which stay in its queue, in flight. It takes no memory.
+    pub fn check_out(&mut self, connection: u16, numbers: &[u64])
+        requires { (flow : Flow) × (k : Kept) × (out : List ℕ)
+            × MayTakeFrom flow k out connection numbers.now self.old }
+        ensures same { map without_flights self.new ≡ map without_flights self.old }
+        ensures out { (flow : Flow) (k : Kept) (out : List ℕ) → MayTakeFrom flow k out connection numbers.now self.old
+            → AreQueuesOf flow k (numbers.now ++ out) self.new }
+    {
+        mark(&mut self.list, connection, numbers, true);
+    }
+
+    /// A session gives files of a connection back. It takes no memory.
+    pub fn back(&mut self, connection: u16, numbers: &[u64])
+        requires { (flow : Flow) × (k : Kept) × (out : List ℕ)
+            × MayGiveBack flow k out connection numbers.now self.old }
+        ensures same { map without_flights self.new ≡ map without_flights self.old }
+        ensures back { (flow : Flow) (k : Kept) (out : List ℕ) → MayGiveBack flow k out connection numbers.now self.old
+            → AreQueuesOf flow k (out_without numbers.now out) self.new }
+    {
+        mark(&mut self.list, connection, numbers, false);
+    }
+
     /// Makes room for the files that a session places.
     pub fn reserve(&mut self, settled: &Settled) -> Result<(), AllocError>
-        requires { (flow : Flow) × (k : Kept) × MaySettleOver flow k settled.now self.old }
+        requires { (flow : Flow) × (k : Kept) × (out : List ℕ) × MaySettleOver flow k out settled.now self.old }
         ensures same { map without_room self.new ≡ map without_room self.old }
         ensures room { OnOk result (HasRoomFor settled.now self.new) }
     {
@@ -22,24 +46,27 @@ impl Queues {
     }
 
     /// The queues after a session that the store has committed: the files that are gone are taken out of the queue of
-    /// the connection that they were in, and the placed ones are put into those of theirs. It takes no memory.
+    /// the connection that they were in, in flight or not, and the placed ones are put into those of theirs. The files of
+    /// other sessions stay in flight. It takes no memory.
     pub fn settle(&mut self, connection: u16, settled: Settled, stored: &Stored)
-        requires kept { (flow : Flow) × (k : Kept) × MaySettleOver flow k settled self.old
+        requires kept { (flow : Flow) × (k : Kept) × (out : List ℕ) × MaySettleOver flow k out settled self.old
             × IsKeptAfter k connection settled (kept_of stored.now) }
         requires room { HasRoomFor settled self.old }
-        ensures { (flow : Flow) (k : Kept) → MaySettleOver flow k settled self.old
+        ensures { (flow : Flow) (k : Kept) (out : List ℕ) → MaySettleOver flow k out settled self.old
             → IsKeptAfter k connection settled (kept_of stored.now)
-            → AreQueuesOf flow (kept_of stored.now) self.new }
+            → AreQueuesOf flow (kept_of stored.now) (out_without settled.gone out) self.new }
     {
         take_out(&mut self.list, connection, settled.gone.as_slice());
         put_in(&mut self.list, settled.placed.into_vec(), &stored.files);
     }
 
-    /// The queues after files of a connection expired. It takes no memory.
+    /// The queues after files of a connection expired, of which none was in flight. It takes no memory.
     pub fn expire(&mut self, connection: u16, numbers: &[u64])
-        requires { (flow : Flow) × (k : Kept) × MayExpireInQueues flow k connection numbers.now self.old }
-        ensures { (flow : Flow) (k after : Kept) → MayExpireInQueues flow k connection numbers.now self.old
-            → after.files ≡ left_after numbers.now k.files → AreQueuesOf flow after self.new }
+        requires { (flow : Flow) × (k : Kept) × (out : List ℕ)
+            × MayTakeFrom flow k out connection numbers.now self.old }
+        ensures { (flow : Flow) (k after : Kept) (out : List ℕ)
+            → MayTakeFrom flow k out connection numbers.now self.old
+            → after.files ≡ left_after numbers.now k.files → AreQueuesOf flow after out self.new }
     {
         take_out(&mut self.list, connection, numbers);
     }
@@ -57,6 +84,27 @@ fn reserve_for(queues: &mut Vec<Queue>, placed: &[Placed]) -> Result<(), AllocEr
         queues[usize::from(one.connection)].reserve(count)?;
     }
     Ok(())
+}
+
+// Marks files of the queue of a connection, which were at rest or in flight, as the other.
+fn mark(queues: &mut Vec<Queue>, connection: u16, numbers: &[u64], in_flight: bool)
+    requires { MayBeMarked in_flight connection numbers.now queues.old.items }
+    ensures { queues.new.items ≡ queues_marked in_flight connection numbers.now queues.old.items }
+{
+    for number in numbers {
+        mark_one(&mut queues[usize::from(connection)], *number, in_flight);
+    }
+}
+
+fn mark_one(queue: &mut Queue, number: u64, in_flight: bool)
+    requires { flight_of number queue.old.files ≡ Some (not in_flight) }
+    ensures { queue.new ≡ queue_marked in_flight number queue.old }
+{
+    if in_flight {
+        queue.check_out(number);
+    } else {
+        queue.back(number);
+    }
 }
 
 // Takes files out of the queue of a connection.

@@ -49,7 +49,7 @@ use Rattle.store_core.specs.Store.{FilesHold, StoreState, kept_by}
 use Rattle.engine_change.specs.Committing.{identity_of}
 use Rattle.engine_queues.specs.Laws.{HeldContentsHaveSizes, QueuesAreSeen, SeesTheSame}
 use Rattle.engine_queues.specs.Queues.{AreQueuesOf, queue_seen}
-use Rattle.engine_choice.specs.Choice.{coming_of, next_choice}
+use Rattle.engine_choice.specs.Choice.{coming_of, next_choice, known_alone}
 use Rattle.engine_choice.specs.Laws.{ChoicesAreSeen, ChoicesAreSessions, IsSessionAt, given_for, numbers_in}
 use Rattle.engine_choice.specs.declared.choice.Choice.{Choice}
 use Rattle.engine_choice.specs.declared.choice.Taking.{Taking}
@@ -59,16 +59,19 @@ use Rattle.run_law.specs.Run.{IsStateOf}
 use Rattle.run_law.specs.Turns.{ComesNext, step_moment}
 use Rattle.engine_steps.specs.Checkout.{choice_in}
 use Rattle.engine_steps.specs.Showing.{EngineShowsState}
+use Rattle.engine_queues.specs.Listing.{names_left}
+use Rattle.engine_queues.proofs.ForCallers.{seen_alone}
+use Rattle.engine_choice.proofs.ForCallers.{alone_known}
 use Rattle.engine_steps.specs.Engine.{EngineState}
 
 -- ---- the queues are the machine's
 
 pub sees : QueuesAreSeen → HeldContentsHaveSizes → (flow : Flow) (s : StoreState) (files : Files) (queues : List QueueState) (m : Machine) → FilesHold s files → IsConsistent (kept_by s) → flow_in (kept_by s) ≡ identity_of flow
-    → AreQueuesOf flow (kept_by s) queues → IsStateOf m (content_in files) (kept_by s) → SeesTheSame flow (queue_seen queues) (queues_of m.state)
+    → AreQueuesOf flow (kept_by s) [] queues → IsStateOf m (content_in files) (kept_by s) → SeesTheSame flow (queue_seen queues) (queues_of m.state)
 sees law sizes flow s files queues m holds consistent flow_is are tied =
     let count : length (kept_by s).connections ≡ length flow.connections = ap (λ (f : store.Flow). length f.connections) flow_is ∙ length-map flow.connections (λ c. c.id) in
     subst (λ (t : State). SeesTheSame flow (queue_seen queues) (queues_of t)) tied.is
-    (law flow (content_in files) m.state.events (kept_by s) queues consistent (sizes s files holds) count are)
+    (seen_alone law flow (content_in files) m.state.events (kept_by s) queues consistent (sizes s files holds) count are)
 
 -- ---- a choice is a step
 
@@ -148,7 +151,7 @@ there_for moment there (taking.Receive name) = refl
 
 -- a session that comes next is one
 session_step : SessionsAreSteps → (flow : Flow) (last : Option ℕ) (m : Machine) (moment : ℕ) (choice : Choice) → due_expiry flow (queues_of m.state) moment ≡ None
-    → next_choice flow (queues_of m.state) m.state.counts (coming_of m.world) moment last ≡ Some choice → IsSessionAt flow m.state m.world moment choice → HasStep flow last moment m
+    → next_choice flow (known_alone (queues_of m.state) m.state.counts (coming_of m.world) moment) last ≡ Some choice → IsSessionAt flow m.state m.world moment choice → HasStep flow last moment m
 session_step law flow last m moment choice nothing chosen s =
     let kind = s.processor.kind in
     let given : Given = given_for moment (is_there m.world s.files) choice.taking in
@@ -180,18 +183,19 @@ session_step law flow last m moment choice nothing chosen s =
 
 -- .. and so the machine goes on where one comes and no file has expired
 pub goes_on : ChoicesAreSessions → ChoicesAreSeen → SessionsAreSteps → (e : EngineState) (m : Machine) (moment : ℕ) (choice : Choice) → IsValid e.flow m.state → SeesTheSame e.flow (queue_seen e.queues) (queues_of m.state)
-    → (kept_by e.store).counts ≡ m.state.counts → coming_of m.world ≡ e.listing.names → due_expiry e.flow (queue_seen e.queues) moment ≡ None → choice_in e moment ≡ Some choice → HasStep e.flow e.last moment m
+    → (kept_by e.store).counts ≡ m.state.counts → coming_of m.world ≡ (names_left e.listing) → due_expiry e.flow (queue_seen e.queues) moment ≡ None → choice_in e moment ≡ Some choice → HasStep e.flow e.last moment m
 goes_on choices seen_so steps e m moment choice valid seen counts coming nothing is =
-    let chosen : next_choice e.flow (queue_seen e.queues) m.state.counts (coming_of m.world) moment e.last ≡ Some choice =
-    ap (λ (made : List ℕ). next_choice e.flow (queue_seen e.queues) made (coming_of m.world) moment e.last) (sym counts)
-    ∙ ap (λ (names : List (List ℕ)). next_choice e.flow (queue_seen e.queues) (kept_by e.store).counts names moment e.last) coming ∙ is in
+    let known = known_alone (queue_seen e.queues) m.state.counts (coming_of m.world) moment in
+    let chosen : next_choice e.flow known e.last ≡ Some choice =
+    ap (λ (made : List ℕ). next_choice e.flow (known_alone (queue_seen e.queues) made (coming_of m.world) moment) e.last) (sym counts)
+    ∙ ap (λ (names : List (List ℕ)). next_choice e.flow (known_alone (queue_seen e.queues) (kept_by e.store).counts names moment) e.last) coming ∙ is in
     session_step steps e.flow e.last m moment choice (sym (seen.expiry moment) ∙ nothing)
-    (sym (seen_so e.flow (queue_seen e.queues) (queues_of m.state) m.state.counts (coming_of m.world) moment e.last seen) ∙ chosen)
-    (choices e.flow (queue_seen e.queues) m.state m.world moment e.last choice valid seen chosen)
+    (sym (seen_so e.flow known (queues_of m.state) e.last seen) ∙ chosen)
+    (choices e.flow m.state m.world [] known e.last choice valid (alone_known e.flow m.state m.world (queue_seen e.queues) moment seen) chosen).0
 
 -- ---- an engine shows the machine's state
 
-pub shown : QueuesAreSeen → HeldContentsHaveSizes → (e : EngineState) (s : StoreState) (files : Files) (m : Machine) → s ≡ e.store → flow_in (kept_by e.store) ≡ identity_of e.flow → AreQueuesOf e.flow (kept_by e.store) e.queues
+pub shown : QueuesAreSeen → HeldContentsHaveSizes → (e : EngineState) (s : StoreState) (files : Files) (m : Machine) → s ≡ e.store → flow_in (kept_by e.store) ≡ identity_of e.flow → AreQueuesOf e.flow (kept_by e.store) [] e.queues
     → FilesHold s files → IsConsistent (kept_by s) → IsStateOf m (content_in files) (kept_by s) → EngineShowsState e m
 shown law sizes e s files m is flow queues holds consistent tied =
     let same = subst (λ (t : StoreState). IsStateOf m (content_in files) (kept_by t)) is tied in

@@ -33,7 +33,7 @@ use Rattle.engine_queues.specs.Picking.{first_pick}
 use Rattle.engine_queues.specs.Laws.{QueuesShowKept}
 use Rattle.engine_queues.specs.Queues.{AreQueuesOf, queue_seen}
 use Rattle.engine_queues.specs.Views.{kept_queues}
-use Rattle.engine_choice.specs.Choice.{next_choice, taking_by}
+use Rattle.engine_choice.specs.Choice.{next_choice, taking_by, known_alone}
 use Rattle.engine_choice.specs.Laws.{given_for, numbers_in}
 use Rattle.engine_queues.specs.Listing.{first_passed}
 use Rattle.engine_choice.specs.declared.choice.Choice.{Choice}
@@ -46,6 +46,7 @@ use Rattle.engine_session.specs.Job.{MayHand}
 use Rattle.engine_session.specs.declared.job.Job.{Job}
 use Rattle.engine_steps.proofs.Files.{some_and}
 use Rattle.engine_steps.proofs.Left.{found_among}
+use Rattle.engine_queues.proofs.ForCallers.{shown_alone}
 use Rattle.engine_steps.proofs.Picked.{IsPicked, first_picked}
 
 among_got : {X : Type 0} (xs : List X) (place : ℕ) (x : X) → slice_get xs place ≡ Some x → Among x xs
@@ -69,7 +70,7 @@ pub record TakesSo (k : Kept) (names : List (List ℕ)) (moment : ℕ) (kind : K
 record TakesFiles (kind : Kind) : Type 0 where
   pub to : (given : Given) → IsGivenTo kind given
   pub file : received_name kind None ≡ []
-  pub taking : (names : List (List ℕ)) (made : ℕ) (pick : Option (ℕ × List ℕ)) → taking_by kind names made pick ≡ option_map (λ files. Files files.0 files.1) pick
+  pub taking : (names : List (List ℕ)) (made busy : ℕ) (pick : Option (ℕ × List ℕ)) → taking_by kind names made busy pick ≡ option_map (λ files. Files files.0 files.1) pick
 
 module _ (k : Kept) (names : List (List ℕ)) (moment made : ℕ) (pick : Option (ℕ × List ℕ)) where
   -- what is picked are live files, as the rule takes them
@@ -96,8 +97,8 @@ module _ (k : Kept) (names : List (List ℕ)) (moment made : ℕ) (pick : Option
     index = λ given there is. let index : given.index ≡ 0 = ap (λ (g : Given). g.index) is in omega (arith, index);
   }
 
-  files_taken_so : (kind : Kind) → TakesFiles kind → (taking : Taking) → Picks (take_rule_of kind) → taking_by kind names made pick ≡ Some taking → TakesSo k names moment kind taking
-  files_taken_so kind of taking may is = by_pick pick refl (sym (of.taking names made pick) ∙ is)
+  files_taken_so : (kind : Kind) → TakesFiles kind → (taking : Taking) → Picks (take_rule_of kind) → taking_by kind names made 0 pick ≡ Some taking → TakesSo k names moment kind taking
+  files_taken_so kind of taking may is = by_pick pick refl (sym (of.taking names made 0 pick) ∙ is)
     where
       by_pick : (o : Option (ℕ × List ℕ)) → pick ≡ o → option_map (λ files. Files files.0 files.1) o ≡ Some taking → TakesSo k names moment kind taking
       by_pick None e is = absurd cc
@@ -119,18 +120,18 @@ module _ (k : Kept) (names : List (List ℕ)) (moment made : ℕ) (pick : Option
         omega (arith, index, below, most);
   }
 
-  pub takes_so : (kind : Kind) (taking : Taking) → IsSoundKind kind → Picks (take_rule_of kind) → taking_by kind names made pick ≡ Some taking → TakesSo k names moment kind taking
+  pub takes_so : (kind : Kind) (taking : Taking) → IsSoundKind kind → Picks (take_rule_of kind) → taking_by kind names made 0 pick ≡ Some taking → TakesSo k names moment kind taking
   takes_so (GetFile filter) taking sound may is = by_name (find (passes filter) names) refl is
     where
       by_name : (o : Option (List ℕ)) → find (passes filter) names ≡ o → option_map (λ name. Receive name) o ≡ Some taking → TakesSo k names moment (GetFile filter) taking
       by_name None e is = absurd cc
       by_name (Some name) e is = let same : Receive name ≡ taking = cc in subst (TakesSo k names moment (GetFile filter)) same (received_so filter name e)
-  takes_so (GenerateFlowFile count text) taking sound may is = by_count (nat_lt made count) refl is
+  takes_so (GenerateFlowFile count text) taking sound may is = by_count (nat_lt (made + 0) count) refl is
     where
-      by_count : (b : Bool) → nat_lt made count ≡ b → cond b (Some (Generate (made + 1))) None ≡ Some taking → TakesSo k names moment (GenerateFlowFile count text) taking
+      by_count : (b : Bool) → nat_lt (made + 0) count ≡ b → cond b (Some (Generate (made + 1))) None ≡ Some taking → TakesSo k names moment (GenerateFlowFile count text) taking
       by_count false e is = absurd cc
-      by_count true e is = let same : Generate (made + 1) ≡ taking = cc in subst (TakesSo k names moment (GenerateFlowFile count text)) same (generated_so count text sound e)
-  takes_so kind taking sound may is = files_taken_so kind (record { to = λ given. tt; file = refl; taking = λ names made pick. refl }) taking may is
+      by_count true e is = let same : Generate (made + 1) ≡ taking = cc in subst (TakesSo k names moment (GenerateFlowFile count text)) same (generated_so count text sound (ap (λ n. nat_lt n count) (let alone : made ≡ made + 0 = omega arith in alone) ∙ e))
+  takes_so kind taking sound may is = files_taken_so kind (record { to = λ given. tt; file = refl; taking = λ names made busy pick. refl }) taking may is
 
 -- ---- the session that comes next
 
@@ -141,15 +142,15 @@ pub record IsNext (flow : Flow) (k : Kept) (names : List (List ℕ)) (moment : �
   pub takes : TakesSo k names moment processor.kind choice.taking
 
 pub next_takes : QueuesShowKept → (flow : Flow) (k : Kept) (queues : List QueueState) (names : List (List ℕ)) (moment : ℕ) (last : Option ℕ) (choice : Choice)
-    → IsConsistent k → flow_in k ≡ identity_of flow → IsSound flow → AreQueuesOf flow k queues
-    → next_choice flow (queue_seen queues) k.counts names moment last ≡ Some choice → IsNext flow k names moment choice
+    → IsConsistent k → flow_in k ≡ identity_of flow → IsSound flow → AreQueuesOf flow k [] queues
+    → next_choice flow (known_alone (queue_seen queues) k.counts names moment) last ≡ Some choice → IsNext flow k names moment choice
 next_takes shown flow k queues names moment last choice consistent flow_is sound are is =
-    let same : queue_seen queues ≡ kept_queues k = shown flow k queues consistent (ap (λ (f : store.Flow). length f.connections) flow_is ∙ length-map flow.connections (λ c. c.id)) are in
-    let it = chosen flow (queue_seen queues) k.counts names moment last choice is in
+    let same : queue_seen queues ≡ kept_queues k = shown_alone shown flow k queues consistent (ap (λ (f : store.Flow). length f.connections) flow_is ∙ length-map flow.connections (λ c. c.id)) are in
+    let it = chosen flow (known_alone (queue_seen queues) k.counts names moment) last choice is in
     let among = among_got flow.processors choice.processor it.processor it.there in
     let kind = it.processor.kind in
-    let takes : taking_by kind names (slice_index k.counts choice.processor) (first_pick flow (kept_queues k) moment (choice.processor, it.processor)) ≡ Some choice.taking =
-    ap (λ (views : ℕ → QueueView). taking_by kind names (slice_index k.counts choice.processor) (first_pick flow views moment (choice.processor, it.processor))) (sym same) ∙ it.taking in
+    let takes : taking_by kind names (slice_index k.counts choice.processor) 0 (first_pick flow (kept_queues k) moment (choice.processor, it.processor)) ≡ Some choice.taking =
+    ap (λ (views : ℕ → QueueView). taking_by kind names (slice_index k.counts choice.processor) 0 (first_pick flow views moment (choice.processor, it.processor))) (sym same) ∙ it.taking in
     let is_so = all_among (λ (p : Processor). IsSoundKind p.kind) it.processor flow.processors sound.kinds among in
     record {
       processor = it.processor;

@@ -15,9 +15,9 @@ use Rattle.machine_model.specs.State.{Machine}
 use Rattle.store_core.specs.Store.{FilesHold, kept_by}
 use Rattle.engine_queues.specs.Laws.{HeldContentsHaveSizes, QueuesAreSeen, QueuesShowKept}
 use Rattle.engine_queues.specs.Queues.{queue_seen}
-use Rattle.engine_choice.specs.Choice.{next_choice}
+use Rattle.engine_choice.specs.Choice.{next_choice, known_alone}
 use Rattle.engine_choice.specs.Laws.{ChoicesAreSeen, ChoicesAreSessions}
-use Rattle.engine_queues.specs.Listing.{first_passed}
+use Rattle.engine_queues.specs.Listing.{first_passed, names_left}
 use Rattle.engine_choice.specs.declared.choice.Choice.{Choice}
 use Rattle.engine_session.specs.Handing.{AreTaken}
 use Rattle.engine_session.specs.Laws.{MachinesFilesAreLive}
@@ -52,7 +52,7 @@ module _ (tells : Bool) {D : Type 0} (held : D → Files) (moment : D → ℕ) (
   abbrev pub choice_at : Choice
   choice_at = stands.1.choice
 
-  chosen_at : next_choice e.flow (queue_seen e.queues) (kept_by e.store).counts e.listing.names done.given.moment e.last ≡ Some choice_at
+  chosen_at : next_choice e.flow (known_alone (queue_seen e.queues) (kept_by e.store).counts (names_left e.listing) done.given.moment) e.last ≡ Some choice_at
   chosen_at = chosen_of e done.given.moment choice_at stands.1.chosen
 
   pub may_in : MayHand v.flow (kept_by v.store) job_in
@@ -71,7 +71,7 @@ module _ (tells : Bool) {D : Type 0} (held : D → Files) (moment : D → ℕ) (
   pub read_in : IsTrue tells → AreTaken (kept_by v.store) job_in.connection job_in.numbers (content_in (held disk)) job_in.files job_in.contents
   read_in = told_in.read
 
-  pub next_in : QueuesShowKept → IsNext v.flow (kept_by v.store) v.listing.names done.given.moment choice_at
+  pub next_in : QueuesShowKept → IsNext v.flow (kept_by v.store) (names_left v.listing) done.given.moment choice_at
   next_in shown = next_there tells held moment images v e is disk ready consistent done.given.moment choice_at chosen_at shown
 
   pub processor_in : done.processor ≡ choice_at.processor
@@ -111,19 +111,19 @@ module _ (tells : Bool) {D : Type 0} (held : D → Files) (moment : D → ℕ) (
       (subst (λ (f : Flow). choice_at.processor < length f.processors) (sym same) (slice_get_within v.flow.processors choice_at.processor next.processor next.found))
 
   pub first_in : QueuesShowKept → (among : Flow) → among ≡ v.flow → (received : Option (List ℕ)) → received ≡ done.given.file
-      → IfSome received (λ name. (p : Processor) → slice_get among.processors done.processor ≡ Some p → first_passed p.kind v.listing.names ≡ Some name)
+      → IfSome received (λ name. (p : Processor) → slice_get among.processors done.processor ≡ Some p → first_passed p.kind (names_left v.listing) ≡ Some name)
   first_in shown among same received copy =
-      subst (λ (place : ℕ). IfSome received (λ name. (p : Processor) → slice_get among.processors place ≡ Some p → first_passed p.kind v.listing.names ≡ Some name)) (sym processor_in)
-      (next_first v.flow among (kept_by v.store) v.listing.names done.given.moment choice_at received same (copy ∙ received_is) (next_in shown))
+      subst (λ (place : ℕ). IfSome received (λ name. (p : Processor) → slice_get among.processors place ≡ Some p → first_passed p.kind (names_left v.listing) ≡ Some name)) (sym processor_in)
+      (next_first v.flow among (kept_by v.store) (names_left v.listing) done.given.moment choice_at received same (copy ∙ received_is) (next_in shown))
 
-  pub left_in : QueuesShowKept → (IsTrue in_tells → AreTakeable left e.listing.names) → (received : Option (List ℕ)) → received ≡ done.given.file
+  pub left_in : QueuesShowKept → (IsTrue in_tells → AreTakeable left (names_left e.listing)) → (received : Option (List ℕ)) → received ≡ done.given.file
       → IfSome received (λ name. IsTrue in_tells → IsSome (bytes_of left name))
   left_in shown takeable received copy =
       next_there_is in_tells left left choice_at.taking received refl (copy ∙ received_is)
-      (λ told. next_is_left (kept_by v.store) left v.listing.names done.given.moment (next_in shown).processor.kind choice_at.taking
-      (subst (λ (x : EngineState). AreTakeable left x.listing.names) (sym is) (takeable told)) (next_in shown).takes)
+      (λ told. next_is_left (kept_by v.store) left (names_left v.listing) done.given.moment (next_in shown).processor.kind choice_at.taking
+      (subst (λ (x : EngineState). AreTakeable left (names_left x.listing)) (sym is) (takeable told)) (next_in shown).takes)
 
   pub takes_in : QueuesShowKept → (name : List ℕ) → done.given.file ≡ Some name → TakesFromInbox e.flow (step_of job_in) name
   takes_in shown name file =
-      let it = next_takes_it v.flow (kept_by v.store) v.listing.names done.given.moment choice_at job_in name (next_in shown) handed_in (sym received_is ∙ file) in
-      subst (λ (x : EngineState). TakesFromInbox x.flow (step_of job_in) name) is (takes_received v.flow job_in it.0 v.listing.names name it.1 it.2 it.3)
+      let it = next_takes_it v.flow (kept_by v.store) (names_left v.listing) done.given.moment choice_at job_in name (next_in shown) handed_in (sym received_is ∙ file) in
+      subst (λ (x : EngineState). TakesFromInbox x.flow (step_of job_in) name) is (takes_received v.flow job_in it.0 (names_left v.listing) name it.1 it.2 it.3)

@@ -30,6 +30,7 @@ use Rattle.engine_queues.specs.Laws.{KeptIsSeen, QueuesShowKept}
 use Rattle.engine_queues.specs.Queues.{AreQueuesOf, queue_seen}
 use Rattle.engine_queues.specs.Views.{HaveSizes, kept_queues}
 use Rattle.run_law.specs.Run.{IsStateOf}
+use Rattle.engine_queues.proofs.ForCallers.{kept_alone, shown_alone}
 use Rattle.engine_steps.specs.Tending.{GoesTo, MakesExpiry}
 
 -- ---- some contents and some events that what is kept may have
@@ -82,7 +83,7 @@ module _ (seen : KeptIsSeen) (law : DueExpiriesMayExpire) (flow : Flow) (k : Kep
     (due : due_expiry flow (kept_queues k) moment ≡ Some (place, numbers)) where
   has_step : (world : World) (contents : ContentRef → List ℕ) (events : List Event) → HaveSizes contents k → AreEventsUpTo k.last_event events → HasExpiryStep flow world contents events k place numbers moment
   has_step world contents events sizes up_to =
-      law flow world contents events k place numbers moment consistent empty flow_is up_to (sym ((seen flow contents events k consistent sizes).expiry moment) ∙ due)
+      law flow world contents events k place numbers moment consistent empty flow_is up_to (sym ((kept_alone seen flow contents events k consistent sizes).expiry moment) ∙ due)
 
   pub may_expire : MayExpireIn flow k place numbers
   may_expire = (has_step (record { inbox = []; left = []; outbox = λ name. None }) some_contents (some_events k.last_event) (some_have_sizes k) (some_are_up_to k.last_event)).may
@@ -102,7 +103,7 @@ module _ (seen : KeptIsSeen) (law : DueExpiriesMayExpire) (flow : Flow) (k : Kep
     pub due_comes : due_expiry flow (queues_of before.state) moment ≡ Some (place, numbers)
     due_comes =
         subst (λ (s : State). due_expiry flow (queues_of s) moment ≡ Some (place, numbers)) tied.is
-        (sym ((seen flow contents before.state.events k consistent sizes).expiry moment) ∙ due)
+        (sym ((kept_alone seen flow contents before.state.events k consistent sizes).expiry moment) ∙ due)
 
   -- the settled expiry makes it
   pub makes_expiry : (settled : Settled) → LeavesExpired flow k place numbers moment settled → MakesExpiry flow k place numbers moment settled
@@ -125,14 +126,14 @@ ok_leads (Err e) P Q leads is = tt
 
 -- ---- as the queues show it
 
-pub are_of : (flow : Flow) (k : Kept) (queues : List QueueState) → AreQueuesOf flow k queues → AreOf flow queues
+pub are_of : (flow : Flow) (k : Kept) (queues : List QueueState) → AreQueuesOf flow k [] queues → AreOf flow queues
 are_of flow k queues are = record {
   count = are.count;
   each = λ place connection queue at found. let it = are.each place connection queue at found in record { order = it.order; limits = it.limits };
 }
 
-pub due_kept : QueuesShowKept → (flow : Flow) (k : Kept) (queues : List QueueState) (place : ℕ) (numbers : List ℕ) (moment : ℕ) → IsConsistent k → flow_in k ≡ identity_of flow → AreQueuesOf flow k queues
+pub due_kept : QueuesShowKept → (flow : Flow) (k : Kept) (queues : List QueueState) (place : ℕ) (numbers : List ℕ) (moment : ℕ) → IsConsistent k → flow_in k ≡ identity_of flow → AreQueuesOf flow k [] queues
     → due_expiry flow (queue_seen queues) moment ≡ Some (place, numbers) → due_expiry flow (kept_queues k) moment ≡ Some (place, numbers)
 due_kept shown flow k queues place numbers moment consistent flow_is are due =
-    let same = shown flow k queues consistent (ap (λ (f : store.Flow). length f.connections) flow_is ∙ length-map flow.connections (λ c. c.id)) are in
+    let same = shown_alone shown flow k queues consistent (ap (λ (f : store.Flow). length f.connections) flow_is ∙ length-map flow.connections (λ c. c.id)) are in
     ap (λ (views : ℕ → QueueView). due_expiry flow views moment) (sym same) ∙ due

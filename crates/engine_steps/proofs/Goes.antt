@@ -23,7 +23,7 @@ use Rattle.machine_model.specs.Laws.{names_of_step, received_name}
 use Rattle.flowfile_record.specs.declared.change.Settled.{Settled}
 use Rattle.machine_model.specs.State.{Machine}
 use Rattle.machine_model.specs.Stepping.{step}
-use Rattle.engine_queues.specs.Listing.{first_passed}
+use Rattle.engine_queues.specs.Listing.{first_passed, names_left}
 use Rattle.store_core.specs.Change.{IsLimitOf, MayChange}
 use Rattle.store_core.specs.Store.{StoreState, kept_by}
 use Rattle.run_law.specs.Going.{IsBetween, IsRunningAt, IsSpared, IsStepped}
@@ -194,7 +194,7 @@ module _ (tells : Bool) {D : Type 0} (held : D → Files) (moment : D → ℕ) (
 
       -- a limit, before the put
       pub stops_at_limit : SparedRunsGoOn moment images → NextStepsAreInTurn moment images → (limit : Limit)
-          → IsSpared e.flow moment images e.store.lot run.reached old new → f.journal ≡ e.journal → f.listing.names ≡ e.listing.names → f.last ≡ e.last
+          → IsSpared e.flow moment images e.store.lot run.reached old new → f.journal ≡ e.journal → (names_left f.listing) ≡ (names_left e.listing) → f.last ≡ e.last
           → images new (moment new) (held new)
           → IsAtStoreLimit e.flow tells held moment images limit run.reached one s.after new ⊎ IsAtJournalLimit limit e.journal
           → Stops (EngineError.Limit limit) tells held moment images f opened first start (step_moment one) new left out
@@ -222,7 +222,7 @@ module _ (tells : Bool) {D : Type 0} (held : D → Files) (moment : D → ℕ) (
           → IsStepped e.flow moment images e.store.lot run.reached s.after old new
           → (now_left : List NamedFile) → now_left ≡ without_received job.given.file left
           → (now_out : Outgoing) → now_out ≡ with_sending changed.sending out
-          → f.last ≡ worker_behind None one → f.listing.names ≡ names_without job.given.file e.listing.names
+          → f.last ≡ worker_behind None one → (names_left f.listing) ≡ names_without job.given.file (names_left e.listing)
           → worker_behind (last_worker None (steps e.journal)) one ≡ worker_behind None one
           → IsRunning moment images f opened first start (step_moment one) new now_left now_out
       enters law journal_is stepped now_left lies now_out stands last names worked =
@@ -293,7 +293,7 @@ module _ (tells : Bool) {D : Type 0} (held : D → Files) (moment : D → ℕ) (
       journal_now = journal_is ∙ ap (λ (r : Result ℕ EngineError). journaled r one e.journal) is ∙ ap (λ (n : ℕ). e.journal ++ record { step = one; acked = Some n } ∷ []) moment_now
 
       pub enters_written : SteppedRunsGoOn moment images → (now_left : List NamedFile) → now_left ≡ without_received job.given.file left
-          → f.last ≡ worker_behind None one → f.listing.names ≡ names_without job.given.file e.listing.names → worker_behind (last_worker None (steps e.journal)) one ≡ worker_behind None one
+          → f.last ≡ worker_behind None one → (names_left f.listing) ≡ names_without job.given.file (names_left e.listing) → worker_behind (last_worker None (steps e.journal)) one ≡ worker_behind None one
           → IsRunning moment images f opened first start (step_moment one) new now_left now_out
       enters_written law now_left lies last names worked =
           enters e f opened first start time mid new left out run flow_is (lot_is ∙ lot_now) (content_in (held mid)) job changed s one one_is le law journal_now stepped_now now_left lies now_out sent_now last names worked
@@ -324,7 +324,7 @@ module _ (tells : Bool) {D : Type 0} (held : D → Files) (moment : D → ℕ) (
           stays EngineError.Memory apart = refl
 
       -- where the commit hadn't begun and nothing was put, the run goes on
-      pub goes_on_unwritten : SparedRunsGoOn moment images → f.listing.names ≡ e.listing.names → f.last ≡ e.last → (error ≡ EngineError.Disk → ⊥) → (error ≡ EngineError.Put → ⊥)
+      pub goes_on_unwritten : SparedRunsGoOn moment images → (names_left f.listing) ≡ (names_left e.listing) → f.last ≡ e.last → (error ≡ EngineError.Disk → ⊥) → (error ≡ EngineError.Put → ⊥)
           → IsRunning moment images f opened first start (step_moment one) new left now_out
       goes_on_unwritten law names last disk outbox =
           subst (λ (d : D). IsRunning moment images f opened first start (step_moment one) d left now_out) (sym (written.unwritten error is disk).0)
@@ -362,7 +362,7 @@ module _ (tells : Bool) {D : Type 0} (held : D → Files) (moment : D → ℕ) (
         (unjournaled EngineError.Put is f flow_is store_is journal_is other) still now_out (written.put is out_telling))
 
     module _ (turns : NextStepsAreInTurn moment images) (spared : SparedRunsGoOn moment images) (image : images mid (moment mid) (held mid)) (may : MayChange (kept_by was) changed.settled) (limit : Limit) (f : EngineState)
-        (flow_is : f.flow ≡ e.flow) (store_is : f.store ≡ t) (names : f.listing.names ≡ e.listing.names) (last : f.last ≡ e.last) where
+        (flow_is : f.flow ≡ e.flow) (store_is : f.store ≡ t) (names : (names_left f.listing) ≡ (names_left e.listing)) (last : f.last ≡ e.last) where
       stops_past : (is : result ≡ Err (EngineError.Limit limit)) → f.journal ≡ journaled result one e.journal
           → Stops (EngineError.Limit limit) tells held moment images f opened first start (step_moment one) new left now_out
       stops_past is journal_is =
@@ -378,7 +378,7 @@ module _ (tells : Bool) {D : Type 0} (held : D → Files) (moment : D → ℕ) (
 
     -- whichever error it is
     pub stops_written : FaultsEnd tells held moment images → DiskFaultsEnd tells held moment images → OutboxFaultsEnd tells held moment images → NextStepsAreInTurn moment images → SparedRunsGoOn moment images → images mid (moment mid) (held mid)
-        → MayChange (kept_by was) changed.settled → (error : EngineError) → result ≡ Err error → (f : EngineState) → f.flow ≡ e.flow → f.store ≡ t → f.journal ≡ journaled result one e.journal → f.listing.names ≡ e.listing.names → f.last ≡ e.last
+        → MayChange (kept_by was) changed.settled → (error : EngineError) → result ≡ Err error → (f : EngineState) → f.flow ≡ e.flow → f.store ≡ t → f.journal ≡ journaled result one e.journal → (names_left f.listing) ≡ (names_left e.listing) → f.last ≡ e.last
         → Stops error tells held moment images f opened first start (step_moment one) new left now_out
     stops_written between disk outbox turns spared image may (EngineError.Damaged damage) is f flow_is store_is journal_is names last =
         stops_unwritten (EngineError.Damaged damage) is f flow_is store_is journal_is between (λ limit e. cc) (λ e. cc) (λ e. cc)

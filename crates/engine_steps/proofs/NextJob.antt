@@ -17,15 +17,16 @@ use Rattle.engine_steps.specs.NextJob.{IsNextJob}
 use Rattle.engine_steps.specs.declared.error.EngineError.{EngineError}
 use Rattle.engine_session.specs.declared.job.Job.{Job}
 use Rattle.engine_steps.proofs.Chosen.{IsNext, next_takes}
+use Rattle.engine_queues.specs.Listing.{names_left}
 use Rattle.engine_steps.proofs.Due.{chosen_of}
 
 -- the session that comes next, by the fields of the engine whose value this is
 module _ (tells : Bool) {D : Type 0} (held : D → Files) (moment : D → ℕ) (images : D → ℕ → Files → Type 0) (v e : EngineState) (is : v ≡ e) (disk : D) (ready : EngineIsReady tells held moment images e disk)
     (consistent : IsConsistent (kept_by v.store)) (time : ℕ) (choice : Choice) (session : session_in e time ≡ Some choice) where
-  pub next_session : QueuesShowKept → IsNext v.flow (kept_by v.store) v.listing.names time choice
+  pub next_session : QueuesShowKept → IsNext v.flow (kept_by v.store) (names_left v.listing) time choice
   next_session shown =
       let so : EngineIsReady tells held moment images v disk = subst (λ (x : EngineState). EngineIsReady tells held moment images x disk) (sym is) ready in
-      next_takes shown v.flow (kept_by v.store) v.queues v.listing.names time v.last choice consistent so.work.flow_is so.sound so.queues
+      next_takes shown v.flow (kept_by v.store) v.queues (names_left v.listing) time v.last choice consistent so.work.flow_is so.sound so.queues
       (chosen_of v time choice (subst (λ (x : EngineState). session_in x time ≡ Some choice) (sym is) session))
 
 -- what it was handed is the next job

@@ -7,7 +7,7 @@ use Rattle.machine_model.specs.declared.journal.Entry.{Entry}
 use Rattle.machine_model.specs.declared.journal.Step.{Step}
 use Rattle.machine_model.specs.Sound.{IsSound}
 use Rattle.store_core.specs.Store.{kept_by}
-use Rattle.engine_queues.specs.Listing.{AreDistinct}
+use Rattle.engine_queues.specs.Listing.{AreDistinct, names_left}
 use Rattle.engine_queues.specs.Queues.{AreQueuesOf}
 use Rattle.run_law.specs.Work.{IsAtWork}
 use Rattle.engine_steps.specs.Committing.{IsAtWorkWithQueues}
@@ -24,12 +24,12 @@ knows_none e none moment is = absurd (apart (sym none ∙ is))
     apart both = cc
 
 module _ {D : Type 0} (tells : Bool) (held : D → Files) (moment : D → ℕ) (images : D → ℕ → Files → Type 0) where
-  pub ready_by : (e f : EngineState) (old new : D) → EngineIsReady tells held moment images e old → f.flow ≡ e.flow → f.most ≡ e.most → f.listing.flow ≡ e.listing.flow → AreDistinct f.listing.names
+  pub ready_by : (e f : EngineState) (old new : D) → EngineIsReady tells held moment images e old → f.flow ≡ e.flow → f.most ≡ e.most → f.listing.flow ≡ e.listing.flow → AreDistinct (names_left f.listing)
       → IsAtWorkWithQueues e.flow tells held moment images f.store f.queues new → length f.journal ≤ e.most → KnowsDue f → EngineIsReady tells held moment images f new
   ready_by e f old new ready flow_is most_is listing distinct queued entries due = record {
     sound = subst IsSound (sym flow_is) ready.sound;
     work = subst (λ (fl : Flow). IsAtWork fl tells held moment images f.store new) (sym flow_is) queued.work;
-    queues = subst (λ (fl : Flow). AreQueuesOf fl (kept_by f.store) f.queues) (sym flow_is) queued.are;
+    queues = subst (λ (fl : Flow). AreQueuesOf fl (kept_by f.store) [] f.queues) (sym flow_is) queued.are;
     listing = listing ∙ ready.listing ∙ sym flow_is;
     distinct = distinct;
     most = omega (arith, ready.most, most_is);

@@ -29,6 +29,7 @@ use Rattle.engine_steps.specs.Running.{IsLimited, IsRunning, IsRunningTo, Stops}
 use Rattle.engine_steps.specs.Tending.{GoesTo, IsCutOff, StepIsDone}
 use Rattle.engine_steps.specs.declared.error.EngineError.{EngineError}
 use Rattle.run_law.specs.Puts.{IsPutBy, Outgoing, Start, puts_of_step}
+use Rattle.engine_queues.specs.Listing.{names_left}
 use Rattle.engine_steps.proofs.LastWorker.{last_behind}
 
 -- a step of a queue is no session
@@ -84,7 +85,7 @@ module _ {D : Type 0} (tells : Bool) (held : D → Files) (moment : D → ℕ) (
         → IsRunningTo moment images e opened first start time old left out reached → IsRunningTo moment images f opened first start later new left out reached
     runs_to law later by journal names last reached spared to = record {
       run = runs_at later e.journal reached journal (law e.flow start time later e.store.lot opened reached first old new e.journal left out to.run by (spared to.run.holds));
-      coming = to.coming ∙ sym (ap (λ l. l.names) names);
+      coming = to.coming ∙ sym (ap (λ l. (names_left l)) names);
       last = last ∙ to.last ∙ ap (λ (j : List Entry). last_worker None (steps j)) (sym journal);
     }
 
@@ -134,7 +135,7 @@ module _ {D : Type 0} (tells : Bool) (held : D → Files) (moment : D → ℕ) (
               run = runs_at (step_moment one) (e.journal ++ entry ∷ []) it.after journal
                   (law e.flow start time e.store.lot opened run.reached it.after first old new e.journal one left left out out run.to.run by (comes run.reached run.to.run.holds) it.goes it.is_so
                   (run.to.run.lies ∙ ap inbox_left (sym world)) (put_by_queue e.flow run.reached it.after one out queue world run.to.run.stands.standing));
-              coming = ap coming_of world ∙ run.to.coming ∙ sym (ap (λ l. l.names) names);
+              coming = ap coming_of world ∙ run.to.coming ∙ sym (ap (λ l. (names_left l)) names);
               last = last ∙ run.to.last ∙ sym (ap (λ (j : List Entry). last_worker None (steps j)) journal ∙ last_behind None e.journal entry ∙ queues_leave_the_worker (last_worker None (steps e.journal)) one queue);
             };
           }

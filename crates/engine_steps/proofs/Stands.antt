@@ -29,7 +29,7 @@ use Rattle.engine_change.specs.Committing.{identity_of}
 use Rattle.engine_queues.specs.Laws.{QueuesAreSeen, SeesTheSame}
 use Rattle.engine_queues.specs.Queues.{AreQueuesOf, queue_seen}
 use Rattle.engine_queues.specs.Views.{HaveSizes}
-use Rattle.engine_choice.specs.Choice.{coming_of, next_choice}
+use Rattle.engine_choice.specs.Choice.{coming_of, next_choice, known_alone}
 use Rattle.engine_choice.specs.Laws.{ChoicesAreSeen, ChoicesAreSessions, given_for, numbers_in}
 use Rattle.engine_choice.specs.declared.choice.Choice.{Choice}
 use Rattle.engine_choice.specs.declared.choice.Taking.{Taking}
@@ -42,6 +42,8 @@ use Rattle.run_law.specs.Turns.{IsNextSession}
 use Rattle.engine_steps.specs.Handing.{HasBytes, HasBytesOf, JobIsHanded, IsHandedAs}
 use Rattle.engine_session.specs.Job.{JobStandsIn}
 use Rattle.engine_session.specs.declared.job.Job.{Job}
+use Rattle.engine_queues.proofs.ForCallers.{seen_alone}
+use Rattle.engine_choice.proofs.ForCallers.{alone_known}
 use Rattle.engine_steps.proofs.Chosen.{IsNext, TakesSo}
 
 -- ---- a file that is left
@@ -126,19 +128,20 @@ moment_of moment there (Receive name) = refl
 
 module _ (sessions : ChoicesAreSessions) (choices : ChoicesAreSeen) (seen : QueuesAreSeen) (live : MachinesFilesAreLive) (flow : Flow) (k : Kept) (queues : List QueueState) (names : List (List ℕ)) (moment : ℕ) (last : Option ℕ) (choice : Choice)
     (contents : ContentRef → List ℕ) (m : Machine) (left : List NamedFile) (standing : List ℕ → Option (List ℕ)) (job : Job) where
-  pub stands_in : IsConsistent k → k.batches ≡ [] → flow_in k ≡ identity_of flow → AreQueuesOf flow k queues → HaveSizes contents k
-      → due_expiry flow (queue_seen queues) moment ≡ None → next_choice flow (queue_seen queues) k.counts names moment last ≡ Some choice → IsNext flow k names moment choice
+  pub stands_in : IsConsistent k → k.batches ≡ [] → flow_in k ≡ identity_of flow → AreQueuesOf flow k [] queues → HaveSizes contents k
+      → due_expiry flow (queue_seen queues) moment ≡ None → next_choice flow (known_alone (queue_seen queues) k.counts names moment) last ≡ Some choice → IsNext flow k names moment choice
       → IsStateOf m contents k → IsValid flow m.state → coming_of m.world ≡ names → left ≡ inbox_left m.world → standing ≡ m.world.outbox
       → JobIsHanded k moment choice job → IsHandedAs true true true k contents left standing choice job → JobStandsIn flow last k contents m job
   stands_in consistent no_batches flow_is are sizes nothing chosen next tied valid coming lies stands handed told =
       let count = ap (λ (f : store.Flow). length f.connections) flow_is ∙ length-map flow.connections (λ c. c.id) in
       let sees : SeesTheSame flow (queue_seen queues) (queues_of m.state) =
-      subst (λ (s : State). SeesTheSame flow (queue_seen queues) (queues_of s)) tied.is (seen flow contents m.state.events k queues consistent sizes count are) in
-      let comes : next_choice flow (queue_seen queues) m.state.counts (coming_of m.world) moment last ≡ Some choice =
-      ap (λ (counts : List ℕ). next_choice flow (queue_seen queues) counts (coming_of m.world) moment last) (sym (ap (λ (s : State). s.counts) tied.is))
-      ∙ ap (λ (names : List (List ℕ)). next_choice flow (queue_seen queues) k.counts names moment last) coming
+      subst (λ (s : State). SeesTheSame flow (queue_seen queues) (queues_of s)) tied.is (seen_alone seen flow contents m.state.events k queues consistent sizes count are) in
+      let known = known_alone (queue_seen queues) m.state.counts (coming_of m.world) moment in
+      let comes : next_choice flow known last ≡ Some choice =
+      ap (λ (counts : List ℕ). next_choice flow (known_alone (queue_seen queues) counts (coming_of m.world) moment) last) (sym (ap (λ (s : State). s.counts) tied.is))
+      ∙ ap (λ (names : List (List ℕ)). next_choice flow (known_alone (queue_seen queues) k.counts names moment) last) coming
       ∙ chosen in
-      let at = sessions flow (queue_seen queues) m.state m.world moment last choice valid sees comes in
+      let at = (sessions flow m.state m.world [] known last choice valid (alone_known flow m.state m.world (queue_seen queues) moment sees) comes).0 in
       let both : Some at.processor ≡ Some next.processor = sym at.found ∙ next.found in
       let same : next.processor ≡ at.processor = cc in
       let takes = subst (λ (p : Processor). TakesSo k names moment p.kind choice.taking) same next.takes in
@@ -155,8 +158,8 @@ module _ (sessions : ChoicesAreSessions) (choices : ChoicesAreSeen) (seen : Queu
       let turn : IsNextSession flow last m job.processor job.numbers job.given.moment (record job.given { bytes = None }) = record {
         expired = sym (sees.expiry job.given.moment) ∙ ap (due_expiry flow (queue_seen queues)) time ∙ nothing;
         choice = choice;
-        chosen = ap (λ (t : ℕ). next_choice flow (queues_of m.state) m.state.counts (coming_of m.world) t last) time
-            ∙ sym (choices flow (queue_seen queues) (queues_of m.state) m.state.counts (coming_of m.world) moment last sees)
+        chosen = ap (λ (t : ℕ). next_choice flow (known_alone (queues_of m.state) m.state.counts (coming_of m.world) t) last) time
+            ∙ sym (choices flow known (queues_of m.state) last sees)
             ∙ comes;
         place_is = sym handed.processor;
         numbers_are = sym handed.numbers;

@@ -13,7 +13,7 @@ use Rattle.machine_model.specs.State.{Machine}
 use Rattle.store_core.specs.Store.{FilesHold, StoreState, kept_by}
 use Rattle.engine_queues.specs.Laws.{HeldContentsHaveSizes, QueuesAreSeen, QueuesShowKept}
 use Rattle.engine_queues.specs.Queues.{queue_seen}
-use Rattle.engine_choice.specs.Choice.{next_choice}
+use Rattle.engine_choice.specs.Choice.{next_choice, known_alone}
 use Rattle.engine_choice.specs.Laws.{ChoicesAreSeen, ChoicesAreSessions}
 use Rattle.engine_choice.specs.declared.choice.Choice.{Choice}
 use Rattle.engine_session.specs.Laws.{MachinesFilesAreLive}
@@ -30,13 +30,14 @@ use Rattle.engine_session.specs.declared.change.Changed.{Changed}
 use Rattle.engine_session.specs.declared.job.Job.{Job}
 use Rattle.engine_steps.proofs.Chosen.{IsNext, next_takes}
 use Rattle.run_law.specs.Puts.{Outgoing, Start}
+use Rattle.engine_queues.specs.Listing.{names_left}
 use Rattle.engine_steps.proofs.Stands.{stands_in}
 
 module _ (tells : Bool) {D : Type 0} (held : D → Files) (moment : D → ℕ) (images : D → ℕ → Files → Type 0) (e : EngineState) (disk : D) (ready : EngineIsReady tells held moment images e disk)
     (consistent : IsConsistent (kept_by e.store)) (time : ℕ) (choice : Choice)
-    (chosen : next_choice e.flow (queue_seen e.queues) (kept_by e.store).counts e.listing.names time e.last ≡ Some choice) where
-  pub next : QueuesShowKept → IsNext e.flow (kept_by e.store) e.listing.names time choice
-  next shown = next_takes shown e.flow (kept_by e.store) e.queues e.listing.names time e.last choice consistent ready.work.flow_is ready.sound ready.queues chosen
+    (chosen : next_choice e.flow (known_alone (queue_seen e.queues) (kept_by e.store).counts (names_left e.listing) time) e.last ≡ Some choice) where
+  pub next : QueuesShowKept → IsNext e.flow (kept_by e.store) (names_left e.listing) time choice
+  next shown = next_takes shown e.flow (kept_by e.store) e.queues (names_left e.listing) time e.last choice consistent ready.work.flow_is ready.sound ready.queues chosen
 
   -- where nothing has expired, what it makes of what it was handed is a step
   pub steps : QueuesShowKept → QueuesAreSeen → HeldContentsHaveSizes → ChoicesAreSessions → ChoicesAreSeen → MachinesFilesAreLive → due_expiry e.flow (queue_seen e.queues) time ≡ None
@@ -47,7 +48,7 @@ module _ (tells : Bool) {D : Type 0} (held : D → Files) (moment : D → ℕ) (
       → MakesStep e.flow (kept_by e.store) job changed → IsStepOf e.flow e.last (content_in (held disk)) run.reached job changed
   steps shown seen sizes sessions choices live nothing no_batches holds opened first start since left out run tied job changed handed told makes =
       makes e.last (content_in (held disk)) run.reached (contents-have-ranges (held disk)) tied run.to.run.valid
-      (stands_in sessions choices seen live e.flow (kept_by e.store) e.queues e.listing.names time e.last choice (content_in (held disk)) run.reached left out.standing job
+      (stands_in sessions choices seen live e.flow (kept_by e.store) e.queues (names_left e.listing) time e.last choice (content_in (held disk)) run.reached left out.standing job
       consistent no_batches ready.work.flow_is ready.queues (sizes e.store (held disk) holds) nothing chosen (next shown) tied run.to.run.valid run.to.coming run.to.run.lies run.to.run.stands.standing handed told)
 
 -- calls that leave what the disk stands for, and time that goes by
@@ -67,14 +68,14 @@ runs_on moment images law e opened first start time later old new left out run n
 
 module _ (tells : Bool) {D : Type 0} (held : D → Files) (moment : D → ℕ) (images : D → ℕ → Files → Type 0) (v e : EngineState) (is : v ≡ e) (disk : D) (ready : EngineIsReady tells held moment images e disk)
     (consistent : IsConsistent (kept_by v.store)) (time : ℕ) (choice : Choice)
-    (chosen : next_choice e.flow (queue_seen e.queues) (kept_by e.store).counts e.listing.names time e.last ≡ Some choice) where
+    (chosen : next_choice e.flow (known_alone (queue_seen e.queues) (kept_by e.store).counts (names_left e.listing) time) e.last ≡ Some choice) where
   ready_there : EngineIsReady tells held moment images v disk
   ready_there = subst (λ (x : EngineState). EngineIsReady tells held moment images x disk) (sym is) ready
 
-  pub next_there : QueuesShowKept → IsNext v.flow (kept_by v.store) v.listing.names time choice
+  pub next_there : QueuesShowKept → IsNext v.flow (kept_by v.store) (names_left v.listing) time choice
   next_there shown =
       next tells held moment images v disk ready_there consistent time choice
-      (subst (λ (x : EngineState). next_choice x.flow (queue_seen x.queues) (kept_by x.store).counts x.listing.names time x.last ≡ Some choice) (sym is) chosen) shown
+      (subst (λ (x : EngineState). next_choice x.flow (known_alone (queue_seen x.queues) (kept_by x.store).counts (names_left x.listing) time) x.last ≡ Some choice) (sym is) chosen) shown
 
   pub step_so : QueuesShowKept → QueuesAreSeen → HeldContentsHaveSizes → ChoicesAreSessions → ChoicesAreSeen → MachinesFilesAreLive → due_expiry e.flow (queue_seen e.queues) time ≡ None
       → (kept_by v.store).batches ≡ [] → FilesHold v.store (held disk)

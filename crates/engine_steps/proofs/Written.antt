@@ -1,5 +1,5 @@
 -- What is left where a change was sent and committed, by the call that refused.
-use Rattle.std.proofs.Common.{◌≡◌, ◌⊎◌, inl, inr, ℕ, Bool, false, List, refl, sym, ◌∙◌, ap, subst}
+use Rattle.std.proofs.Common.{◌≡◌, ◌⊎◌, inl, inr, ℕ, Bool, false, List, refl, sym, ◌∙◌, ap, subst, []}
 use Rattle.std.specs.Prelude.{Option, Result, Err, IsTrue}
 use Rattle.disk_trait.specs.Files.{Files}
 use Rattle.flowfile_wal.specs.Calls.{InEach}
@@ -50,7 +50,7 @@ module _ {D : Type 0} (tells : Bool) (held : D → Files) (moment : D → ℕ) (
   Written result = HasWritten result tells held moment images out_tells s t queues now_queues changed out now_out old new
 
   -- an error before the commit
-  pub unwritten_by : (error : EngineError) → IsBefore error → new ≡ old → t ≡ with_room t.memory.room s → ((flow : Flow) → AreQueuesOf flow (kept_by s) queues → AreQueuesOf flow (kept_by s) now_queues)
+  pub unwritten_by : (error : EngineError) → IsBefore error → new ≡ old → t ≡ with_room t.memory.room s → ((flow : Flow) → AreQueuesOf flow (kept_by s) [] queues → AreQueuesOf flow (kept_by s) [] now_queues)
       → ((error ≡ Put → ⊥) → now_out ≡ out) → (error ≡ Put → IsTrue out_tells → IsLeftBySend changed.sending out now_out)
       → ((limit : TheLimit) → error ≡ Limit limit → IsLimitOf s changed.settled limit) → (result : Result ℕ EngineError) → result ≡ Err error → Written result
   unwritten_by error before same roomy still unsent put passes result was = subst Written (sym was) (record {
@@ -66,7 +66,7 @@ module _ {D : Type 0} (tells : Bool) (held : D → Files) (moment : D → ℕ) (
     kinds = before_kinds error before;
     work = λ not flow queued. record {
       work = subst (λ (d : D). IsAtWork flow tells held moment images t d) (sym same) (work_roomy flow tells held moment images s t t.memory.room old roomy queued.work);
-      are = subst (λ (u : StoreState). AreQueuesOf flow (kept_by u) now_queues) (sym roomy) (still flow queued.are);
+      are = subst (λ (u : StoreState). AreQueuesOf flow (kept_by u) [] now_queues) (sym roomy) (still flow queued.are);
     };
     lot = (ap (λ (u : StoreState). u.lot) roomy, ap (λ (u : StoreState). u.log.number) roomy);
   })

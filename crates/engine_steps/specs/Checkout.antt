@@ -1,10 +1,9 @@
 -- What comes next.
-use Rattle.std.specs.Prelude.{ℕ, ◌-◌, ◌^◌, ◌<◌, nat_lt, Option, None, Some, length, if◌then◌else◌}
-use Rattle.engine_choice.specs.Choice.{ending_of, next_choice, MayChoose}
+use Rattle.std.specs.Prelude.{ℕ, ◌-◌, ◌^◌, ◌<◌, nat_lt, [], Option, None, Some, length, if◌then◌else◌}
+use Rattle.engine_choice.specs.Choice.{Known, ending_of, known_by, next_choice, MayChoose}
 use Rattle.engine_choice.specs.declared.choice.Choice.{Choice}
 use Rattle.engine_choice.specs.declared.choice.Ending.{Ending}
 use Rattle.engine_choice.specs.declared.choice.Ending.TheVariants as ending
-use Rattle.engine_queues.specs.Queues.{queue_seen}
 use Rattle.store_core.specs.Store.{kept_by}
 use Rattle.run_law.specs.Ending.{journal_full}
 use Rattle.engine_steps.specs.Engine.{EngineState}
@@ -14,10 +13,13 @@ use Rattle.engine_steps.specs.declared.checkout.Checkout.TheVariants.{Due, Sessi
 
 -- ---- a session
 
+-- what the choice goes by, where no session is in flight
+abbrev pub known_in : EngineState → (moment : ℕ) → Known
+known_in e moment = known_by e.queues (kept_by e.store).counts [] e.listing moment
+
 -- that of the first processor in turn that is ready
 abbrev pub choice_in : EngineState → (moment : ℕ) → Option Choice
-choice_in e moment =
-    next_choice e.flow (queue_seen e.queues) (kept_by e.store).counts e.listing.names moment e.last
+choice_in e moment = next_choice e.flow (known_in e moment) e.last
 
 -- none, where anything is due
 abbrev pub choice_behind : Option WhatIsDue → Option Choice → Option Choice
@@ -32,7 +34,7 @@ session_in e moment = choice_behind (due_in e moment) (choice_in e moment)
 
 -- how it ends where no session comes
 abbrev pub ending_in : EngineState → (moment : ℕ) → Ending
-ending_in e moment = ending_of e.flow (queue_seen e.queues) (kept_by e.store).counts e.listing.names moment
+ending_in e moment = ending_of e.flow (known_in e moment)
 
 abbrev pub checkout_of_ending : Ending → Checkout
 checkout_of_ending (ending.Rest until) = Rest until

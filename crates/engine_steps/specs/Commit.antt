@@ -23,6 +23,7 @@ use Rattle.engine_steps.specs.declared.commit.Committed.TheVariants.{Acked, Chan
 use Rattle.engine_session.specs.declared.done.Done.{Done}
 use Rattle.engine_steps.specs.declared.error.EngineError.{EngineError}
 use Rattle.engine_steps.specs.declared.error.EngineError.TheVariants.{Disk, Inbox, Put, Limit}
+use Rattle.engine_queues.specs.Listing.{names_left}
 use Rattle.engine_session.specs.declared.job.Job.{Job}
 
 -- it is the work on the job that comes next at its moment
@@ -47,13 +48,13 @@ StandsOtherwise tells in_tells out_tells e contents left standing done =
 -- come, and its processor got the last session.
 pub record SessionIsAcknowledged (done : Done) (at : ℕ) (old new : EngineState) : Type 0 where
   pub journal : new.journal ≡ old.journal ++ record { step = step_done done; acked = Some at } ∷ []
-  pub names : new.listing.names ≡ names_without done.given.file old.listing.names
+  pub names : names_left new.listing ≡ names_without done.given.file (names_left old.listing)
   pub last : new.last ≡ Some done.processor
   pub since : new.since_reclaim ≡ counted_on old.since_reclaim
 
 -- what is to come, who worked last and how many entries came are as before
 pub record IsUncounted (old new : EngineState) : Type 0 where
-  pub names : new.listing.names ≡ old.listing.names
+  pub names : names_left new.listing ≡ names_left old.listing
   pub last : new.last ≡ old.last
   pub since : new.since_reclaim ≡ old.since_reclaim
 

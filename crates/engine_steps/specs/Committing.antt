@@ -1,5 +1,5 @@
 -- How the change of a session becomes part of a store at work.
-use Rattle.std.specs.Prelude.{◌≡◌, ◌≢◌, ◌⊎◌, ℕ, Bool, List, Option, None, Some, Result, Ok, Err, IsTrue, IfOk, OnOk, IfErr, IsErrOf}
+use Rattle.std.specs.Prelude.{◌≡◌, ◌≢◌, ◌⊎◌, ℕ, Bool, List, Option, None, Some, Result, Ok, Err, IsTrue, IfOk, OnOk, IfErr, IsErrOf, []}
 use Rattle.disk_trait.specs.Files.{Files}
 use Rattle.content_repo.specs.Claims.{content_in}
 use Rattle.flowfile_wal.specs.Calls.{InEach}
@@ -25,7 +25,7 @@ use Rattle.engine_session.specs.declared.change.Sending.{Sending}
 pub record IsAtWorkWithQueues {D : Type 0} (flow : Flow) (tells : Bool) (held : D → Files) (moment : D → ℕ)
     (images : D → ℕ → Files → Type 0) (s : StoreState) (queues : List QueueState) (disk : D) : Type 0 where
   pub work : IsAtWork flow tells held moment images s disk
-  pub are : AreQueuesOf flow (kept_by s) queues
+  pub are : AreQueuesOf flow (kept_by s) [] queues
 
 -- the store, but for its room
 abbrev pub with_room : ℕ → StoreState → StoreState

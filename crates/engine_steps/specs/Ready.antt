@@ -1,12 +1,12 @@
 -- What is due of an engine, and what holds of it between two calls on any devices.
-use Rattle.std.specs.Prelude.{◌≡◌, ℕ, ◌-◌, ◌^◌, ◌<◌, ◌≤◌, ◌&&◌, nat_lt, Bool, true, false, IsTrue, List, Option, None, Some, length, is_some}
+use Rattle.std.specs.Prelude.{◌≡◌, ℕ, ◌-◌, ◌^◌, ◌<◌, ◌≤◌, ◌&&◌, nat_lt, Bool, true, false, IsTrue, List, Option, None, Some, length, is_some, []}
 use Rattle.std.specs.Option.{option_map_or}
 use Rattle.disk_trait.specs.Files.{Files}
 use Rattle.flowfile_record.specs.NamedFile.{NamedFile}
 use Rattle.machine_model.specs.Due.{due_expiry, is_checkpoint_due, is_reclaim_due}
 use Rattle.machine_model.specs.Sound.{IsSound}
 use Rattle.store_core.specs.Store.{StoreState, kept_by}
-use Rattle.engine_queues.specs.Listing.{AreDistinct}
+use Rattle.engine_queues.specs.Listing.{AreDistinct, names_left}
 use Rattle.engine_queues.specs.Queues.{AreQueuesOf, queue_seen}
 use Rattle.run_law.specs.Work.{IsAtWork}
 use Rattle.engine_steps.specs.Engine.{AreTakeable, EngineState}
@@ -57,9 +57,9 @@ pub record EngineIsReady {D : Type 0} (tells : Bool) (held : D → Files) (momen
     (images : D → ℕ → Files → Type 0) (e : EngineState) (disk : D) : Type 0 where
   pub sound : IsSound e.flow
   pub work : IsAtWork e.flow tells held moment images e.store disk
-  pub queues : AreQueuesOf e.flow (kept_by e.store) e.queues
+  pub queues : AreQueuesOf e.flow (kept_by e.store) [] e.queues
   pub listing : e.listing.flow ≡ e.flow
-  pub distinct : AreDistinct e.listing.names
+  pub distinct : AreDistinct (names_left e.listing)
   pub most : e.most < 2 ^ 64 - 1
   pub entries : length e.journal ≤ e.most
   pub due : KnowsDue e
@@ -74,4 +74,4 @@ pub record IsUsableWith {D : Type 0} (tells : Bool) (held : D → Files) (moment
     (images : D → ℕ → Files → Type 0) (in_tells : Bool) (left : List NamedFile) (e : EngineState) (disk : D)
     : Type 0 where
   pub usable : IsUsable tells held moment images e disk
-  pub takeable : IsTrue in_tells → AreTakeable left e.listing.names
+  pub takeable : IsTrue in_tells → AreTakeable left (names_left e.listing)

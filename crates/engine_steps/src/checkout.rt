@@ -106,6 +106,7 @@ impl Engine<'_> {
             self.flow,
             &self.queues,
             counts,
+            &[],
             &self.listing,
             self.last,
             moment,
@@ -123,6 +124,7 @@ impl Engine<'_> {
             self.flow,
             &self.queues,
             counts,
+            &[],
             &self.listing,
             moment,
         )

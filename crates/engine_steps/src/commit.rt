@@ -1,5 +1,6 @@
 //! A session that was worked on becomes part of the run, if its job still stands.
 ghost use Rattle.std.specs.Prelude.{◌≡◌, ◌⊎◌, ◌↔◌, ℕ, ◌-◌, ◌^◌, ◌<◌, ◌≤◌, true, false, None, Some, Ok, IfOk, OnOk, IsErrOf, IsTrue};
+ghost use Rattle.engine_queues.specs.Listing.{names_left};
 ghost use Rattle.disk_trait.specs.Faults.{CountsFaults};
 ghost use Rattle.disk_trait.specs.Images.{Stays};
 ghost use Rattle.disk_trait.specs.declared.damage.Damage.{Damage as TheDamage};
@@ -146,7 +147,7 @@ impl Engine<'_> {
         done: &Done,
     ) -> Result<bool, EngineError>
         requires ready { EngineIsReady D.tells D.held D.moment D.images self.old disk.old }
-        requires left { IsTrue I.tells → AreTakeable (I.left inbox.old) self.old.listing.names }
+        requires left { IsTrue I.tells → AreTakeable (I.left inbox.old) (names_left self.old.listing) }
         requires done { WorkIsDone self.old.flow (kept_by self.old.store).store I.tells (I.left inbox.old) done.now }
         ensures so { result ≡ Ok true
             → StandsSo D.tells I.tells O.tells self.old (content_in (D.held disk.old))
@@ -183,7 +184,7 @@ impl Engine<'_> {
     ) -> Result<bool, EngineError>
         requires ready { EngineIsReady D.tells D.held D.moment D.images self.old disk.old }
         requires chosen { session_in self.old done.now.given.moment ≡ Some choice.now }
-        requires left { IsTrue I.tells → AreTakeable (I.left inbox.old) self.old.listing.names }
+        requires left { IsTrue I.tells → AreTakeable (I.left inbox.old) (names_left self.old.listing) }
         requires done { WorkIsDone self.old.flow (kept_by self.old.store).store I.tells (I.left inbox.old) done.now }
         ensures so { result ≡ Ok true
             → StandsSo D.tells I.tells O.tells self.old (content_in (D.held disk.old))
@@ -212,7 +213,7 @@ impl Engine<'_> {
     ) -> Result<bool, EngineError>
         requires ready { EngineIsReady D.tells D.held D.moment D.images self.old disk.old }
         requires chosen { session_in self.old done.now.given.moment ≡ Some choice }
-        requires left { IsTrue I.tells → AreTakeable (I.left inbox.old) self.old.listing.names }
+        requires left { IsTrue I.tells → AreTakeable (I.left inbox.old) (names_left self.old.listing) }
         requires done { WorkIsDone self.old.flow (kept_by self.old.store).store I.tells (I.left inbox.old) done.now }
         ensures so { result ≡ Ok true
             → StandsSo D.tells I.tells O.tells self.old (content_in (D.held disk.old))

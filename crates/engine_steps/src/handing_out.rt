@@ -1,5 +1,6 @@
 //! The job of a session is handed out: files of a queue with their contents, a file of the inbox, or an index.
 ghost use Rattle.std.specs.Prelude.{◌≡◌, ◌⊎◌, ◌≤◌, Bool, false, length, List, Option, Some, None, is_some, IfOk, IfErr, IsErrOf, IsTrue, slice_get, []};
+ghost use Rattle.engine_queues.specs.Listing.{names_left};
 ghost use Rattle.std.specs.Option.{option_map_or};
 ghost use Rattle.disk_trait.specs.Faults.{CountsFaults};
 ghost use Rattle.disk_trait.specs.Images.{Stays};
@@ -83,7 +84,7 @@ impl Engine<'_> {
     ) -> Result<Job, EngineError>
         requires ready { EngineIsReady D.tells D.held D.moment D.images self.old disk.old }
         requires chosen { session_in self.old moment ≡ Some choice }
-        requires left { IsTrue I.tells → AreTakeable (I.left inbox.old) self.old.listing.names }
+        requires left { IsTrue I.tells → AreTakeable (I.left inbox.old) (names_left self.old.listing) }
         ensures job { IfOk result (IsNextJob D.tells I.tells O.tells self.old
             (content_in (D.held disk.old)) (I.left inbox.old) (O.standing outbox.old) moment) }
         ensures may { IfOk result (MayWorkOn self.old.flow (kept_by self.old.store).store) }

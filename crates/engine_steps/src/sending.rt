@@ -2,7 +2,7 @@
 ghost use Rattle.std.specs.Prelude.{◌≡◌, ◌⊎◌, ◌<◌, true, Some, OnOk, IfErr, IsErrOf, IsTrue, IsSome, IfSome, length, slice_get};
 ghost use Rattle.content_repo.specs.Claims.{content_in};
 ghost use Rattle.disk_trait.specs.Faults.{CountsFaults};
-ghost use Rattle.engine_queues.specs.Listing.{first_passed};
+ghost use Rattle.engine_queues.specs.Listing.{first_passed, names_left};
 ghost use Rattle.flowfile_record.specs.NamedFile.{bytes_of};
 ghost use Rattle.kept_state.specs.Fits.{are_active_in};
 ghost use Rattle.machine_model.specs.Changing.{HaveDigests};
@@ -86,9 +86,10 @@ pub(crate) fn remove<I: Inbox>(
     requires processor { processor < length listing.old.flow.processors }
     requires first { IfSome received.now (λ name. (p : TheProcessor)
         → slice_get listing.old.flow.processors processor ≡ Some p
-        → first_passed p.kind listing.old.names ≡ Some name) }
+        → first_passed p.kind (names_left listing.old) ≡ Some name) }
     requires left { IfSome received.now (λ name. IsTrue I.tells → IsSome (bytes_of (I.left inbox.old) name)) }
-    ensures names { listing.new ≡ record listing.old { names = names_without received.now listing.old.names } }
+    ensures names { names_left listing.new ≡ names_without received.now (names_left listing.old) }
+    ensures rest { (listing.new.flow ≡ listing.old.flow) × (listing.new.too_large ≡ listing.old.too_large) }
     ensures removed { OnOk result (IsTrue I.tells
         → I.left inbox.new ≡ without_received received.now (I.left inbox.old)) }
     ensures failed { IfErr result (λ error. (error ≡ EngineError.Inbox) × IsSome received.now
@@ -99,7 +100,7 @@ pub(crate) fn remove<I: Inbox>(
     let Some(name) = received else {
         return Ok(());
     };
-    listing.take_first(processor);
+    let _ = listing.take_first(processor);
     let Ok(()) = inbox.remove(name) else {
         return Err(EngineError::Inbox);
     };

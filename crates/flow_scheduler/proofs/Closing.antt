@@ -38,6 +38,7 @@ use Rattle.flow_scheduler.specs.Driving.{IsEnded}
 use Rattle.engine_steps.specs.Running.{IsLimited, IsRunning, Stops}
 use Rattle.engine_steps.specs.declared.error.EngineError.{EngineError}
 use Rattle.run_law.specs.Puts.{Outgoing, Start}
+use Rattle.engine_queues.specs.Listing.{names_left}
 use Rattle.engine_steps.specs.declared.error.EngineError.TheVariants.{Damaged, Disk, Inbox, Outbox, Put, Limit, MustReopen, Memory}
 
 -- ---- the store is closed
@@ -135,7 +136,7 @@ module _ {D : Type 0} (tells : Bool) (held : D → Files) (moment : D → ℕ) (
 -- ---- an engine that was opened
 
 pub begun : {D : Type 0} (moment : D → ℕ) (images : D → ℕ → Files → Type 0) (flow : Flow) (s : StoreState) (most checkpoint : ℕ) (e : EngineState) → IsOpened flow s most checkpoint e → (opened : Machine) (first disk : D) (start : Start) (time : ℕ) (left now_left : List NamedFile)
-    (out : Outgoing) → now_left ≡ left → coming_of opened.world ≡ e.listing.names
+    (out : Outgoing) → now_left ≡ left → coming_of opened.world ≡ (names_left e.listing)
     → IsRunningAt flow start time moment images s.lot opened first disk [] opened left out → IsRunning moment images e opened first start time disk now_left out
 begun moment images flow s most checkpoint e is opened first disk start time left now_left out left_is coming run = record {
   reached = opened;

@@ -1,18 +1,19 @@
 -- How a turn ends, and that an end is the machine's.
-use Rattle.std.proofs.Common.{◌≡◌, ℕ, List, sym, ◌∙◌, ap, subst}
+use Rattle.std.proofs.Common.{◌≡◌, ℕ, sym, subst}
 use Rattle.std.specs.Prelude.{Option, None, Some}
+use Rattle.std.proofs.lemmas.List.Elements.{All-nil}
 use Rattle.disk_trait.specs.Files.{Files}
 use Rattle.flowfile_record.specs.NamedFile.{NamedFile}
 use Rattle.machine_model.specs.Files.{queues_of}
+use Rattle.machine_model.specs.Sound.{IsSound}
 use Rattle.machine_model.specs.State.{Machine}
-use Rattle.engine_choice.specs.Choice.{coming_of, ending_of, next_choice}
 use Rattle.engine_choice.specs.Laws.{EndsAreMachineEnds, IsEndAt, IsMachineEnd}
 use Rattle.engine_choice.specs.declared.choice.Ending.{Ending}
 use Rattle.engine_choice.specs.declared.choice.Ending.TheVariants.{Blocked, Quiet, Rest}
 use Rattle.engine_queues.specs.Laws.{SeesTheSame}
 use Rattle.engine_queues.specs.Queues.{queue_seen}
 use Rattle.store_core.specs.Store.{kept_by}
-use Rattle.engine_steps.specs.Checkout.{choice_in, ending_in}
+use Rattle.engine_steps.specs.Checkout.{choice_in, ending_in, known_in}
 use Rattle.flow_scheduler.specs.Driving.{IsEnded, IsTurned}
 use Rattle.engine_steps.specs.Engine.{EngineState}
 use Rattle.engine_steps.specs.Running.{IsRunning}
@@ -24,16 +25,11 @@ use Rattle.engine_steps.proofs.Ending.{none_expired}
 
 module _ (law : EndsAreMachineEnds) {D : Type 0} (moment : D → ℕ) (images : D → ℕ → Files → Type 0) (e : EngineState) (opened : Machine) (first now : D) (left : List NamedFile) (out : Outgoing)
     (start : Start) (time : ℕ) (run : IsRunning moment images e opened first start time now left out) (seen : SeesTheSame e.flow (queue_seen e.queues) (queues_of run.reached.state)) (counts : (kept_by e.store).counts ≡ run.reached.state.counts)
-    (due : due_in e time ≡ None) where
+    (due : due_in e time ≡ None) (sound : IsSound e.flow) where
   machine_end : choice_in e time ≡ None → IsMachineEnd e.flow run.reached.state run.reached.world time (ending_in e time)
   machine_end none =
-      let choice_of_counts = λ (made : List ℕ). next_choice e.flow (queue_seen e.queues) made (coming_of run.reached.world) time e.last in
-      let choice_of_names = λ (names : List (List ℕ)). next_choice e.flow (queue_seen e.queues) (kept_by e.store).counts names time e.last in
-      let end_of_counts = λ (made : List ℕ). ending_of e.flow (queue_seen e.queues) made (coming_of run.reached.world) time in
-      let end_of_names = λ (names : List (List ℕ)). ending_of e.flow (queue_seen e.queues) (kept_by e.store).counts names time in
-      let is : IsMachineEnd e.flow run.reached.state run.reached.world time (end_of_counts run.reached.state.counts) =
-      law e.flow (queue_seen e.queues) run.reached.state run.reached.world time e.last seen (none_expired e time due) (ap choice_of_counts (sym counts) ∙ ap choice_of_names run.to.coming ∙ none) in
-      subst (IsMachineEnd e.flow run.reached.state run.reached.world time) (ap end_of_counts (sym counts) ∙ ap end_of_names run.to.coming) is
+      law e.flow run.reached.state run.reached.world (known_in e time) e.last sound
+      (record { seen = seen; counts = counts; coming = sym run.to.coming; idle = All-nil (λ (sessions : ℕ). sessions ≡ 0) }) (none_expired e time due) none
 
   ended : (ending : Ending) → IsEndAt e.flow run.reached.state run.reached.world time ending → IsEnded ending moment images e opened first start time now left out
   ended ending ends = record {

@@ -11,7 +11,6 @@ use Rattle.store_core.specs.Opened.{SameMeaning}
 use Rattle.store_core.specs.State.{stands_for}
 use Rattle.engine_change.specs.Committing.{identity_of}
 use Rattle.run_law.specs.Laws.{FailedOpeningsEnd, OpenedRunsBegin, RunsBegin}
-use Rattle.run_law.specs.Puts.{Start}
 use Rattle.run_law.specs.Run.{IsPrefix, Replays, StandsFor, machine_at}
 use Rattle.run_law.proofs.Gone.{all_left, none_gone}
 use Rattle.run_law.proofs.Journals.{whole_prefix}

@@ -11,7 +11,7 @@ use Rattle.machine_model.specs.Files.{queues_of}
 use Rattle.machine_model.specs.State.{Machine}
 use Rattle.machine_model.specs.Stepping.{step}
 use Rattle.engine_choice.specs.declared.choice.Choice.{Choice}
-use Rattle.engine_choice.specs.Choice.{coming_of, next_choice}
+use Rattle.engine_choice.specs.Choice.{known_of, next_choice}
 use Rattle.engine_choice.specs.Laws.{given_for, numbers_in}
 
 -- ---- of one step
@@ -38,8 +38,7 @@ pub record IsNextSession (flow : Flow) (last : Option ℕ) (before : Machine) (p
     (given : Given) : Type 0 where
   pub expired : due_expiry flow (queues_of before.state) moment ≡ None
   pub choice : Choice
-  pub chosen : next_choice flow (queues_of before.state) before.state.counts (coming_of before.world) moment last
-      ≡ Some choice
+  pub chosen : next_choice flow (known_of before.state before.world moment) last ≡ Some choice
   pub place_is : choice.processor ≡ place
   pub numbers_are : numbers_in choice.taking ≡ numbers
   pub given_is : given_for moment given.there choice.taking ≡ given

@@ -1,8 +1,7 @@
 use Rattle.std.proofs.Common.{◌<◌, ◌≤◌, ℕ, Bool, true, false, length, map, sym, ap, ◌∙◌, arith}
 use Rattle.std.specs.Prelude.{is_some}
 use Rattle.machine_model.specs.declared.flow.Processor.{Processor}
-use Rattle.engine_queues.specs.Queues.{queue_seen}
-use Rattle.engine_choice.specs.Choice.{taking_of}
+use Rattle.engine_choice.specs.Choice.{known_by, taking_of}
 use Rattle.engine_choice.proofs.Turns.{all-places-passed, append-nil, places-step}
 use Rattle.engine_choice.proofs.choosing.takers.Goals as goal
 use Rattle.engine_choice.proofs.choosing.takers.Goals.{then-is_some+in_ok-push, else-is_some}
@@ -10,7 +9,7 @@ use Rattle.engine_choice.proofs.choosing.takers.Goals.{then-is_some+in_ok-push, 
 pub loop-processor-preserved : goal.loop-processor-preserved
 loop-processor-preserved c =
     let test : ℕ × Processor → Bool = λ p.
-    is_some (taking_of c.args.flow.now (queue_seen c.args.queues.now) c.args.counts.now c.args.listing.now.names c.args.moment p) in
+    is_some (taking_of c.args.flow.now (known_by c.args.queues.now c.args.counts.now c.args.busy.now c.args.listing.now c.args.moment) p) in
     let within : c.loop-processor.processor < length c.args.flow.now.processors = omega arith in
     elim c.if-is_some.branch [
       | then-is_some+in_ok-push w ↦
@@ -29,5 +28,5 @@ returns c =
     let place : ℕ × Processor → ℕ = λ p. p.0 in
     c.loop-processor.invariant
     ∙ ap (map place) (all-places-passed
-    (λ p. is_some (taking_of c.args.flow.now (queue_seen c.args.queues.now) c.args.counts.now c.args.listing.now.names c.args.moment p))
+    (λ p. is_some (taking_of c.args.flow.now (known_by c.args.queues.now c.args.counts.now c.args.busy.now c.args.listing.now c.args.moment) p))
     c.loop-processor.processor c.args.flow.now.processors past)

@@ -1,4 +1,4 @@
-use Rattle.std.proofs.Common.{◌≡◌, ℕ, true, List, length, ap, refl, rules, subst, sym, ◌∙◌}
+use Rattle.std.proofs.Common.{◌≡◌, ℕ, true, List, length, ap, refl, rules, subst, sym, ◌∙◌, []}
 use Rattle.std.specs.Prelude.{Err}
 use Rattle.std.proofs.lemmas.List.{length-map}
 use Rattle.std.proofs.lemmas.List.Elements.{All-nil}
@@ -14,9 +14,10 @@ use Rattle.store_core.proofs.Expiring.{expiry_changes}
 use Rattle.store_core.specs.Flow as store
 use Rattle.store_core.specs.Store.{kept_by}
 use Rattle.store_core.specs.declared.error.StoreError.{StoreError}
-use Rattle.engine_queues.specs.Settling.{MayExpireInQueues}
+use Rattle.engine_queues.specs.Settling.{MayTakeFrom}
 use Rattle.run_law.proofs.Writing.{touches_log}
 use Rattle.engine_steps.proofs.Tends.{committed, committed_between, kept_after, limit_of, passes, refuses}
+use Rattle.engine_steps.proofs.Expired.{due_kept}
 use Rattle.engine_steps.proofs.expiring.expire.Goals as goal
 
 pub returns-in_err-prepared-clause-step : goal.returns-in_err-prepared-clause-step
@@ -113,18 +114,19 @@ returns-clause-work g c =
     let there = c.in_ok-expiry.ensures.there in
     let left = kept_after c.in_ok-prepared.prepared s c.commit.new.self x (c.commit.ensures.changed c.requires.work.work.works).change c.in_ok-prepared.ensures.entry in
     let same : c.as_slice.result.now ≡ x.settled.gone = c.as_slice.ensures in
-    let may : MayExpireInQueues flow (kept_by s) x.connection x.settled.gone c.args.queues.now = record {
+    let may : MayTakeFrom flow (kept_by s) [] x.connection x.settled.gone c.args.queues.now = record {
       of_kept = c.requires.work.are;
       connections = ap (λ (f : store.Flow). length f.connections) c.requires.work.work.flow_is ∙ length-map flow.connections (λ c. c.id);
       consistent = c.holds_its_state.ensures.kept.0;
       distinct = there.distinct;
       active = there.active;
+      flights = λ i number within. refl;
     } in
     record {
       work = search rules;
       are =
-          c.expire.ensures flow (kept_by s) (kept_by c.commit.new.self)
-          (subst (λ (ns : List ℕ). MayExpireInQueues flow (kept_by s) x.connection ns c.args.queues.now) (sym same) may)
+          c.expire.ensures flow (kept_by s) (kept_by c.commit.new.self) []
+          (subst (λ (ns : List ℕ). MayTakeFrom flow (kept_by s) [] x.connection ns c.args.queues.now) (sym same) may)
           (left.files ∙ ap (λ (ns : List ℕ). left_after ns (kept_by s).files) (sym same));
     }
 
@@ -151,3 +153,8 @@ pub commit-requires-clause-digests : goal.commit-requires-clause-digests
 commit-requires-clause-digests g c κs within telling =
     subst (λ (s : Settled). HaveDigests (content_in (g.D.Disk.held c.args.disk.now)) s.placed) (sym (c.in_ok-prepared.ensures.prepared.0 ∙ c.in_ok-expiry.ensures.may.expires.as_session))
     (All-nil (λ (p : Placed). is_stored p.fresh ≡ true → sha256 (content_in (g.D.Disk.held c.args.disk.now) p.file.content) ≡ p.file.content.digest))
+
+pub settle_expiry-requires-clause-due : goal.settle_expiry-requires-clause-due
+settle_expiry-requires-clause-due g c =
+    due_kept c.what_is_kept_is_seen.ensures.shown c.args.flow.now (kept_by c.args.store.now) c.args.queues.now c.args.expiry.connection c.args.expiry.numbers c.args.moment
+    c.holds_its_state.ensures.kept.0 c.requires.work.work.flow_is c.requires.work.are c.requires.due

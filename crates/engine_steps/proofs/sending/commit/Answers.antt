@@ -1,4 +1,5 @@
-use Rattle.std.proofs.Common.{◌≡◌, ap, ◌∙◌, sym, subst, refl, inl, inr, false, length}
+use Rattle.std.proofs.Common.{◌≡◌, ℕ, ap, ◌∙◌, sym, subst, refl, inl, inr, false, length, []}
+use Rattle.std.specs.Prelude.{IsSome}
 use Rattle.std.proofs.lemmas.List.{length-map}
 use Rattle.std.proofs.lemmas.Result.{err_from_is_err_and}
 use Rattle.flowfile_record.specs.Stored.{Kept}
@@ -14,6 +15,8 @@ use Rattle.engine_steps.specs.declared.error.EngineError.{EngineError}
 use Rattle.engine_steps.proofs.Commits.{committed, committed_between, flow_after, kept_after, still_works}
 use Rattle.engine_steps.proofs.Written.{cut_off_by, lot_after, refused_by_disk, unwritten_by, works_roomy}
 use Rattle.run_law.specs.Puts.{outgoing}
+use Rattle.std.proofs.lemmas.List.Elements.{All-nil}
+use Rattle.kept_state.specs.Fits.{active_of}
 use Rattle.engine_steps.proofs.sending.commit.Goals as goal
 
 pub returns-in_err-moment-clause-alone : goal.returns-in_err-moment-clause-alone
@@ -33,8 +36,9 @@ settle-requires-clause-kept g c =
     let flow = c.requires.work.0 in
     let queued = c.requires.work.1 in
     let works : t.failed ≡ false = works_roomy s t t.memory.room c.prepare.ensures.same queued.work.works in
-    let over : MaySettleOver flow (kept_by s) c.args.changed.settled c.args.queues.now = record {
+    let over : MaySettleOver flow (kept_by s) [] c.args.changed.settled c.args.queues.now = record {
       of_kept = queued.are;
+      live = All-nil (λ (number : ℕ). IsSome (active_of number (kept_by s).files));
       connections = ap (λ (f : store.Flow). length f.connections) queued.work.flow_is ∙ length-map flow.connections (λ c. c.id);
       consistent = c.holds_its_state.ensures.kept.0;
       no_batches = c.holds_its_state.ensures.kept.1;
@@ -42,7 +46,8 @@ settle-requires-clause-kept g c =
     } in (
       flow,
       kept_by s,
-      may_still_settle c.args.queues.now c.reserve.new.self c.reserve.ensures.same flow (kept_by s) c.args.changed.settled over,
+      [],
+      may_still_settle c.args.queues.now c.reserve.new.self c.reserve.ensures.same flow (kept_by s) [] c.args.changed.settled over,
       subst (λ (k : Kept). IsKeptAfter (kept_by s) c.args.connection c.args.changed.settled k) (sym c.state.ensures.kept)
           (kept_after c.in_ok-prepared.prepared s t c.commit.new.self t.memory.room c.args.changed.settled c.args.connection c.prepare.ensures.same (c.commit.ensures.changed works).change
           c.in_ok-prepared.ensures.entry c.requires.change.gone),
@@ -54,7 +59,7 @@ returns-in_err-reserve-clause-written g c =
     let out = outgoing g.O.Outbox.standing g.O.Outbox.puts c.args.outbox.now in
     let p = err_from_is_err_and c.from_residual-in_err-reserve.result c.from_residual-in_err-reserve.ensures.1 in
     unwritten_by D.tells D.held D.moment D.images g.O.Outbox.tells c.args.store.now c.prepare.new.self c.args.queues.now c.reserve.new.self c.args.changed out out c.args.disk.now c.args.disk.now
-    p.0 (inl p.2) refl c.prepare.ensures.same (λ flow. are_same_queues c.args.queues.now c.reserve.new.self c.reserve.ensures.same flow (kept_by c.args.store.now))
+    p.0 (inl p.2) refl c.prepare.ensures.same (λ flow. are_same_queues c.args.queues.now c.reserve.new.self c.reserve.ensures.same flow (kept_by c.args.store.now) [])
     (λ not. refl) (λ outbox. absurd (cc (p.2, outbox))) (λ limit limited. absurd (cc (p.2, limited)))
     c.from_residual-in_err-reserve.result p.1
 
@@ -66,7 +71,7 @@ returns-in_err-send-clause-written g c =
     let failed = c.in_err-send.ensures.failed in
     let outbox : p.0 ≡ EngineError.Put = p.2 ∙ failed.0 in
     unwritten_by D.tells D.held D.moment D.images g.O.Outbox.tells c.args.store.now c.prepare.new.self c.args.queues.now c.reserve.new.self c.args.changed out (outgoing g.O.Outbox.standing g.O.Outbox.puts c.send.new.outbox) c.args.disk.now c.args.disk.now
-    p.0 (inr (inl outbox)) refl c.prepare.ensures.same (λ flow. are_same_queues c.args.queues.now c.reserve.new.self c.reserve.ensures.same flow (kept_by c.args.store.now))
+    p.0 (inr (inl outbox)) refl c.prepare.ensures.same (λ flow. are_same_queues c.args.queues.now c.reserve.new.self c.reserve.ensures.same flow (kept_by c.args.store.now) [])
     (λ not. absurd (not outbox)) (λ is. failed.1) (λ limit limited. absurd (cc (outbox, limited)))
     c.from_residual-in_err-send.result p.1
 
@@ -106,8 +111,9 @@ returns-clause-written g c =
       kinds = tt;
       work = λ not flow queued.
           let works : t.failed ≡ false = works_roomy s t t.memory.room same queued.work.works in
-          let over : MaySettleOver flow (kept_by s) c.args.changed.settled c.args.queues.now = record {
+          let over : MaySettleOver flow (kept_by s) [] c.args.changed.settled c.args.queues.now = record {
             of_kept = queued.are;
+      live = All-nil (λ (number : ℕ). IsSome (active_of number (kept_by s).files));
             connections = ap (λ (f : store.Flow). length f.connections) queued.work.flow_is ∙ length-map flow.connections (λ c. c.id);
             consistent = c.holds_its_state.ensures.kept.0;
             no_batches = c.holds_its_state.ensures.kept.1;
@@ -122,8 +128,8 @@ returns-clause-written g c =
               flow_is = flow_after c.in_ok-prepared.prepared t c.commit.new.self (identity_of flow) (c.commit.ensures.changed works).change (ap (λ (u : StoreState). flow_in (kept_by u)) same ∙ queued.work.flow_is);
               kept = c.commit.ensures.kept;
             };
-            are = subst (λ (k : Kept). AreQueuesOf flow k c.settle.new.self) c.state.ensures.kept
-                (c.settle.ensures flow (kept_by s) (may_still_settle c.args.queues.now c.reserve.new.self c.reserve.ensures.same flow (kept_by s) c.args.changed.settled over) after);
+            are = subst (λ (k : Kept). AreQueuesOf flow k [] c.settle.new.self) c.state.ensures.kept
+                (c.settle.ensures flow (kept_by s) [] (may_still_settle c.args.queues.now c.reserve.new.self c.reserve.ensures.same flow (kept_by s) [] c.args.changed.settled over) after);
           };
       lot = lot_after c.in_ok-prepared.prepared s t c.commit.new.self t.memory.room same change;
     }

@@ -1,4 +1,4 @@
-use Rattle.std.proofs.Common.{◌≡◌, ◌≤◌, List, Option, Some, map, take, IsTrue}
+use Rattle.std.proofs.Common.{◌≡◌, ◌≤◌, Some, map, take, IsTrue}
 use Rattle.disk_trait.specs.Images.{Stays}
 use Rattle.content_repo.specs.Claims.{content_in}
 use Rattle.flowfile_record.specs.declared.flow_file.FlowFile.{FlowFile}

@@ -1,5 +1,5 @@
-use Rattle.std.proofs.Common.{rules, ◌≡◌, ◌∙◌, ℕ, List, Bool, false, map, sym, ap, subst}
-use Rattle.std.specs.Prelude.{All, Contains, Option, Some, is_some, slice_get}
+use Rattle.std.proofs.Common.{rules, ◌≡◌, ◌∙◌, ℕ, List, false, map, sym, ap, subst}
+use Rattle.std.specs.Prelude.{All, Contains, Some, is_some, slice_get}
 use Rattle.std.specs.Option.{option_map_or}
 use Rattle.flowfile_record.specs.declared.flow_file.FlowFile.{FlowFile}
 use Rattle.content_repo.specs.Claims.{content_in}

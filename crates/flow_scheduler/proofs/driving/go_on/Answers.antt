@@ -107,7 +107,7 @@ returns-in-Blocked-clause-run g c telling in_telling out_telling opened first st
     (comes_next e moment (next.Blocked c.in-Blocked.connection) c.requires.tended (sym c.in-Blocked.is ∙ c.in_ok-checkout.ensures.next)) in
     let on = runs_idle D.tells D.held D.moment D.images e opened first c.args.disk.now start time moment le left out run c.run_goes_on.ensures.spared in
     let shown = c.shows_its_state.ensures telling on.reached on.to.run.holds in
-    turned_at_end c.ends_are_machine_ends.ensures D.moment D.images e opened first c.args.disk.now left out start moment on shown.seen shown.counts c.requires.tended (Blocked c.in-Blocked.connection) it.1 it.0
+    turned_at_end c.ends_are_machine_ends.ensures D.moment D.images e opened first c.args.disk.now left out start moment on shown.seen shown.counts c.requires.tended c.requires.may.ready.sound (Blocked c.in-Blocked.connection) it.1 it.0
 
 pub returns-in-Quiet-clause-run : goal.returns-in-Quiet-clause-run
 returns-in-Quiet-clause-run g c telling in_telling out_telling opened first start time le run =
@@ -119,7 +119,7 @@ returns-in-Quiet-clause-run g c telling in_telling out_telling opened first star
     let it = ends_as (length e.journal) e.most (choice_in e moment) (ending_in e moment) Quiet (comes_next e moment next.Quiet c.requires.tended (sym c.in-Quiet.is ∙ c.in_ok-checkout.ensures.next)) in
     let on = runs_idle D.tells D.held D.moment D.images e opened first c.args.disk.now start time moment le left out run c.run_goes_on.ensures.spared in
     let shown = c.shows_its_state.ensures telling on.reached on.to.run.holds in
-    turned_at_end c.ends_are_machine_ends.ensures D.moment D.images e opened first c.args.disk.now left out start moment on shown.seen shown.counts c.requires.tended Quiet it.1 it.0
+    turned_at_end c.ends_are_machine_ends.ensures D.moment D.images e opened first c.args.disk.now left out start moment on shown.seen shown.counts c.requires.tended c.requires.may.ready.sound Quiet it.1 it.0
 
 pub returns-in-Rest-clause-leaves : goal.returns-in-Rest-clause-leaves
 returns-in-Rest-clause-leaves g c = record {

@@ -1,7 +1,7 @@
 use Rattle.std.proofs.Common.{◌≡◌, ℕ, false, refl, sym, ap, subst, arith}
 use Rattle.std.specs.Prelude.{Ok, None, Result}
 use Rattle.std.proofs.lemmas.Result.{err_from_is_err_and}
-use Rattle.engine_queues.specs.Listing.{Left}
+use Rattle.engine_queues.specs.Listing.{Left, names_left}
 use Rattle.run_law.specs.Work.{IsShortOn}
 use Rattle.engine_steps.specs.Engine.{AreTakeable, EngineState}
 use Rattle.engine_steps.specs.Tending.{HasTended}
@@ -34,7 +34,7 @@ go_on-requires-clause-may g c κs within =
     record {
       ready = c.in_ok-tend.ensures.usable well;
       works = well;
-      left = λ telling. subst (λ (l : Left). AreTakeable (g.I.Inbox.left c.args.inbox.now) l.names) (sym c.tend.ensures.alone.listing) (c.requires.may.left telling);
+      left = λ telling. subst (λ (l : Left). AreTakeable (g.I.Inbox.left c.args.inbox.now) (names_left l)) (sym c.tend.ensures.alone.listing) (c.requires.may.left telling);
     }
 
 pub returns-in-Nothing-clause-run : goal.returns-in-Nothing-clause-run
@@ -55,7 +55,7 @@ returns-in-Expired g c =
         may = record {
           ready = c.in_ok-tend.ensures.usable well;
           works = well;
-          left = λ telling. subst (λ (l : Left). AreTakeable (g.I.Inbox.left c.args.inbox.now) l.names) (sym c.tend.ensures.alone.listing) (c.requires.may.left telling);
+          left = λ telling. subst (λ (l : Left). AreTakeable (g.I.Inbox.left c.args.inbox.now) (names_left l)) (sym c.tend.ensures.alone.listing) (c.requires.may.left telling);
         };
         failed = λ fails. absurd cc;
         works = λ is. absurd cc;

@@ -1,5 +1,5 @@
 use Rattle.std.proofs.Common.{◌≡◌, ◌+◌, List, Bool, length, ap, ◌∙◌, arith}
-use Rattle.engine_queues.specs.Listing.{Left}
+use Rattle.engine_queues.specs.Listing.{Left, names_left}
 use Rattle.engine_queues.proofs.Left.{free, free-few, free-step, left-length, none-free}
 use Rattle.engine_queues.proofs.listing.Listing.count_left.Goals as goal
 use Rattle.engine_queues.proofs.listing.Listing.count_left.Goals.{then-not-is_taken, else-not-is_taken}
@@ -24,5 +24,5 @@ returns c =
       none-free c.as_slice-is_taken-items.result.now c.loop-is_taken.is_taken-index c.loop-is_taken-test.false,
       ap (λ (l : List Bool). length (free l)) items,
       left-length c.self.inside.names.items c.self.inside.taken.items c.self.invariant.marks,
-      ap (λ (l : Left). length l.names + l.too_large) c.self.view_is,
+      ap (λ (l : Left). length (names_left l) + l.too_large) c.self.view_is,
     )

@@ -10,13 +10,13 @@ use Rattle.engine_queues.proofs.queues.Queues.expire.Goals as goal
 pub take_out-requires : goal.take_out-requires
 take_out-requires c =
     let k = c.requires.1 in
-    let may = c.requires.2 in
+    let may = c.requires.3 in
     let after : Kept = record k { files = left_after c.args.numbers.now k.files } in
-    let out = leaving c.requires.0 c.args.numbers.now k after c.args.connection c.args.self.now may.of_kept may.connections may.consistent may.distinct may.active refl in
-    subst (λ (l : List QueueState). HasFiles c.args.connection c.args.numbers.now l) (sym c.self.view_is) out.1
+    let went = leaving c.requires.0 c.requires.2 c.args.numbers.now k after c.args.connection c.args.self.now may.of_kept may.connections may.consistent may.distinct may.active refl in
+    subst (λ (l : List QueueState). HasFiles c.args.connection c.args.numbers.now l) (sym c.self.view_is) went.1
 
 pub returns : goal.returns
-returns c flow k after may files =
-    let out = leaving flow c.args.numbers.now k after c.args.connection c.args.self.now may.of_kept may.connections may.consistent may.distinct may.active files in
+returns c flow k after out may files =
+    let went = leaving flow out c.args.numbers.now k after c.args.connection c.args.self.now may.of_kept may.connections may.consistent may.distinct may.active files in
     let new = c.take_out.ensures ∙ ap (queues_without c.args.connection c.args.numbers.now) c.self.view_is in
-    subst (λ (l : List QueueState). AreQueuesOf flow after l) (sym new) out.0
+    subst (λ (l : List QueueState). AreQueuesOf flow after out l) (sym new) went.0

@@ -12,7 +12,7 @@ loop-active-init c = record {
   finite = tt;
   taken = [];
   split = sym (c.into_iter-active-iterator.ensures.into_iter_gives ∙ c.iter-active-items.ensures);
-  queues = subst (AreQueuesOf c.args.flow.now (with_files (kept_of c.args.stored.now) [])) (sym (c.in_ok-list.ensures ∙ ap (map empty_queue) c.as_slice.ensures)) (are-empty c.args.flow.now (kept_of c.args.stored.now));
+  queues = subst (AreQueuesOf c.args.flow.now (with_files (kept_of c.args.stored.now) []) []) (sym (c.in_ok-list.ensures ∙ ap (map empty_queue) c.as_slice.ensures)) (are-empty c.args.flow.now (kept_of c.args.stored.now));
 }
 
 pub put_copy-requires : goal.put_copy-requires
@@ -51,6 +51,6 @@ loop-active-preserved c =
       finite = tt;
       taken = inv.taken ++ x ∷ [];
       split = split ∙ sym (append_assoc inv.taken (x ∷ []) rest);
-      queues = subst (λ i. AreQueuesOf flow (with_files k (inv.taken ++ x ∷ [])) (set queues i c.put_copy.new.queue)) (sym c.from.ensures)
+      queues = subst (λ i. AreQueuesOf flow (with_files k (inv.taken ++ x ∷ [])) [] (set queues i c.put_copy.new.queue)) (sym c.from.ensures)
           (one-more flow k inv.taken x behind queues queue c.put_copy.new.queue inv.queues there c.in_ok-put_copy.ensures);
     }

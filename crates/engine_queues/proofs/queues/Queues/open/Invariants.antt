@@ -1,4 +1,4 @@
-use Rattle.std.proofs.Common.{◌≡◌, List, ◌++◌}
+use Rattle.std.proofs.Common.{◌≡◌, List, [], ◌++◌}
 use Rattle.flowfile_record.specs.Stored.{kept_of}
 use Rattle.flowfile_record.specs.declared.stored.ActiveFile.{ActiveFile}
 use Rattle.engine_queues.specs.Queues.{AreQueuesOf}
@@ -12,5 +12,5 @@ invariant-loop-active l = record {
   finite : (goal.iterator-loop-active).is_finite l.active-iterator;
   taken : List ActiveFile;
   split : l.fn.stored.files.items ≡ taken ++ l.active-iterator;
-  queues : AreQueuesOf l.fn.flow (with_files (kept_of l.fn.stored) taken) l.list.items;
+  queues : AreQueuesOf l.fn.flow (with_files (kept_of l.fn.stored) taken) [] l.list.items;
 }

@@ -3,6 +3,7 @@ use Rattle.store_core.specs.Store.{StoreState, kept_by}
 use Rattle.engine_steps.specs.Engine.{EngineState}
 use Rattle.engine_steps.proofs.Short.{still_short}
 use Rattle.engine_steps.proofs.Tidied.{shown_by_close, stand_still, tidied, works_inside}
+use Rattle.engine_queues.specs.Listing.{names_left}
 use Rattle.engine_steps.proofs.engine.Engine.close.Goals as goal
 
 pub holds_its_state-requires : goal.holds_its_state-requires
@@ -33,7 +34,7 @@ returns-clause-closed g c =
     record {
       journal = search rules;
       state = c.into_state.ensures ∙ ap (λ (t : StoreState). kept_by t) c.close.ensures.rest ∙ ap (λ (x : EngineState). kept_by x.store) c.self.view_is;
-      left = c.count_left.ensures ∙ ap (λ (x : EngineState). length x.listing.names + x.listing.too_large) c.self.view_is;
+      left = c.count_left.ensures ∙ ap (λ (x : EngineState). length (names_left x.listing) + x.listing.too_large) c.self.view_is;
       events = c.event_counts-events.ensures ∙ ap (λ (x : EngineState). x.store.events.counts) c.self.view_is;
       synced = search rules;
       tidied = λ telling.

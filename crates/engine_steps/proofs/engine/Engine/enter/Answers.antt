@@ -1,4 +1,4 @@
-use Rattle.std.proofs.Common.{◌≡◌, ◌<◌, ◌≤◌, ap, ◌∙◌, sym, subst, refl, List, ℕ, IsTrue, length, arith, rules, ⊎_elim, inl, inr, true≢false}
+use Rattle.std.proofs.Common.{◌≡◌, ◌<◌, ◌≤◌, ap, ◌∙◌, sym, subst, refl, List, ℕ, length, arith, rules, ⊎_elim, inl, inr, true≢false}
 use Rattle.std.specs.Prelude.{Err, IfSome, IsErrOf, None, Option, Result, Some, slice_get}
 use Rattle.std.proofs.lemmas.Result.{err_from_is_err_and}
 use Rattle.flowfile_record.specs.NamedFile.{NamedFile}
@@ -7,7 +7,7 @@ use Rattle.content_repo.proofs.Ranges.{contents-have-ranges}
 use Rattle.machine_model.specs.declared.flow.Processor.{Processor}
 use Rattle.machine_model.specs.declared.journal.Entry.{Entry}
 use Rattle.machine_model.specs.declared.journal.Step.{Step}
-use Rattle.engine_queues.specs.Listing.{AreDistinct, Left, first_passed}
+use Rattle.engine_queues.specs.Listing.{AreDistinct, first_passed, Left, names_left}
 use Rattle.store_core.specs.Change.{MayChange}
 use Rattle.store_core.specs.Store.{StoreState, kept_by}
 use Rattle.run_law.specs.Ending.{journal_full}
@@ -72,7 +72,7 @@ remove-requires-clause-first g c κs within =
     let before : c.self.inside.listing ≡ c.args.self.now.listing = ap (λ (x : EngineState). x.listing) c.self.view_is in
     let same : c.self-2.inside.listing.flow ≡ c.self.inside.flow.now = ap (λ (l : Left). l.flow) rest ∙ c.requires.may.ready.listing ∙ sym (ap (λ (x : EngineState). x.flow) c.self.view_is) in
     subst (λ (names : List (List ℕ)). IfSome c.in_ok-received.received (λ name. (p : Processor) → slice_get c.self-2.inside.listing.flow.processors c.args.done.processor ≡ Some p → first_passed p.kind names ≡ Some name))
-    (ap (λ (l : Left). l.names) (before ∙ sym rest))
+    (ap names_left (before ∙ sym rest))
     (first_in D.tells D.held D.moment D.images _ c.args.self.now c.self.view_is c.args.disk.now c.requires.may.ready c.holds_its_state.ensures.kept.0 g.I.Inbox.tells g.O.Outbox.tells (g.I.Inbox.left c.args.inbox.now) (outgoing g.O.Outbox.standing g.O.Outbox.puts c.args.outbox.now) c.args.done c.requires.stands
     c.what_is_kept_is_seen.ensures.shown c.self-2.inside.listing.flow same c.in_ok-received.received c.in_ok-received.ensures)
 
@@ -191,7 +191,7 @@ returns-in_err-moment-clause-run g c telling in_telling out_telling =
           job c.in_ok-changed.changed at.0 (step_done c.args.done) one le e.store c.write.new.self.store e.queues c.write.new.self.queues refl c.requires.may.ready.work
           (subst (λ (u : StoreState). IsStateOf run.reached (content_in (D.held old)) (kept_by u)) (ap (λ (x : EngineState). x.store) c.self.view_is) at.1) g.O.Outbox.tells out_telling c.write.result c.write.ensures.written
           c.in_err-moment.field-0.0 was c.write.new.self (ap (λ (x : EngineState). x.flow) rest) refl (c.write.ensures.noted.journal ∙ ap (λ (x : Step). journaled c.write.result x e.journal) c.in_ok-step.ensures)
-          c.run_goes_on.ensures.spared (ap (λ (x : EngineState). x.listing.names) rest) (ap (λ (x : EngineState). x.last) rest)
+          c.run_goes_on.ensures.spared (ap (λ (x : EngineState). (names_left x.listing)) rest) (ap (λ (x : EngineState). x.last) rest)
           (λ disk. other (p.1 ∙ ap Err (p.2 ∙ disk))) no_put;
       stopped = λ error is opened first start time le run.
           let at = steps_in D.tells D.held D.moment D.images _ e c.self.view_is old c.requires.may.ready c.holds_its_state.ensures.kept.0 g.I.Inbox.tells g.O.Outbox.tells left out c.args.done c.requires.stands
@@ -208,7 +208,7 @@ returns-in_err-moment-clause-run g c telling in_telling out_telling =
           c.faults_end_a_run.ensures.between c.faults_end_a_run.ensures.disk c.faults_end_a_run.ensures.outbox c.run_goes_on.ensures.turn c.run_goes_on.ensures.spared (laws.held_is_left old telling)
           (subst (λ (u : StoreState). MayChange (kept_by u) c.in_ok-changed.changed.settled) (ap (λ (x : EngineState). x.store) c.self.view_is) c.in_ok-changed.ensures.may)
           error (c.in_err-moment.was ∙ ap Err same) c.write.new.self (ap (λ (x : EngineState). x.flow) rest) refl (c.write.ensures.noted.journal ∙ ap (λ (x : Step). journaled c.write.result x e.journal) c.in_ok-step.ensures)
-          (ap (λ (x : EngineState). x.listing.names) rest) (ap (λ (x : EngineState). x.last) rest);
+          (ap (λ (x : EngineState). (names_left x.listing)) rest) (ap (λ (x : EngineState). x.last) rest);
     }
 
 pub returns-in_err-moment-clause-leaves : goal.returns-in_err-moment-clause-leaves
@@ -223,7 +223,7 @@ returns-in_err-moment-clause-leaves g c = record {
       let no_disk : IsErrOf c.write.result EngineError.Disk → ⊥ = λ disk. apart (the_error error EngineError.Disk (sym c.in_err-moment.was ∙ disk)) in
       let rest = c.write.ensures.noted.rest in
       ready_by D.tells D.held D.moment D.images e f c.args.disk.now c.write.new.disk c.requires.may.ready (ap (λ (x : EngineState). x.flow) rest) (ap (λ (x : EngineState). x.most) rest) (ap (λ (x : EngineState). x.listing.flow) rest)
-      (subst (λ (x : EngineState). AreDistinct x.listing.names) (sym rest) c.requires.may.ready.distinct)
+      (subst (λ (x : EngineState). AreDistinct (names_left x.listing)) (sym rest) c.requires.may.ready.distinct)
       (c.write.ensures.written.work no_disk e.flow (record { work = c.requires.may.ready.work; are = c.requires.may.ready.queues }))
       (subst (λ (j : List Entry). length j ≤ e.most) (sym (c.write.ensures.noted.journal ∙ ap (λ (r : Result ℕ EngineError). journaled r c.in_ok-step.step e.journal) c.in_err-moment.was)) (as_many error c.in_ok-step.step e.journal e.most apart c.requires.may.ready.entries))
       (⊎_elim (λ (none : f.tended ≡ None). knows_none f none) (λ (same : IsErrOf c.write.result EngineError.Memory × (f ≡ e)). subst KnowsDue (sym same.1) c.requires.may.ready.due) c.write.ensures.noted.tended);
@@ -318,13 +318,13 @@ returns-clause-run g c telling in_telling out_telling =
           ap (λ (x : EngineState). x.journal) v ∙ c.write.ensures.noted.journal ∙ ap (λ (x : Step). journaled c.write.result x e.journal) c.in_ok-step.ensures in
           let file : c.in_ok-received.received ≡ job.given.file =
           c.in_ok-received.ensures ∙ file_in D.tells D.held D.moment D.images _ e c.self.view_is old c.requires.may.ready c.holds_its_state.ensures.kept.0 g.I.Inbox.tells g.O.Outbox.tells left out c.args.done c.requires.stands in
-          let names : c.self-2.inside.listing.names ≡ e.listing.names = ap (λ (x : EngineState). x.listing.names) v ∙ ap (λ (x : EngineState). x.listing.names) c.write.ensures.noted.rest in
+          let names : (names_left c.self-2.inside.listing) ≡ (names_left e.listing) = ap (λ (x : EngineState). (names_left x.listing)) v ∙ ap (λ (x : EngineState). (names_left x.listing)) c.write.ensures.noted.rest in
           enters_written D.tells D.held D.moment D.images e opened first start time old c.write.new.disk left out (outgoing g.O.Outbox.standing g.O.Outbox.puts c.write.new.outbox) run
           job c.in_ok-changed.changed at.0 (step_done c.args.done) one le e.store c.write.new.self.store e.queues c.write.new.self.queues refl c.requires.may.ready.work
           (subst (λ (u : StoreState). IsStateOf run.reached (content_in (D.held old)) (kept_by u)) (ap (λ (x : EngineState). x.store) c.self.view_is) at.1) g.O.Outbox.tells out_telling c.write.result c.write.ensures.written
           c.in_ok-moment.moment c.in_ok-moment.was f flow_is (ap (λ (x : EngineState). x.store.lot) v) journal_is
           c.run_goes_on.ensures.step (g.I.Inbox.left c.remove.new.inbox) (c.in_ok-remove.ensures.removed in_telling ∙ ap (λ (o : Option (List ℕ)). without_received o left) file)
-          refl (ap (λ (l : Left). l.names) c.remove.ensures.names ∙ (λ i. names_without (file i) (names i))) refl;
+          refl (c.remove.ensures.names ∙ (λ i. names_without (file i) (names i))) refl;
       stopped = λ error is. absurd cc;
     }
 
@@ -357,17 +357,17 @@ returns-clause-leaves g c = record {
         tended = c.self-2.inside.tended;
       } in
       ready_by D.tells D.held D.moment D.images e f c.args.disk.now c.write.new.disk c.requires.may.ready (ap (λ (x : EngineState). x.flow) v ∙ ap (λ (x : EngineState). x.flow) rest) (ap (λ (x : EngineState). x.most) v ∙ ap (λ (x : EngineState). x.most) rest)
-      (ap (λ (l : Left). l.flow) c.remove.ensures.names ∙ ap (λ (l : Left). l.flow) listing)
-      (subst (λ (l : Left). AreDistinct l.names) (sym c.remove.ensures.names) (distinct_without c.in_ok-received.received c.self-2.inside.listing.names (subst (λ (l : Left). AreDistinct l.names) (sym listing) c.requires.may.ready.distinct)))
+      (c.remove.ensures.rest.0 ∙ ap (λ (l : Left). l.flow) listing)
+      (subst AreDistinct (sym c.remove.ensures.names) (distinct_without c.in_ok-received.received (names_left c.self-2.inside.listing) (subst (λ (l : Left). AreDistinct (names_left l)) (sym listing) c.requires.may.ready.distinct)))
       (subst (λ (x : EngineState). IsAtWorkWithQueues e.flow D.tells D.held D.moment D.images x.store x.queues c.write.new.disk) (sym v) queued)
       (subst (λ (j : List Entry). length j ≤ e.most) (sym (ap (λ (x : EngineState). x.journal) v ∙ c.write.ensures.noted.journal ∙ ap (λ (r : Result ℕ EngineError). journaled r c.in_ok-step.step e.journal) is)) (one_more c.in_ok-moment.moment c.in_ok-step.step e.journal e.most room))
       (knows_none f tended);
   left = λ telling.
       let left = g.I.Inbox.left c.args.inbox.now in
       let listing : c.self-2.inside.listing ≡ c.args.self.now.listing = ap (λ (x : EngineState). x.listing) c.self-2.view_is ∙ ap (λ (x : EngineState). x.listing) c.write.ensures.noted.rest in
-      let before = takeable_without c.in_ok-received.received left c.self-2.inside.listing.names (subst (λ (l : Left). AreTakeable left l.names) (sym listing) (c.requires.may.left telling)) in
-      subst (λ (l : Left). AreTakeable (g.I.Inbox.left c.remove.new.inbox) l.names) (sym c.remove.ensures.names)
-      (subst (λ (files : List NamedFile). AreTakeable files (names_without c.in_ok-received.received c.self-2.inside.listing.names)) (sym (c.in_ok-remove.ensures.removed telling)) before);
+      let before = takeable_without c.in_ok-received.received left (names_left c.self-2.inside.listing) (subst (λ (l : Left). AreTakeable left (names_left l)) (sym listing) (c.requires.may.left telling)) in
+      subst (AreTakeable (g.I.Inbox.left c.remove.new.inbox)) (sym c.remove.ensures.names)
+      (subst (λ (files : List NamedFile). AreTakeable files (names_without c.in_ok-received.received (names_left c.self-2.inside.listing))) (sym (c.in_ok-remove.ensures.removed telling)) before);
   works = search rules;
   failed = search rules;
   from_put = search rules;
@@ -403,19 +403,19 @@ returns-in_err-remove-clause-leaves g c = record {
         tended = c.self-2.inside.tended;
       } in
       ready_by D.tells D.held D.moment D.images e f c.args.disk.now c.write.new.disk c.requires.may.ready (ap (λ (x : EngineState). x.flow) v ∙ ap (λ (x : EngineState). x.flow) rest) (ap (λ (x : EngineState). x.most) v ∙ ap (λ (x : EngineState). x.most) rest)
-      (ap (λ (l : Left). l.flow) c.remove.ensures.names ∙ ap (λ (l : Left). l.flow) listing)
-      (subst (λ (l : Left). AreDistinct l.names) (sym c.remove.ensures.names) (distinct_without c.in_ok-received.received c.self-2.inside.listing.names (subst (λ (l : Left). AreDistinct l.names) (sym listing) c.requires.may.ready.distinct)))
+      (c.remove.ensures.rest.0 ∙ ap (λ (l : Left). l.flow) listing)
+      (subst AreDistinct (sym c.remove.ensures.names) (distinct_without c.in_ok-received.received (names_left c.self-2.inside.listing) (subst (λ (l : Left). AreDistinct (names_left l)) (sym listing) c.requires.may.ready.distinct)))
       (subst (λ (x : EngineState). IsAtWorkWithQueues e.flow D.tells D.held D.moment D.images x.store x.queues c.write.new.disk) (sym v) queued)
       (subst (λ (j : List Entry). length j ≤ e.most) (sym (ap (λ (x : EngineState). x.journal) v ∙ c.write.ensures.noted.journal ∙ ap (λ (r : Result ℕ EngineError). journaled r c.in_ok-step.step e.journal) is)) (one_more c.in_ok-moment.moment c.in_ok-step.step e.journal e.most room))
       (knows_none f tended);
   left = λ telling.
       let left = g.I.Inbox.left c.args.inbox.now in
       let listing : c.self-2.inside.listing ≡ c.args.self.now.listing = ap (λ (x : EngineState). x.listing) c.self-2.view_is ∙ ap (λ (x : EngineState). x.listing) c.write.ensures.noted.rest in
-      let before = takeable_without c.in_ok-received.received left c.self-2.inside.listing.names (subst (λ (l : Left). AreTakeable left l.names) (sym listing) (c.requires.may.left telling)) in
-      let takeable = subst (λ (l : Left). AreTakeable left l.names) (sym listing) (c.requires.may.left telling) in
-      subst (λ (l : Left). AreTakeable (g.I.Inbox.left c.remove.new.inbox) l.names) (sym c.remove.ensures.names) (⊎_elim
-      (λ (same : g.I.Inbox.left c.remove.new.inbox ≡ left). subst (λ (files : List NamedFile). AreTakeable files (names_without c.in_ok-received.received c.self-2.inside.listing.names)) (sym same) (takeable_fewer c.in_ok-received.received left c.self-2.inside.listing.names takeable))
-      (λ (gone : g.I.Inbox.left c.remove.new.inbox ≡ without_received c.in_ok-received.received left). subst (λ (files : List NamedFile). AreTakeable files (names_without c.in_ok-received.received c.self-2.inside.listing.names)) (sym gone) before)
+      let before = takeable_without c.in_ok-received.received left (names_left c.self-2.inside.listing) (subst (λ (l : Left). AreTakeable left (names_left l)) (sym listing) (c.requires.may.left telling)) in
+      let takeable = subst (λ (l : Left). AreTakeable left (names_left l)) (sym listing) (c.requires.may.left telling) in
+      subst (AreTakeable (g.I.Inbox.left c.remove.new.inbox)) (sym c.remove.ensures.names) (⊎_elim
+      (λ (same : g.I.Inbox.left c.remove.new.inbox ≡ left). subst (λ (files : List NamedFile). AreTakeable files (names_without c.in_ok-received.received (names_left c.self-2.inside.listing))) (sym same) (takeable_fewer c.in_ok-received.received left (names_left c.self-2.inside.listing) takeable))
+      (λ (gone : g.I.Inbox.left c.remove.new.inbox ≡ without_received c.in_ok-received.received left). subst (λ (files : List NamedFile). AreTakeable files (names_without c.in_ok-received.received (names_left c.self-2.inside.listing))) (sym gone) before)
       (c.in_err-remove.ensures.failed.2 telling));
   works = search rules;
   failed = search rules;

@@ -1,9 +1,10 @@
-use Rattle.std.proofs.Common.{◌≡◌, List, ℕ, arith, filter, length, refl, sym, ◌∙◌, ap, subst}
+use Rattle.std.proofs.Common.{◌≡◌, List, ℕ, arith, filter, length, refl, sym, ◌∙◌, ap, subst, []}
 use Rattle.std.proofs.lemmas.List.{length-map}
 use Rattle.flowfile_record.specs.NamedFile.{NamedFile}
 use Rattle.flowfile_record.specs.Stored.{Kept}
-use Rattle.engine_queues.specs.Listing.{AreDistinct, Left}
+use Rattle.engine_queues.specs.Listing.{AreDistinct, Left, names_left}
 use Rattle.engine_queues.specs.Queues.{AreQueuesOf}
+use Rattle.engine_queues.proofs.Sources.{all-left}
 use Rattle.engine_steps.specs.Engine.{AreTakeable}
 use Rattle.engine_steps.specs.Opening.{fits_in}
 use Rattle.engine_steps.proofs.Fitting.{ascending_differ, fitting_takeable}
@@ -14,11 +15,11 @@ new-requires-clause-distinct g c = ascending_differ c.in_ok-coming.coming.items 
 
 pub returns-clause-opened : goal.returns-clause-opened
 returns-clause-opened g c =
-    let listed : c.in_ok-listing.listing.names ≡ c.in_ok-coming.coming.items = ap (λ (l : Left). l.names) c.in_ok-listing.ensures in
+    let listed : names_left c.in_ok-listing.listing ≡ c.in_ok-coming.coming.items = ap names_left c.in_ok-listing.ensures ∙ all-left c.in_ok-coming.coming.items in
     record {
       flow_is = refl;
       store_is = refl;
-      queues = subst (λ (k : Kept). AreQueuesOf c.args.flow.now k c.in_ok-queues.queues) c.state.ensures.kept c.in_ok-queues.ensures;
+      queues = subst (λ (k : Kept). AreQueuesOf c.args.flow.now k [] c.in_ok-queues.queues) c.state.ensures.kept c.in_ok-queues.ensures;
       listing = ap (λ (l : Left). l.flow) c.in_ok-listing.ensures;
       distinct = subst AreDistinct (sym listed) (ascending_differ c.in_ok-coming.coming.items c.in_ok-coming.ensures.ascending);
       journal = c.new-2.ensures.items;
@@ -36,16 +37,16 @@ returns-clause-listed g c = record {
       let left : List NamedFile = g.I.Inbox.left c.args.inbox.now in
       let names : List (List ℕ) = c.list.new.names.items in
       sym
-      (ap (λ (l : Left). l.names) c.in_ok-listing.ensures ∙ c.in_ok-coming.ensures.fit told
+      (ap names_left c.in_ok-listing.ensures ∙ all-left c.in_ok-coming.coming.items ∙ c.in_ok-coming.ensures.fit told
       ∙ ap (λ (l : List NamedFile). filter (fits_in l) names) c.list.ensures.left ∙ ap (filter (fits_in left)) (c.in_ok-list.ensures.listed told));
   takeable = λ told.
       let listed : List NamedFile = g.I.Inbox.left c.list.new.self in
       let names : List (List ℕ) = c.list.new.names.items in
-      let are : c.in_ok-listing.listing.names ≡ filter (fits_in listed) names = ap (λ (l : Left). l.names) c.in_ok-listing.ensures ∙ c.in_ok-coming.ensures.fit told in
+      let are : names_left c.in_ok-listing.listing ≡ filter (fits_in listed) names = ap names_left c.in_ok-listing.ensures ∙ all-left c.in_ok-coming.coming.items ∙ c.in_ok-coming.ensures.fit told in
       subst (AreTakeable (g.I.Inbox.left c.names_that_fit.new.inbox)) (sym are)
       (subst (λ (l : List NamedFile). AreTakeable l (filter (fits_in listed) names)) (sym c.names_that_fit.ensures.left) (fitting_takeable listed names));
   counted = λ told.
       let listed : length c.list.new.names.items ≡ length (g.I.Inbox.left c.args.inbox.now) = ap length (c.in_ok-list.ensures.listed told) ∙ length-map (g.I.Inbox.left c.args.inbox.now) (λ (file : NamedFile). file.name) in
-      let names : length c.in_ok-listing.listing.names ≡ length c.in_ok-coming.coming.items = ap (λ (l : Left). length l.names) c.in_ok-listing.ensures in
+      let names : length (names_left c.in_ok-listing.listing) ≡ length c.in_ok-coming.coming.items = ap (λ (l : Left). length (names_left l)) c.in_ok-listing.ensures ∙ ap length (all-left c.in_ok-coming.coming.items) in
       omega (arith, listed, names, ap (λ (l : Left). l.too_large) c.in_ok-listing.ensures, c.in_ok-coming.ensures.few);
 }

@@ -10,6 +10,7 @@ use Rattle.engine_session.specs.declared.job.Job.{Job}
 use Rattle.engine_steps.proofs.Chosen.{may_hand, next_is_left}
 use Rattle.engine_steps.proofs.NextJob.{next_job, next_session}
 use Rattle.engine_session.proofs.SessionSteps.{may_work}
+use Rattle.engine_queues.specs.Listing.{names_left}
 use Rattle.engine_steps.proofs.engine.Engine.read_job.Goals as goal
 
 pub hand-requires-clause-taken : goal.hand-requires-clause-taken
@@ -21,8 +22,8 @@ pub hand-requires-clause-received : goal.hand-requires-clause-received
 hand-requires-clause-received g c κs within telling =
     let next = next_session g.D.Disk.tells g.D.Disk.held g.D.Disk.moment g.D.Disk.images _ c.args.self.now c.self.view_is c.args.disk.now c.requires.ready c.holds_its_state.ensures.kept.0 c.args.moment c.args.choice c.requires.chosen
     c.what_is_kept_is_seen.ensures.shown in
-    next_is_left (kept_by c.self.inside.store) (g.I.Inbox.left c.args.inbox.now) c.self.inside.listing.names c.args.moment next.processor.kind c.args.choice.taking
-    (subst (λ (e : EngineState). AreTakeable (g.I.Inbox.left c.args.inbox.now) e.listing.names) (sym c.self.view_is) (c.requires.left telling)) next.takes
+    next_is_left (kept_by c.self.inside.store) (g.I.Inbox.left c.args.inbox.now) (names_left c.self.inside.listing) c.args.moment next.processor.kind c.args.choice.taking
+    (subst (λ (e : EngineState). AreTakeable (g.I.Inbox.left c.args.inbox.now) (names_left e.listing)) (sym c.self.view_is) (c.requires.left telling)) next.takes
 
 pub returns-clause-job : goal.returns-clause-job
 returns-clause-job g c =
@@ -30,7 +31,7 @@ returns-clause-job g c =
     c.what_is_kept_is_seen.ensures.shown in
     next_job c.hand.result g.D.Disk.tells g.I.Inbox.tells g.O.Outbox.tells _ c.args.self.now c.self.view_is (content_in (g.D.Disk.held c.args.disk.now)) (g.I.Inbox.left c.args.inbox.now)
     (g.O.Outbox.standing c.args.outbox.now) c.args.moment c.args.choice c.requires.chosen
-    (λ job handed. may_hand c.self.inside.flow.now (kept_by c.self.inside.store) c.self.inside.listing.names c.args.moment c.args.choice job next handed)
+    (λ job handed. may_hand c.self.inside.flow.now (kept_by c.self.inside.store) (names_left c.self.inside.listing) c.args.moment c.args.choice job next handed)
     c.hand.ensures.handed c.hand.ensures.told
 
 pub returns-clause-may : goal.returns-clause-may
@@ -41,7 +42,7 @@ returns-clause-may g c =
     (λ (job : Job) handed.
     subst (λ (x : EngineState). MayWorkOn x.flow (kept_by x.store).store job) c.self.view_is
     (may_work c.taken_files_are_handed.ensures.may c.self.inside.flow.now (kept_by c.self.inside.store) job (subst (λ (x : EngineState). IsSound x.flow) (sym c.self.view_is) c.requires.ready.sound) c.holds_its_state.ensures.kept.0
-    (may_hand c.self.inside.flow.now (kept_by c.self.inside.store) c.self.inside.listing.names c.args.moment c.args.choice job next handed)))
+    (may_hand c.self.inside.flow.now (kept_by c.self.inside.store) (names_left c.self.inside.listing) c.args.moment c.args.choice job next handed)))
     c.hand.ensures.handed
 
 pub returns-clause-leaves : goal.returns-clause-leaves

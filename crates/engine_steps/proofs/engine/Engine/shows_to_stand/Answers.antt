@@ -1,5 +1,5 @@
-use Rattle.std.proofs.Common.{rules, ◌≡◌, sym, subst, refl}
-use Rattle.std.specs.Prelude.{IfOk, IsTrue, Result}
+use Rattle.std.proofs.Common.{sym, subst, refl}
+use Rattle.std.specs.Prelude.{IfOk, IsTrue}
 use Rattle.content_repo.specs.Claims.{content_in}
 use Rattle.store_core.specs.Store.{kept_by}
 use Rattle.engine_session.specs.Job.{MayHand}
@@ -7,10 +7,10 @@ use Rattle.engine_session.specs.declared.job.Job.{Job}
 use Rattle.engine_steps.specs.Engine.{AreTakeable, EngineState}
 use Rattle.engine_steps.specs.Handing.{JobIsHanded, MayBeTaken}
 use Rattle.engine_steps.specs.Standing.{HandedStands}
-use Rattle.engine_steps.specs.declared.error.EngineError.{EngineError}
 use Rattle.engine_steps.proofs.Chosen.{may_hand, next_is_left}
 use Rattle.engine_steps.proofs.NextJob.{next_session}
 use Rattle.engine_steps.proofs.StandsStill.{stands_so}
+use Rattle.engine_queues.specs.Listing.{names_left}
 use Rattle.engine_steps.proofs.engine.Engine.shows_to_stand.Goals as goal
 
 pub handed_stands-requires-clause-taken : goal.handed_stands-requires-clause-taken
@@ -22,8 +22,8 @@ pub handed_stands-requires-clause-received : goal.handed_stands-requires-clause-
 handed_stands-requires-clause-received g c κs within telling =
     let next = next_session g.D.Disk.tells g.D.Disk.held g.D.Disk.moment g.D.Disk.images _ c.args.self.now c.self.view_is c.args.disk.now c.requires.ready c.holds_its_state.ensures.kept.0 c.args.done.now.given.moment c.args.choice.now c.requires.chosen
     c.what_is_kept_is_seen.ensures.shown in
-    next_is_left (kept_by c.self.inside.store) (g.I.Inbox.left c.args.inbox.now) c.self.inside.listing.names c.args.done.now.given.moment next.processor.kind c.args.choice.now.taking
-    (subst (λ (e : EngineState). AreTakeable (g.I.Inbox.left c.args.inbox.now) e.listing.names) (sym c.self.view_is) (c.requires.left telling)) next.takes
+    next_is_left (kept_by c.self.inside.store) (g.I.Inbox.left c.args.inbox.now) (names_left c.self.inside.listing) c.args.done.now.given.moment next.processor.kind c.args.choice.now.taking
+    (subst (λ (e : EngineState). AreTakeable (g.I.Inbox.left c.args.inbox.now) (names_left e.listing)) (sym c.self.view_is) (c.requires.left telling)) next.takes
 
 pub returns-clause-so : goal.returns-clause-so
 returns-clause-so g c is =
@@ -40,7 +40,7 @@ returns-clause-so g c is =
     (subst (λ (x : EngineState). HandedStands g.D.Disk.tells g.O.Outbox.tells (kept_by x.store) contents standing choice done) c.self.view_is stands)
     (subst (λ (x : EngineState). MayBeTaken (kept_by x.store) choice.taking) c.self.view_is next.takes.may)
     (subst (λ (x : EngineState). (job : Job) → JobIsHanded (kept_by x.store) done.given.moment choice job → MayHand x.flow (kept_by x.store) job) c.self.view_is
-    (λ job handed. may_hand c.self.inside.flow.now (kept_by c.self.inside.store) c.self.inside.listing.names done.given.moment choice job next handed))
+    (λ job handed. may_hand c.self.inside.flow.now (kept_by c.self.inside.store) (names_left c.self.inside.listing) done.given.moment choice job next handed))
 
 pub returns-clause-refusal : goal.returns-clause-refusal
 returns-clause-refusal g c =

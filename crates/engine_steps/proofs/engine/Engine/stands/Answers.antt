@@ -1,4 +1,4 @@
-use Rattle.std.proofs.Common.{rules, ◌≡◌, sym, ◌∙◌, subst, ap, List, ℕ}
+use Rattle.std.proofs.Common.{rules, ◌≡◌, sym, ◌∙◌, subst, List}
 use Rattle.std.specs.Prelude.{Some}
 use Rattle.disk_trait.specs.Files.{Files}
 use Rattle.flowfile_record.specs.NamedFile.{NamedFile}
@@ -12,6 +12,7 @@ use Rattle.engine_steps.specs.Engine.{AreTakeable, EngineState}
 use Rattle.engine_steps.specs.declared.error.EngineError.{EngineError}
 use Rattle.engine_steps.proofs.AsRead.{as_read, read_well}
 use Rattle.engine_steps.proofs.Reread.{counts_behind, of_others, reread_behind, still_ready}
+use Rattle.engine_queues.specs.Listing.{names_left}
 use Rattle.engine_steps.proofs.engine.Engine.stands.Goals as goal
 
 pub returns-in_err-shows_to_stand-clause-refusal : goal.returns-in_err-shows_to_stand-clause-refusal
@@ -39,8 +40,8 @@ pub stands_read_again-requires-clause-left : goal.stands_read_again-requires-cla
 stands_read_again-requires-clause-left g c κs within telling =
     let e : EngineState = c.args.self.now in
     let same = as_read c.shows_to_stand.result e c.shows_to_stand.new.self c.shows_to_stand.ensures.reread.store c.shows_to_stand.ensures.reread.rest (λ disk. read_well c.in_ok-shows_to_stand.field-0 EngineError.Disk (sym c.in_ok-shows_to_stand.was ∙ disk)) in
-    subst (λ (left : List NamedFile). AreTakeable left c.shows_to_stand.new.self.listing.names) (sym c.shows_to_stand.ensures.reread.inbox)
-    (subst (λ (x : EngineState). AreTakeable (g.I.Inbox.left c.args.inbox.now) x.listing.names) (sym same) (c.requires.left telling))
+    subst (λ (left : List NamedFile). AreTakeable left (names_left c.shows_to_stand.new.self.listing)) (sym c.shows_to_stand.ensures.reread.inbox)
+    (subst (λ (x : EngineState). AreTakeable (g.I.Inbox.left c.args.inbox.now) (names_left x.listing)) (sym same) (c.requires.left telling))
 
 pub stands_read_again-requires-clause-done : goal.stands_read_again-requires-clause-done
 stands_read_again-requires-clause-done g c κs within =

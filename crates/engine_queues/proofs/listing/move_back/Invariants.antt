@@ -1,0 +1,6 @@
+use Rattle.std.proofs.Common.{false}
+use Rattle.engine_queues.proofs.Moved.{AreMovedBelow}
+use Rattle.engine_queues.proofs.listing.move_back.Given as goal
+
+abbrev pub invariant-loop-source : goal.invariant-loop-source
+invariant-loop-source l = AreMovedBelow false l.taken l.place l.source-index l.fn.sources l.sources
