@@ -18,7 +18,7 @@ import sys
 ROOT = pathlib.Path(__file__).resolve().parent.parent
 
 # So many names may have definitions in more than one crate. That number may fall and not rise.
-MOST_DOUBLED = 48
+MOST_DOUBLED = 46
 
 WORD = re.compile(r"[^\W\d]\w*(?:-\w+)*'*")
 BEGUN = re.compile(r"(?!pub mod |pub use )(?:abbrev |unfoldable |pub |record |data )+(\S+)|(\S+) :(?= |$)")

@@ -31,15 +31,15 @@ pub struct Source {
 }
 
 /// What a snapshot says.
-#[derive(Drop)]
+#[derive(Debug, Drop)]
 pub struct Snapshot {
     pub stored: Stored,
     /// Where the files end, and the first batch begins.
     pub batches_at: u64,
 }
 
-/// What the snapshot of this number says, which has to be of this version. It is read block by block, with memory for one
-/// block beside the state.
+/// What the snapshot of this number says, which has to be of this version. It is read block by block, with memory for
+/// one block beside the state.
 pub fn read<D: Disk>(
     alloc: Global,
     disk: &mut D,
@@ -99,7 +99,8 @@ fn read_first<D: Disk>(
         → IsReadTo version (D.held disk.old source.file) first.1 (kept_of first.0.state)
         (vec_capacity buffer.new)) }
     ensures room { OnOk result (SMALL_BLOCK_SIZE ≤ vec_capacity buffer.new) }
-    ensures memory { IsErrOf result CheckError.Memory → IsTrue D.tells → FirstTakes version (D.held disk.old source.file) }
+    ensures memory { IsErrOf result CheckError.Memory → IsTrue D.tells
+        → FirstTakes version (D.held disk.old source.file) }
     ensures stays { Stays D.held D.moment D.images disk.old disk.new }
     ensures cause { CountsFaults (D.faults disk.old) (D.faults disk.new) (IsErrOf result CheckError.Disk) }
 {
@@ -165,7 +166,8 @@ fn read_head_block<D: Disk>(
         (IsBlockAt D.tells (D.held disk.old) (address_of source.file source.size 0) buffer.new.items) }
     ensures damaged { (damage : TheDamage) → IsErrOf result (CheckError.Damaged damage) → IsTrue D.tells
         → snapshot_in version (D.held disk.old) source.file ≡ Err damage }
-    ensures memory { IsErrOf result CheckError.Memory → IsTrue D.tells → FirstTakes version (D.held disk.old source.file) }
+    ensures memory { IsErrOf result CheckError.Memory → IsTrue D.tells
+        → FirstTakes version (D.held disk.old source.file) }
     ensures capacity { vec_capacity buffer.old ≤ vec_capacity buffer.new }
     ensures stays { Stays D.held D.moment D.images disk.old disk.new }
     ensures cause { CountsFaults (D.faults disk.old) (D.faults disk.new) (IsErrOf result CheckError.Disk) }

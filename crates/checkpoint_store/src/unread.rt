@@ -26,8 +26,8 @@ pub const SMALL_BLOCK_SIZE: u64 = BLOCK_OVERHEAD + SWAP_BATCH_SIZE;
 // How many bytes a Head has before its lists: the version of the format, the store and the digest of the flow.
 const HEAD_FRONT_SIZE: usize = 9 + DIGEST_SIZE;
 
-/// Whether the first block, for which there is no memory, may be a Head of this version: it is looked at up to the lists
-/// of one.
+/// Whether the first block, for which there is no memory, may be a Head of this version: it is looked at up to the
+/// lists of one.
 pub fn check_head<D: Disk>(disk: &mut D, source: Source, version: u8) -> Result<(), CheckError>
     requires { IsTrue D.tells → HasBlockPast (D.held disk.old) (address_of source.file source.size 0) 0 }
     ensures front { OnOk result (IsTrue D.tells → FirstTakes version (D.held disk.old source.file)) }

@@ -20,8 +20,8 @@ use disk_trait::{Disk, Failed, FileKind, FileName};
 use flowfile_record::{ActiveList, BatchList, Stored};
 use std::alloc::Global;
 
-/// Writes the snapshot of this number in a version over what stands in its file, in pieces of about 1 MiB, and syncs the
-/// disk. What stands behind the snapshot's End doesn't matter. Memory is taken before the first call of the disk.
+/// Writes the snapshot of this number in a version over what stands in its file, in pieces of about 1 MiB, and syncs
+/// the disk. What stands behind the snapshot's End doesn't matter. Memory is taken before the first call of the disk.
 pub fn write<D: Disk>(
     alloc: Global,
     disk: &mut D,

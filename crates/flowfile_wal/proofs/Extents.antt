@@ -4,7 +4,7 @@ use Rattle.std.specs.Prelude.{Option, None, Some, Result, Ok, Err}
 use Rattle.std.specs.List.{list_all}
 use Rattle.record_codec.specs.Block.{Reading, Whole, Cut, Long, Differs, reading_of}
 use Rattle.record_codec.specs.BlockEntries.{entries_in}
-use Rattle.record_codec.specs.LogEntries.{Cause, LogRead, LogDamage, ended, after, told, found_behind, belongs, of_version, entries_at, gated, behind_gate, log_from}
+use Rattle.record_codec.specs.LogEntries.{Cause, LogRead, LogDamage, ended, after, told, entries_found, belongs, of_version, entries_at, gated, behind_gate, log_from}
 use Rattle.record_codec.specs.declared.block.TheConstants.{BLOCK_OVERHEAD}
 use Rattle.record_codec.specs.declared.entry.LogEntry.{LogEntry}
 use Rattle.record_codec.specs.declared.log.TheConstants.{OPEN_GATE}
@@ -17,10 +17,10 @@ told_size size (Some entries) found e =
     let same : (entries, size) ≡ found = cc in sym (ap (λ (x : List LogEntry × ℕ). x.1) same)
 told_size size None found e = absurd cc
 
-pub found_size : (kind : ℕ) (payload : List ℕ) (found : List LogEntry × ℕ) → found_behind (Whole kind payload) ≡ Ok found → found.1 ≡ length payload + BLOCK_OVERHEAD
+pub found_size : (kind : ℕ) (payload : List ℕ) (found : List LogEntry × ℕ) → entries_found (Whole kind payload) ≡ Ok found → found.1 ≡ length payload + BLOCK_OVERHEAD
 found_size kind payload found e = told_size (length payload + BLOCK_OVERHEAD) (entries_in kind payload) found e
 
-block_extent : (rest : List ℕ) (reading : Reading) (found : List LogEntry × ℕ) → reading_of rest ≡ reading → found_behind reading ≡ Ok found → (0 < found.1) × (found.1 ≤ length rest)
+block_extent : (rest : List ℕ) (reading : Reading) (found : List LogEntry × ℕ) → reading_of rest ≡ reading → entries_found reading ≡ Ok found → (0 < found.1) × (found.1 ≤ length rest)
 block_extent rest (Whole kind payload) found is e =
     let size = found_size kind payload found e in (omega (arith, size), omega (arith, size, whole_fits rest kind payload is))
 block_extent rest (Cut need have) found is e = absurd cc
@@ -28,10 +28,10 @@ block_extent rest (Long size) found is e = absurd cc
 block_extent rest (Differs stored sum) found is e = absurd cc
 
 -- the block of entries has bytes, and stands within the bytes that it is read of
-pub found_some : (rest : List ℕ) (found : List LogEntry × ℕ) → found_behind (reading_of rest) ≡ Ok found → 0 < found.1
+pub found_some : (rest : List ℕ) (found : List LogEntry × ℕ) → entries_found (reading_of rest) ≡ Ok found → 0 < found.1
 found_some rest found e = (block_extent rest (reading_of rest) found refl e).0
 
-pub found_fits : (rest : List ℕ) (found : List LogEntry × ℕ) → found_behind (reading_of rest) ≡ Ok found → found.1 ≤ length rest
+pub found_fits : (rest : List ℕ) (found : List LogEntry × ℕ) → entries_found (reading_of rest) ≡ Ok found → found.1 ≤ length rest
 found_fits rest found e = (block_extent rest (reading_of rest) found refl e).1
 
 -- ---- the last gate stands behind the bytes that were passed over, and within the log or at its end
@@ -70,7 +70,7 @@ extent_read version at gate rest read found fits later (Err d) e both = absurd c
 extent_found : (version at : ℕ) (gate : ℕ) (rest : List ℕ) (read : LogRead) (found : Found) → entries_at version rest ≡ found → Later version at rest
     → behind_gate at found (λ size. log_from version size (at + 1) rest) ≡ ok read → Extent 0 at (gate ∷ rest) read
 extent_found version at gate rest read (Ok found) is later e =
-    let has : found_behind (reading_of rest) ≡ Ok found = of_version_is version (found_behind (reading_of rest)) found is in
+    let has : entries_found (reading_of rest) ≡ Ok found = of_version_is version (entries_found (reading_of rest)) found is in
     extent_read version at gate rest read found (found_fits rest found has) later (log_from version found.1 (at + 1) rest) refl e
 extent_found version at gate rest read (Err cause) is later e = absurd cc
 

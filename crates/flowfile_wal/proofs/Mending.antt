@@ -6,7 +6,7 @@ use Rattle.std.specs.Prelude.{Result, Ok, Err}
 use Rattle.disk_trait.specs.Files.{Files, At, Overwritten, Torn, Shortened, named}
 use Rattle.disk_trait.specs.declared.file_name.FileKind.TheVariants.{Log}
 use Rattle.record_codec.specs.Block.{reading_of}
-use Rattle.record_codec.specs.LogEntries.{LogRead, LogDamage, after, found_behind, entries_at, gated, behind_gate, log_from, log_of}
+use Rattle.record_codec.specs.LogEntries.{LogRead, LogDamage, after, entries_found, entries_at, gated, behind_gate, log_from, log_of}
 use Rattle.record_codec.specs.declared.entry.LogEntry.{LogEntry}
 use Rattle.record_codec.specs.declared.log.TheConstants.{OPEN_GATE, CLOSED_GATE}
 use Rattle.record_codec.proofs.Logs.{opened, goes_on_with, ends_missing, ends_last, ends_shut}
@@ -29,7 +29,7 @@ longer_log version read rest found (Err d) fits is e = absurd cc
 no_longer : (version : ℕ) (read : LogRead) (rest : List ℕ) (found : Found) → entries_at version rest ≡ found
     → ok read ≡ after read.entries (behind_gate read.end found (λ size. log_from version size (read.end + 1) rest)) → ⊥
 no_longer version read rest (Ok found) is e =
-    longer_log version read rest found (log_from version found.1 (read.end + 1) rest) (found_fits rest found (of_version_is version (found_behind (reading_of rest)) found is)) refl e
+    longer_log version read rest found (log_from version found.1 (read.end + 1) rest) (found_fits rest found (of_version_is version (entries_found (reading_of rest)) found is)) refl e
 no_longer version read rest (Err cause) is e = absurd cc
 
 pub last_gate : (version : ℕ) (bytes : List ℕ) (read : LogRead) → log_of version bytes ≡ ok read → read.end + 1 < length bytes → get_or bytes read.end 0 ≢ OPEN_GATE

@@ -13,7 +13,7 @@ use Rattle.disk_trait.specs.declared.file_name.FileName.{FileName}
 use Rattle.record_codec.specs.Block.{reading_of}
 use Rattle.record_codec.specs.EntryEncoding.{IsEntry}
 use Rattle.record_codec.specs.Frames.{counts}
-use Rattle.record_codec.specs.LogEntries.{Cause, LogRead, LogDamage, ended, after, belongs, found_behind, of_version, entries_at, gated, behind_gate, log_from}
+use Rattle.record_codec.specs.LogEntries.{Cause, LogRead, LogDamage, ended, after, belongs, entries_found, of_version, entries_at, gated, behind_gate, log_from}
 use Rattle.record_codec.specs.declared.entry.LogEntry.{LogEntry}
 use Rattle.record_codec.specs.declared.entry.LogEntry.TheVariants.{Begin}
 use Rattle.record_codec.specs.declared.log.TheConstants.{OPEN_GATE}
@@ -84,7 +84,7 @@ cause_of : (file : FileName) (at : ℕ) (found : Found) (damage : Damage) → na
 cause_of file at (Ok found) damage e = absurd cc
 cause_of file at (Err cause) damage e = record { cause = cause; is = refl; damage_is = cc }
 
-damaged_from : (version at : ℕ) (file : FileName) (bytes : List ℕ) (damage : Damage) (is : IsDamagedAt file at bytes damage) (c : Caused file at (found_behind (reading_of (drop (at + 1) bytes))) damage)
+damaged_from : (version at : ℕ) (file : FileName) (bytes : List ℕ) (damage : Damage) (is : IsDamagedAt file at bytes damage) (c : Caused file at (entries_found (reading_of (drop (at + 1) bytes))) damage)
     → log_from version 0 at (drop at bytes) ≡ Err (record { at = at; cause = c.cause })
 damaged_from version at file bytes damage is c =
     from_gate version at bytes is.opened is.behind ∙ ap (λ (f : Found). behind_gate at (of_version version f) (λ size. log_from version size (at + 1) (drop (at + 1) bytes))) c.is
@@ -163,5 +163,5 @@ module _ (number version end : ℕ) (read : List (ℕ × LogEntry)) (bytes : Lis
 
   pub read_damaged : (damage : Damage) → IsDamagedAt (named Log number) end bytes damage → log_in number bytes ≡ Err damage
   read_damaged damage is =
-      let c = cause_of (named Log number) end (found_behind (reading_of (drop (end + 1) bytes))) damage is.found in
+      let c = cause_of (named Log number) end (entries_found (reading_of (drop (end + 1) bytes))) damage is.found in
       read_all (Err (record { at = end; cause = c.cause })) (ap (after all) (damaged_from version end (named Log number) bytes damage is c)) ∙ ap error c.damage_is

@@ -9,7 +9,7 @@ use Rattle.disk_trait.specs.declared.damage.Damage.TheVariants.{Form}
 use Rattle.disk_trait.specs.declared.file_name.FileKind.TheVariants.{Log}
 use Rattle.record_codec.specs.Block.{Reading, Whole, Cut, Long, Differs, reading_of}
 use Rattle.record_codec.specs.Frames.{counts}
-use Rattle.record_codec.specs.LogEntries.{Cause, LogRead, LogDamage, after, found_behind, of_version, entries_at, gated, behind_gate, log_from, log_of, log_with_more}
+use Rattle.record_codec.specs.LogEntries.{Cause, LogRead, LogDamage, after, entries_found, of_version, entries_at, gated, behind_gate, log_from, log_of, log_with_more}
 use Rattle.record_codec.specs.Version.{is_known}
 use Rattle.record_codec.specs.declared.entry.LogEntry.{LogEntry}
 use Rattle.record_codec.specs.declared.entry.LogEntry.TheVariants.{Begin, Session, Expire, SwapOut, SwapIn, Age}
@@ -155,15 +155,15 @@ first version number size bytes read counted is reads =
     (sym (behind ∙ ap (λ (f : Found). behind_gate 0 f (λ n. log_from version n 1 rest)) found) ∙ reads)
 
 -- a first block is found again, whatever stands behind it
-found_again : (rest tail : List ℕ) (n : ℕ) (reading : Reading) (found : List LogEntry × ℕ) → reading_of rest ≡ reading → found_behind reading ≡ Ok found → found.1 ≤ n → n ≤ length rest
-    → found_behind (reading_of (take n rest ++ tail)) ≡ Ok found
+found_again : (rest tail : List ℕ) (n : ℕ) (reading : Reading) (found : List LogEntry × ℕ) → reading_of rest ≡ reading → entries_found reading ≡ Ok found → found.1 ≤ n → n ≤ length rest
+    → entries_found (reading_of (take n rest ++ tail)) ≡ Ok found
 found_again rest tail n (Whole kind payload) found is e le within =
-    ap found_behind (reading_of-longer rest tail n kind payload is (omega (arith, found_size kind payload found e, le)) within) ∙ e
+    ap entries_found (reading_of-longer rest tail n kind payload is (omega (arith, found_size kind payload found e, le)) within) ∙ e
 found_again rest tail n (Cut need have) found is e le within = absurd cc
 found_again rest tail n (Long size) found is e le within = absurd cc
 found_again rest tail n (Differs stored sum) found is e le within = absurd cc
 
-again_open : (rest tail : List ℕ) (end : ℕ) (found : List LogEntry × ℕ) → found_behind (reading_of rest) ≡ Ok found → 1 + found.1 ≤ end → end ≤ 1 + length rest
+again_open : (rest tail : List ℕ) (end : ℕ) (found : List LogEntry × ℕ) → entries_found (reading_of rest) ≡ Ok found → 1 + found.1 ≤ end → end ≤ 1 + length rest
     → (counts (take end (OPEN_GATE ∷ rest) ++ tail) ≡ true) × (first_found (take end (OPEN_GATE ∷ rest) ++ tail) ≡ Ok found)
 again_open rest tail zero found is from to = absurd (omega arith)
 again_open rest tail (suc n) found is from to =

@@ -5,7 +5,7 @@ use Rattle.disk_trait.specs.Files.{Files, At, named}
 use Rattle.disk_trait.specs.declared.file_name.FileKind.TheVariants.{Log}
 use Rattle.record_codec.specs.Block.{block}
 use Rattle.record_codec.specs.EntryEncoding.{entry as encoding, kind_of}
-use Rattle.record_codec.specs.LogEntries.{ended, told, found_behind, log_with_more, log_of}
+use Rattle.record_codec.specs.LogEntries.{ended, told, entries_found, log_with_more, log_of}
 use Rattle.record_codec.specs.declared.block.TheConstants.{PAYLOAD_MAX}
 use Rattle.record_codec.specs.declared.entry.LogEntry.{LogEntry}
 use Rattle.record_codec.specs.declared.entry.LogEntry.TheVariants.{Begin}
@@ -89,7 +89,7 @@ begun_ready version number files is =
     let reads : log_of version bytes ≡ ok (log_with_more (ended 0) (begin ∷ []) (length last)) =
     ap (log_of version) is.bytes ∙ entries_more version [] (ended 0) (kind_of begin) (encoding begin) (begin ∷ []) refl holds refl small in
     let first : first_found bytes ≡ alone version number (length (encoding begin) + 37) =
-    ap first_found is.bytes ∙ ap found_behind (reading_of-block (kind_of begin) (encoding begin) (CLOSED_GATE ∷ []) small) ∙ ap (told (length (encoding begin) + 37)) holds in
+    ap first_found is.bytes ∙ ap entries_found (reading_of-block (kind_of begin) (encoding begin) (CLOSED_GATE ∷ []) small) ∙ ap (told (length (encoding begin) + 37)) holds in
     closed_in (record { number = number; version = version; entries = []; end = 47 }) files is.current (record {
       counted = begun_counts version number bytes is.bytes;
       says = says_of number version bytes (length (encoding begin) + 37) (ok (log_with_more (ended 0) (begin ∷ []) (length last))) first is.known reads

@@ -8,7 +8,7 @@ use Rattle.disk_trait.specs.declared.file_name.FileKind.TheVariants.{Log}
 use Rattle.disk_trait.specs.declared.file_name.FileName.{FileName}
 use Rattle.record_codec.specs.Block.{reading_of}
 use Rattle.record_codec.specs.Frames.{counts}
-use Rattle.record_codec.specs.LogEntries.{Cause, LogRead, LogDamage, found_behind, log_of}
+use Rattle.record_codec.specs.LogEntries.{Cause, LogRead, LogDamage, entries_found, log_of}
 use Rattle.record_codec.specs.Version.{is_known}
 use Rattle.record_codec.specs.declared.entry.LogEntry.{LogEntry}
 use Rattle.record_codec.specs.declared.entry.LogEntry.TheVariants.{Begin, Session, Expire, SwapOut, SwapIn, Age}
@@ -31,7 +31,7 @@ current_number files = greatest_below (λ n. counts (log_bytes files n)) (2 ^ 64
 
 -- what is read of the first block: its entries, and its size
 abbrev pub first_found : List ℕ → Result (List LogEntry × ℕ) Cause
-first_found bytes = found_behind (reading_of (drop 1 bytes))
+first_found bytes = entries_found (reading_of (drop 1 bytes))
 
 -- the version of an entry that is the Begin of this number, where it counts
 abbrev pub begun_by : ℕ → LogEntry → Option ℕ

@@ -6,7 +6,7 @@ use Rattle.disk_trait.specs.declared.file_name.FileName.{FileName}
 use Rattle.record_codec.specs.Block.{Reading, Whole, Cut, Long, Differs, reading_of}
 use Rattle.record_codec.specs.BlockEntries.{entries_take_memory}
 use Rattle.record_codec.specs.Frames.{counts}
-use Rattle.record_codec.specs.LogEntries.{Cause, after, found_behind, log_from, log_of}
+use Rattle.record_codec.specs.LogEntries.{Cause, after, entries_found, log_from, log_of}
 use Rattle.record_codec.specs.Version.{is_known}
 use Rattle.record_codec.specs.declared.block.TheConstants.{BLOCK_OVERHEAD}
 use Rattle.record_codec.specs.declared.entry.LogEntry.{LogEntry}
@@ -35,13 +35,13 @@ named_at file at (Err cause) = Err (caused file at cause)
 pub record AreEntriesAt (at : ℕ) (bytes : List ℕ) (entries : List LogEntry) (size : ℕ) : Type 0 where
   pub opened : slice_index bytes at ≡ OPEN_GATE
   pub behind : at + 1 < length bytes
-  pub found : found_behind (reading_of (drop (at + 1) bytes)) ≡ Ok (entries, size)
+  pub found : entries_found (reading_of (drop (at + 1) bytes)) ≡ Ok (entries, size)
 
 -- behind this gate, which is open, no entry is read, which is this damage
 pub record IsDamagedAt (file : FileName) (at : ℕ) (bytes : List ℕ) (damage : Damage) : Type 0 where
   pub opened : slice_index bytes at ≡ OPEN_GATE
   pub behind : at + 1 < length bytes
-  pub found : named_at file at (found_behind (reading_of (drop (at + 1) bytes))) ≡ Err damage
+  pub found : named_at file at (entries_found (reading_of (drop (at + 1) bytes))) ≡ Err damage
 
 -- this gate is missing, the last byte, or not open
 abbrev pub IsLastGate : ℕ → List ℕ → Type 0

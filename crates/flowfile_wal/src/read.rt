@@ -8,7 +8,7 @@ ghost use Rattle.record_codec.specs.Block.{reading_of};
 ghost use Rattle.record_codec.specs.BlockEntries.{entries_in, entries_take_memory};
 ghost use Rattle.record_codec.specs.EntryEncoding.{IsEntry};
 ghost use Rattle.record_codec.specs.Frames.{counts};
-ghost use Rattle.record_codec.specs.LogEntries.{belongs, found_behind, gated};
+ghost use Rattle.record_codec.specs.LogEntries.{belongs, entries_found, gated};
 ghost use Rattle.flowfile_wal.specs.Calls.{HaveEncodings};
 ghost use Rattle.flowfile_wal.specs.Current.{log_bytes, version_begun, log_in};
 ghost use Rattle.flowfile_wal.specs.Reads.{named_at, EntriesTake, HasFirstBlock, IsDamagedAt, IsNextAt, IsNextWithin, LogIsReadTo};
@@ -55,11 +55,11 @@ fn read_entries_at<D: Disk>(
     requires within { at < size }
     requires size { IsTrue D.tells → size ≡ length (D.held disk.old file) }
     ensures found { IfOk result (λ found. IsTrue D.tells
-        → found_behind (reading_of (drop (at + 1) (D.held disk.old file))) ≡ Ok (found.entries.items, found.size)) }
+        → entries_found (reading_of (drop (at + 1) (D.held disk.old file))) ≡ Ok (found.entries.items, found.size)) }
     ensures encoded { IfOk result (λ found. All IsEntry found.entries.items) }
     ensures within { IfOk result (λ found. at + 1 + found.size ≤ size) }
     ensures damaged { (damage : TheDamage) → IsErrOf result (LogError.Damaged damage) → IsTrue D.tells
-        → named_at file at (found_behind (reading_of (drop (at + 1) (D.held disk.old file)))) ≡ Err damage }
+        → named_at file at (entries_found (reading_of (drop (at + 1) (D.held disk.old file)))) ≡ Err damage }
     ensures memory { IsErrOf result LogError.Memory → IsTrue D.tells
         → EntriesTake (vec_capacity buffer.old) (reading_of (drop (at + 1) (D.held disk.old file))) }
     ensures stays { Stays D.held D.moment D.images disk.old disk.new }

@@ -7,7 +7,7 @@ use Rattle.std.proofs.lemmas.List.{append-nil, drop_at, drop_more, length-take-l
 use Rattle.std.specs.List.{list_all}
 use Rattle.record_codec.specs.Block.{Reading, Whole, Cut, Long, Differs, block, reading_of}
 use Rattle.record_codec.specs.BlockEntries.{entries_in}
-use Rattle.record_codec.specs.LogEntries.{Cause, LogRead, LogDamage, ended, after, told, found_behind, belongs, of_version, entries_at, gated, behind_gate, log_from, log_of, IsFirstDamage, log_with_more}
+use Rattle.record_codec.specs.LogEntries.{Cause, LogRead, LogDamage, ended, after, told, entries_found, belongs, of_version, entries_at, gated, behind_gate, log_from, log_of, IsFirstDamage, log_with_more}
 use Rattle.record_codec.specs.declared.block.TheConstants.{PAYLOAD_MAX, BLOCK_OVERHEAD}
 use Rattle.record_codec.specs.declared.entry.LogEntry.{LogEntry}
 use Rattle.record_codec.specs.declared.log.TheConstants.{OPEN_GATE, CLOSED_GATE}
@@ -84,7 +84,7 @@ unfolding found_behind
 of_told version rest kind payload (Some entries) found reads says e = of_test version rest kind payload entries found (list_all (belongs version) entries) reads says refl e
 of_told version rest kind payload None found reads says e = absurd cc
 
-of_reading : (version : ℕ) (rest : List ℕ) (reading : Reading) (found : List LogEntry × ℕ) → reading_of rest ≡ reading → found_behind (of_version version (found_behind reading)) found
+of_reading : (version : ℕ) (rest : List ℕ) (reading : Reading) (found : List LogEntry × ℕ) → reading_of rest ≡ reading → found_behind (of_version version (entries_found reading)) found
     → Found version rest found
 unfolding found_behind
 of_reading version rest (Whole kind payload) found is e = of_told version rest kind payload (entries_in kind payload) found is refl e
@@ -100,7 +100,7 @@ found_of version rest found e = of_reading version rest (reading_of rest) found 
 pub holds : (version : ℕ) (bytes : List ℕ) (kind : ℕ) (payload : List ℕ) (entries : List LogEntry) → reading_of bytes ≡ Whole kind payload → entries_in kind payload ≡ Some entries
     → list_all (belongs version) entries ≡ true → entries_at version bytes ≡ Ok (entries, length payload + BLOCK_OVERHEAD)
 holds version bytes kind payload entries reads says belong =
-    ap (λ (r : Reading). of_version version (found_behind r)) reads
+    ap (λ (r : Reading). of_version version (entries_found r)) reads
     ∙ ap (λ (es : Option (List LogEntry)). of_version version (told (length payload + BLOCK_OVERHEAD) es)) says
     ∙ ap (λ (b : Bool). behind (cond b (Ok (entries, length payload + BLOCK_OVERHEAD)) (Err Cause.Form))) belong
   where

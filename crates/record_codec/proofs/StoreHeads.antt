@@ -10,7 +10,7 @@ use Rattle.flowfile_record.specs.Encoding.{byte, text, numbers, IsNumber, IsText
 use Rattle.flowfile_record.proofs.FieldLaws.{bind_ok, ok_is, Takes-then, such_is, said_is, digest_is, u64_is, number_is, text_is, listed_is, numbers_is}
 use Rattle.flowfile_record.specs.declared.limits.TheConstants.{DIGEST_SIZE, STORE_LIMIT, EVENTS_PER_FILE}
 use Rattle.record_codec.specs.declared.head.Head.{Head}
-use Rattle.record_codec.specs.StoreHead.{head, in_second, IsHead, IsEventLine}
+use Rattle.record_codec.specs.StoreHead.{head, in_second, IsHead, IsLineOf}
 use Rattle.record_codec.specs.StoreHeadReading.{store_at, processors_at, line_at, head_at, connected_at, first_processor_at, first_count_at}
 use Rattle.record_codec.specs.Version.{is_version, version_at}
 use Rattle.record_codec.specs.declared.TheConstants.{FIRST_VERSION, SECOND_VERSION}
@@ -58,23 +58,23 @@ abbrev is_line : ℕ → ℕ → Bool
 is_line last line = eqb (line % EVENTS_PER_FILE) 0 && nat_le line last
 
 -- a line that is at most a number fits eight bytes
-line_field : (last : ℕ) → IsNumber last → IsField (such (is_line last) (uint_at w64)) (to_be_bytes w64) (IsEventLine last)
+line_field : (last : ℕ) → IsNumber last → IsField (such (is_line last) (uint_at w64)) (to_be_bytes w64) (IsLineOf last)
 line_field last small =
-    said_is (such (is_line last) (uint_at w64)) (to_be_bytes w64) (λ n. (n < 2 ^ 64) × IsTrue (is_line last n)) (IsEventLine last) (such_is (is_line last) (uint_at w64) (to_be_bytes w64) (λ n. n < 2 ^ 64) u64_is)
+    said_is (such (is_line last) (uint_at w64)) (to_be_bytes w64) (λ n. (n < 2 ^ 64) × IsTrue (is_line last n)) (IsLineOf last) (such_is (is_line last) (uint_at w64) (to_be_bytes w64) (λ n. n < 2 ^ 64) u64_is)
     (λ n h.
     let both = and_parts (eqb (n % EVENTS_PER_FILE) 0) (nat_le n last) h.1 in
     (eqb-true _ _ both.0, leb-true n last both.1))
     (λ n h. (omega (arith, h.1, small), is n h))
   where
-    is : (n : ℕ) → IsEventLine last n → is_line last n ≡ true
+    is : (n : ℕ) → IsLineOf last n → is_line last n ≡ true
     is n h = rw h.0 (le-leb n last h.1)
 
 abbrev HasLine : ℕ → ℕ → ℕ → Type 0
-HasLine version last line = Either (eqb version SECOND_VERSION) (line ≡ 0) (IsEventLine last line)
+HasLine version last line = Either (eqb version SECOND_VERSION) (line ≡ 0) (IsLineOf last line)
 
 line_is : (version last : ℕ) → IsNumber last → IsField (line_at version last) (λ l. in_second version (to_be_bytes w64 l)) (HasLine version last)
 unfolding line_at
-line_is version last small = field_if (eqb version SECOND_VERSION) 0 (such (is_line last) (uint_at w64)) (to_be_bytes w64) (IsEventLine last) (line_field last small)
+line_is version last small = field_if (eqb version SECOND_VERSION) 0 (such (is_line last) (uint_at w64)) (to_be_bytes w64) (IsLineOf last) (line_field last small)
 
 -- What is so in both versions, and what the first one asks besides.
 in_both : {P Q : Type 0} (b : Bool) → (Q → P) → Either b Q P → P
@@ -105,8 +105,8 @@ regroup a b c d e f g h i j k rest = simp append_assoc
 no_texts : (ps : List (List ℕ)) → ps ≡ [] → AreTexts ps
 no_texts ps none = subst AreTexts (sym none) (omega arith, All-nil IsText)
 
-no_line : (last line : ℕ) → line ≡ 0 → IsEventLine last line
-no_line last line none = subst (IsEventLine last) (sym none) (refl, omega arith)
+no_line : (last line : ℕ) → line ≡ 0 → IsLineOf last line
+no_line last line none = subst (IsLineOf last) (sym none) (refl, omega arith)
 
 -- the fields of a head, each behind the one before
 head_of_parts : (h : Head) (bytes r0 r1 r2 r3 r4 r5 r6 r7 r8 r9 rest : List ℕ) → Takes bytes (byte h.version) r0 → Takes r0 (to_be_bytes w64 h.store) r1 → Takes r1 h.flow r2 → Takes r2 (texts h.connections) r3
@@ -164,7 +164,7 @@ head_takes bytes x fits e =
       last_event = hl;
       line = in_both (eqb version SECOND_VERSION) (no_line last_event line) hm;
       next_batch = ho;
-      first = λ first. (in_first (AreTexts processors) (processors ≡ []) version hp first, in_first (IsEventLine last_event line) (line ≡ 0) version hm first);
+      first = λ first. (in_first (AreTexts processors) (processors ≡ []) version hp first, in_first (IsLineOf last_event line) (line ≡ 0) version hm first);
     } in
     subst (λ (y : Head × List ℕ). Takes bytes (head y.0) y.1 × IsHead y.0) (ok_is (h, rest) x e)
     (head_of_parts h bytes r0 r1 r2 r3 r4 r5 r6 r7 r8 r9 rest tv ts tf tc tp tn ta tb tl tm to, is))))))))))))

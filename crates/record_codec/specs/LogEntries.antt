@@ -46,11 +46,11 @@ told size (Some entries) = Ok (entries, size)
 told size None = Err Form
 
 -- the entries in front of the bytes behind an open gate, and the size of their block
-abbrev pub found_behind : Reading → Result (List LogEntry × ℕ) Cause
-found_behind (Whole kind payload) = told (length payload + BLOCK_OVERHEAD) (entries_in kind payload)
-found_behind (Cut need have) = Err (Short need have)
-found_behind (Long size) = Err Form
-found_behind (Differs stored found) = Err (Digest stored found)
+abbrev pub entries_found : Reading → Result (List LogEntry × ℕ) Cause
+entries_found (Whole kind payload) = told (length payload + BLOCK_OVERHEAD) (entries_in kind payload)
+entries_found (Cut need have) = Err (Short need have)
+entries_found (Long size) = Err Form
+entries_found (Differs stored found) = Err (Digest stored found)
 
 -- Events age out in the second version alone.
 abbrev pub belongs : (version : ℕ) → LogEntry → Bool
@@ -68,7 +68,7 @@ of_version version (Err cause) = Err cause
 
 -- the entries of a log of this version in front of the bytes behind an open gate, and the size of their block
 abbrev pub entries_at : (version : ℕ) → List ℕ → Result (List LogEntry × ℕ) Cause
-entries_at version bytes = of_version version (found_behind (reading_of bytes))
+entries_at version bytes = of_version version (entries_found (reading_of bytes))
 
 -- ---- a log
 

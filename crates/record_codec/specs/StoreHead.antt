@@ -37,8 +37,8 @@ head_of version s = record {
 }
 
 -- events have aged out by whole files, and not past the last one
-abbrev pub IsEventLine : (last_event line : ℕ) → Type 0
-IsEventLine last_event line = (line % EVENTS_PER_FILE ≡ 0) × (line ≤ last_event)
+abbrev pub IsLineOf : (last_event line : ℕ) → Type 0
+IsLineOf last_event line = (line % EVENTS_PER_FILE ≡ 0) × (line ≤ last_event)
 
 -- a head that has an encoding: in the first version it has no processors and the line 0
 pub record IsHead (h : Head) : Type 0 where
@@ -51,6 +51,6 @@ pub record IsHead (h : Head) : Type 0 where
   pub next_number : IsNumber h.next_number
   pub next_arrival : IsNumber h.next_arrival
   pub last_event : IsNumber h.last_event
-  pub line : IsEventLine h.last_event h.line
+  pub line : IsLineOf h.last_event h.line
   pub next_batch : IsNumber h.next_batch
   pub first : h.version ≡ FIRST_VERSION → (h.processors ≡ []) × (h.line ≡ 0)

@@ -107,7 +107,8 @@ pub fn write_head_of(out: &mut Vec<u8>, version: u8, stored: &Stored) -> Result<
     requires { IsHead (head_of version stored.now) }
     ensures ok { OnOk result (out.new.items ≡ out.old.items ++ encoding.head (head_of version stored.now)) }
     ensures err { OnErr result (out.new.items ≡ out.old.items) }
-    ensures room { vec_len out.old + length (encoding.head (head_of version stored.now)) ≤ vec_capacity out.old → IsOk result }
+    ensures room { vec_len out.old + length (encoding.head (head_of version stored.now)) ≤ vec_capacity out.old
+        → IsOk result }
     ensures capacity { vec_capacity out.old ≤ vec_capacity out.new }
 {
     out.reserve(head_size_of(version, stored) as usize)?;

@@ -54,6 +54,7 @@ has_log_same s old new same has =
       ready = record {
         log = log;
         number = was.number;
+        version = was.version;
         end = was.end;
         ready = record {
           current = current ∙ was.ready.current;

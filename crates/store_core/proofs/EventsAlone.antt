@@ -55,6 +55,7 @@ has_log_still s old new stay has =
       ready = record {
         log = log;
         number = was.number;
+        version = was.version;
         end = was.end;
         ready = record {
           current = current ∙ was.ready.current;

@@ -221,6 +221,7 @@ pub claims_ready : (state : LogState) (old new : Files) (step : ℕ → List ℕ
 claims_ready state old new step ready on = record {
   log = ready.log;
   number = ready.number;
+  version = ready.version;
   end = ready.end;
   ready = record {
     current = claims_log old new step on ∙ ready.ready.current;

@@ -133,7 +133,7 @@ unmade_read flow lot files k log is =
 pub unmade_found : (lot : ℕ) (files : Files) (found : Found) → found.log.number ≡ None → StoreIsFoundIn (flow_in found.state.kept) lot files found → IsUnmade files
 unmade_found lot files found none is =
     unmade_read (flow_in found.state.kept) lot files found.state.kept
-    (is.current ∙ ap (λ (o : Option ℕ). of_log (numbered_log o is.entries found.log.end)) none) is.kept
+    (is.current ∙ ap (λ (o : Option ℕ). of_log (numbered_log o found.log.version is.entries found.log.end)) none) is.kept
 
 -- ---- what is kept still
 

@@ -99,6 +99,7 @@ discarded_ready state number old new is ready step =
     record {
       log = ready.log;
       number = ready.number;
+      version = ready.version;
       end = ready.end;
       ready = record {
         current = discarded_log number old new (ready_number state number old is ready) step ∙ ready.ready.current;

@@ -291,25 +291,27 @@ module _ (contents : ContentRef → List ℕ) (events : List Event) (k : Kept) w
 
   pub kept_is_valid : (flow : Flow) → IsConsistent k → AreNumberedFrom 1 events → length events ≡ k.last_event → length k.connections ≡ length flow.connections → length k.counts ≡ length flow.processors
       → IsValid flow (state_with contents events k)
-  kept_is_valid flow is in_row last connections counts = record {
-    queues = length-map (enumerate_from 0 k.connections) (λ (c : ℕ × List ℕ). queue_of contents k.files c.0) ∙ length-enumerate_from 0 k.connections ∙ connections;
-    counts = counts;
-    numbered = record {
-      numbers = numbered_all contents events k is (λ f. f.number) k.next_number (numbers_of_live contents events k is);
-      arrivals = numbered_all contents events k is (λ f. f.arrival) k.next_arrival (arrivals_of_live contents events k is);
-      first_batch = is.counters.next_batch;
-      batches = no_batches;
-    };
-    by_arrival = All-map AreByArrival (λ (c : ℕ × List ℕ). queue_of contents k.files c.0) (enumerate_from 0 k.connections)
-        (λ i d lt. ordered contents events k is (get_or (enumerate_from 0 k.connections) i d).0);
-    batches = λ one other batch has _. absurd (no_batch one batch has);
-    events = record {
-      line = omega (arith, is.encoded.line);
-      numbers = in_row ∙ ap (λ n. range_with_len (n + 1) (length events)) (sym is.encoded.line);
-      last_event = omega (arith, last, is.encoded.line);
-    };
-    kin = refl;
-  }
+  kept_is_valid flow is in_row last connections counts =
+      let no_line : k.line ≡ 0 = (is.encoded.first refl).1 in
+      record {
+        queues = length-map (enumerate_from 0 k.connections) (λ (c : ℕ × List ℕ). queue_of contents k.files c.0) ∙ length-enumerate_from 0 k.connections ∙ connections;
+        counts = counts;
+        numbered = record {
+          numbers = numbered_all contents events k is (λ f. f.number) k.next_number (numbers_of_live contents events k is);
+          arrivals = numbered_all contents events k is (λ f. f.arrival) k.next_arrival (arrivals_of_live contents events k is);
+          first_batch = is.counters.next_batch;
+          batches = no_batches;
+        };
+        by_arrival = All-map AreByArrival (λ (c : ℕ × List ℕ). queue_of contents k.files c.0) (enumerate_from 0 k.connections)
+            (λ i d lt. ordered contents events k is (get_or (enumerate_from 0 k.connections) i d).0);
+        batches = λ one other batch has _. absurd (no_batch one batch has);
+        events = record {
+          line = omega (arith, no_line);
+          numbers = in_row ∙ ap (λ n. range_with_len (n + 1) (length events)) (sym no_line);
+          last_event = omega (arith, last, no_line);
+        };
+        kin = refl;
+      }
 
 -- ---- files that hold it
 

@@ -142,7 +142,8 @@ fn see_state<D: Disk>(
     ensures stays { Stays D.held D.moment D.images disk.old disk.new }
     ensures cause { CountsFaults (D.faults disk.old) (D.faults disk.new) (IsErrOf result StoreError.Disk) }
 {
-    let Snapshot { stored, .. } = checkpoint_store::read(alloc, disk, number, FORMAT_VERSION)?;
+    let found = checkpoint_store::read(alloc, disk, number, FORMAT_VERSION)?;
+    let Snapshot { stored, .. } = found;
     has_bytes(stored.flow);
     apply_entries(alloc, stored, number, entries)
 }

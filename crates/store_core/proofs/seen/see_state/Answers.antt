@@ -14,27 +14,27 @@ use Rattle.store_core.proofs.Refusals.{check_damaged}
 use Rattle.store_core.proofs.Seeing.{agrees_with_no_flow}
 use Rattle.store_core.proofs.seen.see_state.Goals as goal
 
-pub returns-in_err-stored-clause-damaged : goal.returns-in_err-stored-clause-damaged
-returns-in_err-stored-clause-damaged g c damage is told version end =
+pub returns-in_err-found-clause-damaged : goal.returns-in_err-found-clause-damaged
+returns-in_err-found-clause-damaged g c damage is told version end =
     let file = snapshot_file c.args.number in
     let held = g.D.Disk.held c.args.disk.now in
     let p = err_from_is_err_and c.from_residual.result c.from_residual.ensures.1 in
-    let same : of_check c.in_err-stored.field-0.0 ≡ Damaged damage = cc (p.1, p.2, is) in
+    let same : of_check c.in_err-found.field-0.0 ≡ Damaged damage = cc (p.1, p.2, is) in
     ap (behind_snapshot held (log_at c.args.number version c.args.entries.items end))
-    (damaged_snapshot no_flow file (held file) damage (c.in_err-stored.ensures.damaged damage (ap Err (check_damaged c.in_err-stored.field-0.0 damage same)) told))
+    (damaged_snapshot no_flow file (held file) damage (c.in_err-found.ensures.damaged damage (ap Err (check_damaged c.in_err-found.field-0.0 damage same)) told))
 
 pub returns-clause-kept : goal.returns-clause-kept
 returns-clause-kept g c =
     let file = snapshot_file c.args.number in
     let held = g.D.Disk.held c.args.disk.now in
-    let k = kept_of c.in_ok-stored.stored in
+    let k = kept_of c.in_ok-found.found.stored in
     let entries = c.args.entries.items in
     if_ok c.apply_entries.result
     (λ state. (version end : ℕ) → with_entries (log_at c.args.number version entries end) k (unless_swapped (least_of (batches_that_matter k entries))) ≡ Ok state.kept)
     (λ state. IsTrue g.D.Disk.tells → (version end : ℕ) → behind_snapshot held (log_at c.args.number version entries end) (snapshot_for no_flow file (held file)) ≡ Ok state.kept)
     (λ state is told version end.
     ap (behind_snapshot held (log_at c.args.number version entries end))
-    (agreed_snapshot no_flow file (held file) k (c.in_ok-stored.ensures.read told) (agrees_with_no_flow k c.has_bytes.ensures)) ∙ is version end)
+    (agreed_snapshot no_flow file (held file) k (c.in_ok-found.ensures.read told) (agrees_with_no_flow k c.has_bytes.ensures)) ∙ is version end)
     c.apply_entries.ensures.kept
 
 pub returns-clause-damaged : goal.returns-clause-damaged
@@ -42,5 +42,5 @@ returns-clause-damaged g c damage is told version end =
     let file = snapshot_file c.args.number in
     let held = g.D.Disk.held c.args.disk.now in
     ap (behind_snapshot held (log_at c.args.number version c.args.entries.items end))
-    (agreed_snapshot no_flow file (held file) (kept_of c.in_ok-stored.stored) (c.in_ok-stored.ensures.read told) (agrees_with_no_flow (kept_of c.in_ok-stored.stored) c.has_bytes.ensures))
+    (agreed_snapshot no_flow file (held file) (kept_of c.in_ok-found.found.stored) (c.in_ok-found.ensures.read told) (agrees_with_no_flow (kept_of c.in_ok-found.found.stored) c.has_bytes.ensures))
     ∙ c.apply_entries.ensures.damaged damage is version end

@@ -1,4 +1,5 @@
-use Rattle.std.proofs.Common.{◌≡◌, ◌+◌, false, rules, sym, ap, subst, ◌∙◌}
+use Rattle.std.proofs.Common.{◌≡◌, ◌+◌, false, rules, refl, sym, ap, subst, ◌∙◌}
+use Rattle.record_codec.specs.declared.TheConstants.{FORMAT_VERSION}
 use Rattle.std.specs.Prelude.{Some}
 use Rattle.flowfile_record.specs.Stored.{kept_of}
 use Rattle.flowfile_wal.specs.Steps.{LogState}
@@ -87,7 +88,7 @@ begun-requires-after_bounds g c κs within =
     } in
     λ d left.
     let taken = c.in_default.ensures.taken d left in
-    begun_in (number + 1) d may.next taken.log.begun taken.log.greater
+    begun_in FORMAT_VERSION (number + 1) d refl (refl, may.next) taken.log.begun taken.log.greater
 
 pub returns-in_default-drop_log-clause-meaning : goal.returns-in_default-drop_log-clause-meaning
 returns-in_default-drop_log-clause-meaning g c unfailed =
