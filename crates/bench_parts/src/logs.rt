@@ -6,7 +6,7 @@ use anyhow::Result;
 use disk_trait::{FileKind, FileName};
 use flowfile_record::DIGEST_SIZE;
 use flowfile_wal::Log;
-use record_codec::{CLOSED_GATE, FORMAT_VERSION, NO_GENERATOR, OPEN_GATE};
+use record_codec::{CLOSED_GATE, FORMAT_VERSION, GROUP_KIND, NO_GENERATOR, OPEN_GATE};
 use std::alloc::{Alloc, AllocError, Global};
 use std::fs::Files;
 
@@ -16,18 +16,38 @@ const BEGIN: u8 = 1;
 /// The kind of a session's block.
 const SESSION: u8 = 2;
 
+/// How many sessions stand in a group, but for the last one.
+const GROUP: u32 = 256;
+
 pub const LOG: FileName = FileName {
     kind: FileKind::Log,
     number: 1,
 };
 
-/// The time that it takes to load a log of so many entries.
+/// The time that it takes to load a log of so many entries, each behind a gate of its own.
 pub fn measure<R: Files + Alloc<A = Global>>(
     rt: &R,
     alloc: Global,
     entries: u32,
 ) -> Result<Measured> {
-    let mut disk = BenchDisk::of_file(alloc, LOG, log(alloc, 1, entries)?)?;
+    measure_loading(rt, alloc, log(alloc, 1, entries)?)
+}
+
+/// The time that it takes to load a log of so many entries in groups.
+pub fn measure_groups<R: Files + Alloc<A = Global>>(
+    rt: &R,
+    alloc: Global,
+    entries: u32,
+) -> Result<Measured> {
+    measure_loading(rt, alloc, log_of_groups(alloc, entries)?)
+}
+
+fn measure_loading<R: Files + Alloc<A = Global>>(
+    rt: &R,
+    alloc: Global,
+    log: Vec<u8>,
+) -> Result<Measured> {
+    let mut disk = BenchDisk::of_file(alloc, LOG, log)?;
     let start = processor_time(rt);
     let (_log, read) = Log::load(alloc, &mut disk)?;
     let took = processor_time(rt).saturating_sub(start);
@@ -41,20 +61,75 @@ pub fn measure<R: Files + Alloc<A = Global>>(
 /// of the next number.
 pub fn log(alloc: Global, last: u32, sessions: u32) -> Result<Vec<u8>> {
     let digest = digest_of_contents();
+    let mut bytes = begun(alloc)?;
+    let mut payload = Vec::new(alloc);
+    for session in 0..sessions {
+        payload.clear();
+        put_session(&mut payload, last.saturating_add(session), &digest)?;
+        put_entries(&mut bytes, SESSION, payload.as_slice())?;
+    }
+    bytes.push(CLOSED_GATE)?;
+    Ok(bytes)
+}
+
+// A log of the same sessions, behind one gate as many as a group has. Where one is left, it stands alone.
+fn log_of_groups(alloc: Global, sessions: u32) -> Result<Vec<u8>> {
+    let mut bytes = begun(alloc)?;
+    let mut payload = Vec::new(alloc);
+    for group in 0..sessions.div_ceil(GROUP) {
+        let before = group * GROUP;
+        payload.clear();
+        let kind = put_group(
+            &mut payload,
+            alloc,
+            before + 1,
+            GROUP.min(sessions - before),
+        )?;
+        put_entries(&mut bytes, kind, payload.as_slice())?;
+    }
+    bytes.push(CLOSED_GATE)?;
+    Ok(bytes)
+}
+
+// The first block of a log, behind its gate.
+fn begun(alloc: Global) -> Result<Vec<u8>> {
     let mut payload = Vec::new(alloc);
     payload.push(FORMAT_VERSION)?;
     put_numbers(&mut payload, &[LOG.number])?;
     let mut bytes = Vec::new(alloc);
-    bytes.push(OPEN_GATE)?;
-    put_block(&mut bytes, BEGIN, payload.as_slice())?;
+    put_entries(&mut bytes, BEGIN, payload.as_slice())?;
+    Ok(bytes)
+}
+
+// Appends an open gate and a block.
+fn put_entries(out: &mut Vec<u8>, kind: u8, payload: &[u8]) -> Result<()> {
+    out.push(OPEN_GATE)?;
+    put_block(out, kind, payload)
+}
+
+// Appends the payload of so many sessions, the first of which takes the file of this number. Answers its kind.
+fn put_group(out: &mut Vec<u8>, alloc: Global, first: u32, sessions: u32) -> Result<u8> {
+    let digest = digest_of_contents();
+    if sessions == 1 {
+        put_session(out, first, &digest)?;
+        return Ok(SESSION);
+    }
+    out.extend_from_slice(&sessions.to_be_bytes())?;
+    let mut payload = Vec::new(alloc);
     for session in 0..sessions {
         payload.clear();
-        put_session(&mut payload, last.saturating_add(session), &digest)?;
-        bytes.push(OPEN_GATE)?;
-        put_block(&mut bytes, SESSION, payload.as_slice())?;
+        put_session(&mut payload, first.saturating_add(session), &digest)?;
+        put_item(out, payload.as_slice())?;
     }
-    bytes.push(CLOSED_GATE)?;
-    Ok(bytes)
+    Ok(GROUP_KIND)
+}
+
+// Appends a session of a group.
+fn put_item(out: &mut Vec<u8>, payload: &[u8]) -> Result<()> {
+    let size = u32::try_from(payload.len())?;
+    out.push(SESSION)?;
+    out.extend_from_slice(&size.to_be_bytes())?;
+    Ok(out.extend_from_slice(payload)?)
 }
 
 // A session that takes the file of this number and places one of the next.

@@ -1,7 +1,9 @@
 //! Measures parts of the store: behind a word that says which part stands how much of it there is.
 #![tactic(auto)]
 
+mod agings;
 mod appends;
+mod batches;
 mod disk;
 mod logs;
 mod measured;
@@ -16,10 +18,20 @@ use std::env;
 use std::fs::Files;
 
 /// The parts that are measured.
-const PARTS: [&str; 5] = ["appends", "loads", "opens", "reads", "writes"];
+const PARTS: [&str; 9] = [
+    "appends",
+    "loads",
+    "groups",
+    "opens",
+    "reads",
+    "writes",
+    "swaps_in",
+    "swaps_out",
+    "ages",
+];
 
 /// How much there is of each where the word is `check`.
-const FEW: u32 = 5;
+const FEW: u32 = 2;
 
 fn main(rt: HostRuntime) -> Result<()> {
     let alloc = rt.alloc();
@@ -62,9 +74,13 @@ fn measure<R: Files + Alloc<A = Global>>(
     match part {
         "appends" => appends::measure(rt, alloc, much),
         "loads" => logs::measure(rt, alloc, much),
+        "groups" => logs::measure_groups(rt, alloc, much),
         "opens" => stores::measure(rt, alloc, much, live),
         "reads" => snapshots::measure_reading(rt, alloc, much),
         "writes" => snapshots::measure_writing(rt, alloc, much),
+        "swaps_in" => batches::measure_reading(rt, alloc, much),
+        "swaps_out" => batches::measure_writing(rt, alloc, much),
+        "ages" => agings::measure(rt, alloc, much),
         _ => bail!("`{part}` measures nothing"),
     }
 }

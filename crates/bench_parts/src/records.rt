@@ -1,8 +1,8 @@
 //! Bytes of records, as docs/STORE.md has them.
 use crate::disk::CLAIM_BYTE;
 use anyhow::{Result, bail};
-use flowfile_record::DIGEST_SIZE;
-use record_codec::{PAYLOAD_MAX, append_block};
+use flowfile_record::{DIGEST_SIZE, EventKind};
+use record_codec::{PAYLOAD_MAX, SnapshotKind, append_block};
 use sha2::{Digest, Sha256};
 use std::alloc::{AllocError, Global};
 
@@ -11,6 +11,9 @@ const ATTRIBUTES: &[u8; 33] = b"\0\x02\0\x08filename\0\0\0\x05a.txt\0\x04path\0\
 
 /// The size of a file's content, in bytes.
 const CONTENT_SIZE: u64 = 100;
+
+/// The kind of each event.
+pub const RECORDED: EventKind = EventKind::Receive;
 
 /// How many contents stand in each claim.
 const CONTENTS_OF_A_CLAIM: u32 = 10_000;
@@ -52,6 +55,40 @@ pub fn put_file(
     put_numbers(out, &[offset, CONTENT_SIZE])?;
     out.extend_from_slice(digest)?;
     put_numbers(out, &[1_000, 0, u64::from(number)])
+}
+
+/// Appends the blocks of so many files, by their numbers from 1 on.
+pub fn put_files(out: &mut Vec<u8>, alloc: Global, files: u32) -> Result<()> {
+    let digest = digest_of_contents();
+    let mut payload = Vec::new(alloc);
+    for before in 0..files {
+        payload.clear();
+        put_file(&mut payload, before + 1, &digest)?;
+        put_block(out, SnapshotKind::File.code(), payload.as_slice())?;
+    }
+    Ok(())
+}
+
+/// Appends the End behind so many blocks.
+pub fn put_end(out: &mut Vec<u8>, blocks: u64) -> Result<()> {
+    put_block(out, SnapshotKind::End.code(), &blocks.to_be_bytes())
+}
+
+/// Appends an event: a file with a content of this digest was received. It has the event's number.
+pub fn put_event(
+    out: &mut Vec<u8>,
+    number: u64,
+    digest: &[u8; DIGEST_SIZE],
+) -> Result<(), AllocError> {
+    put_numbers(out, &[number])?;
+    out.push(RECORDED.code())?;
+    put_numbers(out, &[1_000])?;
+    out.extend_from_slice(b"\0\x03get")?;
+    put_numbers(out, &[number])?;
+    // No parents, no children, and no detail.
+    out.extend_from_slice(&[0; 12])?;
+    put_numbers(out, &[CONTENT_SIZE])?;
+    out.extend_from_slice(digest)
 }
 
 /// Appends a block.

@@ -5,7 +5,7 @@ ghost use Rattle.checkpoint_store.specs.Consistent.{IsConsistent};
 
 use crate::disk::BenchDisk;
 use crate::measured::{Measured, processor_time};
-use crate::records::{digest_of_contents, put_block, put_file, put_numbers};
+use crate::records::{put_block, put_end, put_files, put_numbers};
 use anyhow::{Result, bail};
 use checkpoint_store::{read, write};
 use disk_trait::{FileKind, FileName};
@@ -66,18 +66,11 @@ fn state(alloc: Global, files: u32) -> Result<Stored>
 
 /// A snapshot of so many files.
 pub fn snapshot(alloc: Global, files: u32) -> Result<Vec<u8>> {
-    let digest = digest_of_contents();
     let mut bytes = Vec::new(alloc);
     let head = head(alloc, u64::from(files))?;
     put_block(&mut bytes, SnapshotKind::Head.code(), head.as_slice())?;
-    let mut payload = Vec::new(alloc);
-    for before in 0..files {
-        payload.clear();
-        put_file(&mut payload, before + 1, &digest)?;
-        put_block(&mut bytes, SnapshotKind::File.code(), payload.as_slice())?;
-    }
-    let blocks = (u64::from(files) + 1).to_be_bytes();
-    put_block(&mut bytes, SnapshotKind::End.code(), &blocks)?;
+    put_files(&mut bytes, alloc, files)?;
+    put_end(&mut bytes, u64::from(files) + 1)?;
     Ok(bytes)
 }
 

@@ -1,7 +1,7 @@
 //! The disk of a case, and what is told of its files.
 use crate::json::{items, number, text};
 use anyhow::{Result, bail};
-use disk_trait::{Damage, FileKind, FileName};
+use disk_trait::{Damage, Disk, FileKind, FileName, MemoryDisk};
 use serde_json::Value;
 use std::alloc::{AllocError, Global};
 
@@ -38,6 +38,19 @@ fn name_of(kind: FileKind) -> &'static str {
 /// Bytes in hexadecimal.
 pub fn put_digits(out: &mut String, alloc: Global, bytes: &[u8]) -> Result<(), AllocError> {
     out.push_str(hex::encode(alloc, bytes)?.as_str())
+}
+
+/// The bytes of a file, in hexadecimal.
+pub fn put_bytes(
+    out: &mut String,
+    alloc: Global,
+    disk: &mut MemoryDisk,
+    file: FileName,
+) -> Result<()> {
+    let size = disk.size(file)?;
+    let mut bytes = vec![in alloc; 0u8; size as usize]?;
+    disk.read(file, 0, bytes.as_mut_slice())?;
+    Ok(put_digits(out, alloc, bytes.as_slice())?)
 }
 
 /// The file, the offset, and the two digests or sizes.

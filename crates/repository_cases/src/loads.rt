@@ -1,5 +1,5 @@
 //! Cases of a log's bytes: how it is loaded, and what mending leaves of it.
-use crate::disks::{bytes, failing_calls, put_damage, put_digits};
+use crate::disks::{bytes, failing_calls, put_bytes, put_damage};
 use anyhow::Result;
 use disk_trait::{Disk, FileKind, FileName, MemoryDisk};
 use flowfile_wal::{Log, LogEntries, LogError};
@@ -65,9 +65,6 @@ fn put_mended(
         let kind = entry.kind();
         write!(out, "kind {kind} at {gate}, ")?;
     }
-    let size = disk.size(LOG)?;
-    let mut left = vec![in alloc; 0u8; size as usize]?;
-    disk.read(LOG, 0, left.as_mut_slice())?;
-    put_digits(out, alloc, left.as_slice())?;
+    put_bytes(out, alloc, disk, LOG)?;
     Ok(out.push_str(" there")?)
 }

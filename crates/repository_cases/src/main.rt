@@ -2,6 +2,7 @@
 //! what came out of it.
 #![tactic(auto)]
 
+mod batches;
 mod contents;
 mod disks;
 mod json;
@@ -33,6 +34,9 @@ fn answer_of(alloc: Global, line: &str) -> Result<String> {
 fn put_answer(out: &mut String, alloc: Global, case: &Value) -> Result<()> {
     if let Some(bytes) = case.get("snapshot") {
         return snapshots::put_snapshot(out, alloc, bytes, case);
+    }
+    if let Some(bytes) = case.get("batch") {
+        return batches::put_batch(out, alloc, bytes, case);
     }
     if let Some(batch) = case.get("log") {
         return logs::put_log(out, alloc, batch, case);

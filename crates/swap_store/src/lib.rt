@@ -11,6 +11,3 @@ pub use blocks::FileBlocks;
 pub use error::SwapError;
 pub use reading::{batches_are_read_back, read_batch};
 pub use writing::{drop_batch, write_batch};
-
-#[cfg(test)]
-mod tests;

@@ -64,8 +64,13 @@ impl Kept {
         Some(())
     }
 
-    // The bytes of a file that is read.
+    // The bytes of a file that is read. Files of events stand at the places of their numbers.
     fn bytes_of(&self, name: FileName) -> Option<&[u8]> {
+        if let Some(file) = self.files.get(name.number as usize) {
+            if file.name == name {
+                return Some(file.bytes.as_slice());
+            }
+        }
         for file in &self.files {
             if file.name == name {
                 return Some(file.bytes.as_slice());
