@@ -1,2 +1,3 @@
 pub mod Address
 pub mod Damage
+pub mod Errors

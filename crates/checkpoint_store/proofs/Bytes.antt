@@ -12,8 +12,8 @@ use Rattle.record_codec.specs.Block.{Reading, Whole, reading_of}
 use Rattle.record_codec.proofs.Blocks.{whole_fits, whole_of-reading}
 use Rattle.checkpoint_store.specs.Memory.{head_front_at}
 use Rattle.checkpoint_store.specs.Reading.{Next, said, behind_block, go_on, blocks_from, first_block_kept, next_in, snapshot_of}
-use Rattle.checkpoint_store.specs.declared.error.CheckError.{CheckError}
-use Rattle.checkpoint_store.specs.declared.error.CheckError.TheVariants.{Damaged}
+use Rattle.block_file.specs.declared.error.BlockError.{BlockError}
+use Rattle.block_file.specs.declared.error.BlockError.TheVariants.{Damaged}
 use Rattle.checkpoint_store.proofs.Untaken.{front_same, front_refused, long_is_file}
 
 -- the kind stands behind the length
@@ -97,5 +97,5 @@ kind_read bytes at =
     get_or-take 1 (drop (at + 4) bytes) 0 0 (omega arith) ∙ get_or-drop (at + 4) bytes 0 0 ∙ ap (λ (i : ℕ). get_or bytes i 0) same ∙ sym (get_or-drop at bytes 4 0)
 
 -- the damage that was told
-pub form_told : {T : Type 0} (error : CheckError) (told found : Damage) → error ≡ Damaged told → IsErrOf {T = T} (Err error) (Damaged found) → told ≡ found
+pub form_told : {T : Type 0} (error : BlockError) (told found : Damage) → error ≡ Damaged told → IsErrOf {T = T} (Err error) (Damaged found) → told ≡ found
 form_told error told found e is = cc (is)

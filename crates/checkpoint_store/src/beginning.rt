@@ -1,15 +1,13 @@
 //! The beginning of a log: it becomes the current one by the write of one byte.
-ghost use Rattle.std.specs.Prelude.{◌≡◌, ℕ, ◌+◌, ◌<◌, ◌≤◌, List, [], ◌∷◌, ◌++◌, length, IsTrue, OnOk, IsErr, IsErrOf};
+ghost use Rattle.std.specs.Prelude.{◌≡◌, ℕ, ◌+◌, ◌<◌, ◌≤◌, List, [], ◌∷◌, ◌++◌, length, IsTrue, OnOk, IsErr};
 ghost use Rattle.disk_trait.specs.Files.{Files, At};
 ghost use Rattle.disk_trait.specs.Images.{After, Since, IsOnly};
 ghost use Rattle.disk_trait.specs.Faults.{CountsFaults};
-ghost use Rattle.disk_trait.specs.declared.damage.Damage.{Damage as TheDamage};
 ghost use Rattle.record_codec.specs.EntryEncoding.{IsEntry};
 ghost use Rattle.record_codec.specs.Frames.{entry_frame, IsPassedOver};
 ghost use Rattle.record_codec.specs.declared.entry.LogEntry.TheVariants.{Begin};
 ghost use Rattle.checkpoint_store.specs.Begun.{log_file, IsBegunOrNot, MayBegin, IsBegun};
 
-use crate::CheckError;
 use disk_trait::{Disk, Failed, FileKind, FileName, write_synced};
 use flowfile_record::DIGEST_SIZE;
 use record_codec::{BLOCK_OVERHEAD, CLOSED_GATE, LogEntry, OPEN_GATE};
@@ -25,7 +23,7 @@ const FRAME_SIZE: usize = (BLOCK_OVERHEAD + BEGIN_SIZE) as usize + 1;
 ///
 /// A closed gate is written and synced, then the block of the log's Begin with a closed gate behind it, and only then
 /// the first gate is opened.
-pub fn begin<D: Disk>(disk: &mut D, number: u64, version: u8) -> Result<(), CheckError>
+pub fn begin<D: Disk>(disk: &mut D, number: u64, version: u8) -> Result<(), Failed>
     requires number { IsEntry (Begin version number) }
     requires ready { (c : Files) → D.images disk.old (D.moment disk.old) c → MayBegin number c }
     // In each image the log is the current one.
@@ -35,9 +33,7 @@ pub fn begin<D: Disk>(disk: &mut D, number: u64, version: u8) -> Result<(), Chec
         (After (At (log_file number) (λ old new. IsBegunOrNot version number new))
         (D.images disk.old (D.moment disk.old))) }
     ensures synced { OnOk result (IsOnly (D.held disk.new) (D.images disk.new (D.moment disk.new))) }
-    ensures kinds { (IsErrOf result CheckError.Memory → ⊥)
-        × ((damage : TheDamage) → IsErrOf result (CheckError.Damaged damage) → ⊥) }
-    ensures cause { CountsFaults (D.faults disk.old) (D.faults disk.new) (IsErrOf result CheckError.Disk) }
+    ensures cause { CountsFaults (D.faults disk.old) (D.faults disk.new) (IsErr result) }
 {
     let file = FileName {
         kind: FileKind::Log,

@@ -2,7 +2,6 @@
 #![tactic(auto)]
 
 mod beginning;
-mod error;
 mod output;
 mod part;
 mod reading;
@@ -11,6 +10,5 @@ mod unread;
 mod writing;
 
 pub use beginning::begin;
-pub use error::CheckError;
 pub use reading::{Snapshot, read, snapshots_are_read_back};
 pub use writing::write;

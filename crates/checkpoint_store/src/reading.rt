@@ -13,7 +13,6 @@ ghost use Rattle.checkpoint_store.specs.Snapshot.{snapshot, snapshot_file, files
 ghost use Rattle.checkpoint_store.specs.Consistent.{IsConsistentIn};
 ghost use Rattle.checkpoint_store.specs.SoFar.{IsSoFar, HasReadBlock};
 
-use crate::CheckError;
 use crate::part::first_part;
 use crate::so_far::{SoFar, Unfit};
 use crate::unread::{SMALL_BLOCK_SIZE, check_head, check_is_file};
@@ -45,7 +44,7 @@ pub fn read<D: Disk>(
     disk: &mut D,
     number: u64,
     version: u8,
-) -> Result<Snapshot, CheckError>
+) -> Result<Snapshot, BlockError>
     ensures read { IfOk result (λ found. IsTrue D.tells
         → snapshot_in version (D.held disk.old) (snapshot_file number) ≡ Ok (kept_of found.stored)) }
     ensures place { IfOk result (λ found. found.batches_at ≡ files_end version (kept_of found.stored)) }
@@ -53,13 +52,13 @@ pub fn read<D: Disk>(
     ensures consistent { IfOk result (λ found. (kept_of found.stored).batches ≡ []
         → IsConsistentIn version (kept_of found.stored)) }
     // The first damage is told, where there is one.
-    ensures damaged { (damage : TheDamage) → IsErrOf result (CheckError.Damaged damage) → IsTrue D.tells
+    ensures damaged { (damage : TheDamage) → IsErrOf result (BlockError.Damaged damage) → IsTrue D.tells
         → snapshot_in version (D.held disk.old) (snapshot_file number) ≡ Err damage }
     // What is damaged before the block that memory is wanted for is told, and of that block what can be told without.
-    ensures memory { IsErrOf result CheckError.Memory → IsTrue D.tells
+    ensures memory { IsErrOf result BlockError.Memory → IsTrue D.tells
         → MayWantMemory version (D.held disk.old (snapshot_file number)) }
     ensures stays { Stays D.held D.moment D.images disk.old disk.new }
-    ensures cause { CountsFaults (D.faults disk.old) (D.faults disk.new) (IsErrOf result CheckError.Disk) }
+    ensures cause { CountsFaults (D.faults disk.old) (D.faults disk.new) (IsErrOf result BlockError.Disk) }
 {
     let file = FileName {
         kind: FileKind::Snapshot,
@@ -86,23 +85,23 @@ fn read_first<D: Disk>(
     source: Source,
     version: u8,
     buffer: &mut Vec<u8>,
-) -> Result<(SoFar, u64), CheckError>
+) -> Result<(SoFar, u64), BlockError>
     requires size { IsTrue D.tells → source.size ≡ length (D.held disk.old source.file) }
     ensures found { IfOk result (λ first. IsTrue D.tells → snapshot_in version (D.held disk.old) source.file
         ≡ blocks_in_file (suc (length (D.held disk.old source.file))) (D.held disk.old) source.file
         first.1 (kept_of first.0.state)) }
     ensures so_far { IfOk result (λ first. IsSoFar first.0 × (first.0.version ≡ version)) }
     ensures within { IfOk result (λ first. first.1 ≤ source.size) }
-    ensures damaged { (damage : TheDamage) → IsErrOf result (CheckError.Damaged damage) → IsTrue D.tells
+    ensures damaged { (damage : TheDamage) → IsErrOf result (BlockError.Damaged damage) → IsTrue D.tells
         → snapshot_in version (D.held disk.old) source.file ≡ Err damage }
     ensures read_to { IfOk result (λ first. IsTrue D.tells
         → IsReadTo version (D.held disk.old source.file) first.1 (kept_of first.0.state)
         (vec_capacity buffer.new)) }
     ensures room { OnOk result (SMALL_BLOCK_SIZE ≤ vec_capacity buffer.new) }
-    ensures memory { IsErrOf result CheckError.Memory → IsTrue D.tells
+    ensures memory { IsErrOf result BlockError.Memory → IsTrue D.tells
         → FirstTakes version (D.held disk.old source.file) }
     ensures stays { Stays D.held D.moment D.images disk.old disk.new }
-    ensures cause { CountsFaults (D.faults disk.old) (D.faults disk.new) (IsErrOf result CheckError.Disk) }
+    ensures cause { CountsFaults (D.faults disk.old) (D.faults disk.new) (IsErrOf result BlockError.Disk) }
 {
     let block = read_head_block(disk, source, version, buffer)?;
     match first_part(
@@ -126,21 +125,21 @@ fn read_next<D: Disk>(
     at: u64,
     buffer: &mut Vec<u8>,
     so_far: &mut SoFar,
-) -> Result<Option<u64>, CheckError>
+) -> Result<Option<u64>, BlockError>
     requires address { IsAddress D.tells (D.held disk.old) (address_of source.file source.size at) }
     requires so_far { IsSoFar so_far.old }
     requires room { SMALL_BLOCK_SIZE ≤ vec_capacity buffer.old }
     ensures read { IfOk result
         (HasReadBlock D.tells (D.held disk.old) source at (vec_capacity buffer.new) so_far.old so_far.new) }
     ensures capacity { vec_capacity buffer.old ≤ vec_capacity buffer.new }
-    ensures damaged { (damage : TheDamage) → IsErrOf result (CheckError.Damaged damage) → IsTrue D.tells
+    ensures damaged { (damage : TheDamage) → IsErrOf result (BlockError.Damaged damage) → IsTrue D.tells
         → (most : ℕ) → blocks_in_file (suc most) (D.held disk.old) source.file at (kept_of so_far.old.state)
         ≡ Err damage }
-    ensures memory { IsErrOf result CheckError.Memory → IsTrue D.tells
+    ensures memory { IsErrOf result BlockError.Memory → IsTrue D.tells
         → BlockTakes (vec_capacity buffer.old) (kept_of so_far.old.state)
         (reading_at (D.held disk.old) (address_of source.file source.size at)) }
     ensures stays { Stays D.held D.moment D.images disk.old disk.new }
-    ensures cause { CountsFaults (D.faults disk.old) (D.faults disk.new) (IsErrOf result CheckError.Disk) }
+    ensures cause { CountsFaults (D.faults disk.old) (D.faults disk.new) (IsErrOf result BlockError.Disk) }
 {
     let block = read_part_block(disk, source, at, buffer)?;
     match so_far.take_part(
@@ -160,22 +159,22 @@ fn read_head_block<D: Disk>(
     source: Source,
     version: u8,
     buffer: &mut Vec<u8>,
-) -> Result<Block, CheckError>
+) -> Result<Block, BlockError>
     requires size { IsTrue D.tells → source.size ≡ length (D.held disk.old source.file) }
     ensures found { IfOk result
         (IsBlockAt D.tells (D.held disk.old) (address_of source.file source.size 0) buffer.new.items) }
-    ensures damaged { (damage : TheDamage) → IsErrOf result (CheckError.Damaged damage) → IsTrue D.tells
+    ensures damaged { (damage : TheDamage) → IsErrOf result (BlockError.Damaged damage) → IsTrue D.tells
         → snapshot_in version (D.held disk.old) source.file ≡ Err damage }
-    ensures memory { IsErrOf result CheckError.Memory → IsTrue D.tells
+    ensures memory { IsErrOf result BlockError.Memory → IsTrue D.tells
         → FirstTakes version (D.held disk.old source.file) }
     ensures capacity { vec_capacity buffer.old ≤ vec_capacity buffer.new }
     ensures stays { Stays D.held D.moment D.images disk.old disk.new }
-    ensures cause { CountsFaults (D.faults disk.old) (D.faults disk.new) (IsErrOf result CheckError.Disk) }
+    ensures cause { CountsFaults (D.faults disk.old) (D.faults disk.new) (IsErrOf result BlockError.Disk) }
 {
     match read_block(disk, source, 0, buffer) {
-        Err(CheckError::Memory) => {
+        Err(BlockError::Memory) => {
             check_head(disk, source, version)?;
-            Err(CheckError::Memory)
+            Err(BlockError::Memory)
         }
         read => read,
     }
@@ -187,24 +186,24 @@ fn read_part_block<D: Disk>(
     source: Source,
     at: u64,
     buffer: &mut Vec<u8>,
-) -> Result<Block, CheckError>
+) -> Result<Block, BlockError>
     requires address { IsAddress D.tells (D.held disk.old) (address_of source.file source.size at) }
     requires room { SMALL_BLOCK_SIZE ≤ vec_capacity buffer.old }
     ensures found { IfOk result
         (IsBlockAt D.tells (D.held disk.old) (address_of source.file source.size at) buffer.new.items) }
-    ensures damaged { (damage : TheDamage) → IsErrOf result (CheckError.Damaged damage) → IsTrue D.tells
+    ensures damaged { (damage : TheDamage) → IsErrOf result (BlockError.Damaged damage) → IsTrue D.tells
         → (k : Kept) (most : ℕ) → blocks_in_file (suc most) (D.held disk.old) source.file at k ≡ Err damage }
-    ensures memory { IsErrOf result CheckError.Memory → IsTrue D.tells
+    ensures memory { IsErrOf result BlockError.Memory → IsTrue D.tells
         → (k : Kept) → BlockTakes (vec_capacity buffer.old) k
         (reading_at (D.held disk.old) (address_of source.file source.size at)) }
     ensures capacity { vec_capacity buffer.old ≤ vec_capacity buffer.new }
     ensures stays { Stays D.held D.moment D.images disk.old disk.new }
-    ensures cause { CountsFaults (D.faults disk.old) (D.faults disk.new) (IsErrOf result CheckError.Disk) }
+    ensures cause { CountsFaults (D.faults disk.old) (D.faults disk.new) (IsErrOf result BlockError.Disk) }
 {
     match read_block(disk, source, at, buffer) {
-        Err(CheckError::Memory) => {
+        Err(BlockError::Memory) => {
             check_is_file(disk, source, at)?;
-            Err(CheckError::Memory)
+            Err(BlockError::Memory)
         }
         read => read,
     }
@@ -216,19 +215,19 @@ fn read_block<D: Disk>(
     source: Source,
     at: u64,
     buffer: &mut Vec<u8>,
-) -> Result<Block, CheckError>
+) -> Result<Block, BlockError>
     requires { IsAddress D.tells (D.held disk.old) (address_of source.file source.size at) }
     ensures found { IfOk result
         (IsBlockAt D.tells (D.held disk.old) (address_of source.file source.size at) buffer.new.items) }
-    ensures damaged { (damage : TheDamage) → IsErrOf result (CheckError.Damaged damage) → IsTrue D.tells
+    ensures damaged { (damage : TheDamage) → IsErrOf result (BlockError.Damaged damage) → IsTrue D.tells
         → damage_in source.file at (reading_at (D.held disk.old) (address_of source.file source.size at))
         ≡ Some damage }
-    ensures memory { IsErrOf result CheckError.Memory → IsTrue D.tells
+    ensures memory { IsErrOf result BlockError.Memory → IsTrue D.tells
         → HasBlockPast (D.held disk.old) (address_of source.file source.size at) (vec_capacity buffer.old) }
-    ensures room { IsErrOf result CheckError.Memory → at + vec_capacity buffer.old < source.size }
+    ensures room { IsErrOf result BlockError.Memory → at + vec_capacity buffer.old < source.size }
     ensures capacity { vec_capacity buffer.old ≤ vec_capacity buffer.new }
     ensures stays { Stays D.held D.moment D.images disk.old disk.new }
-    ensures cause { CountsFaults (D.faults disk.old) (D.faults disk.new) (IsErrOf result CheckError.Disk) }
+    ensures cause { CountsFaults (D.faults disk.old) (D.faults disk.new) (IsErrOf result BlockError.Disk) }
 {
     let address = BlockAddress {
         file: source.file,
@@ -236,22 +235,17 @@ fn read_block<D: Disk>(
         offset: at,
         at,
     };
-    match read_block_at(disk, address, buffer) {
-        Ok(block) => Ok(block),
-        Err(BlockError::Disk) => Err(CheckError::Disk),
-        Err(BlockError::Memory) => Err(CheckError::Memory),
-        Err(BlockError::Damaged(damage)) => Err(CheckError::Damaged(damage)),
-    }
+    read_block_at(disk, address, buffer)
 }
 
 // Why the block at an offset doesn't join those before it.
-fn refused(source: Source, at: u64, unfit: Unfit) -> CheckError
-    ensures form { unfit ≡ Unfit.Form → result ≡ CheckError.Damaged (TheDamage.Form source.file at) }
-    ensures memory { unfit ≡ Unfit.Memory → result ≡ CheckError.Memory }
+fn refused(source: Source, at: u64, unfit: Unfit) -> BlockError
+    ensures form { unfit ≡ Unfit.Form → result ≡ BlockError.Damaged (TheDamage.Form source.file at) }
+    ensures memory { unfit ≡ Unfit.Memory → result ≡ BlockError.Memory }
 {
     match unfit {
-        Unfit::Memory => CheckError::Memory,
-        Unfit::Form => CheckError::Damaged(Damage::Form {
+        Unfit::Memory => BlockError::Memory,
+        Unfit::Form => BlockError::Damaged(Damage::Form {
             file: source.file,
             at,
         }),

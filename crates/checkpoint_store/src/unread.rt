@@ -11,8 +11,8 @@ ghost use Rattle.record_codec.specs.declared.snapshot.SnapshotKind.TheVariants a
 ghost use Rattle.checkpoint_store.specs.Memory.{FirstTakes, head_front_at};
 ghost use Rattle.checkpoint_store.specs.Reading.{address_of, blocks_in_file, snapshot_in};
 
-use crate::CheckError;
 use crate::reading::Source;
+use block_file::BlockError;
 use disk_trait::{Damage, Disk, Failed};
 use flowfile_record::fields::{read_digest, read_u8, read_u64};
 use flowfile_record::{DIGEST_SIZE, STORE_LIMIT};
@@ -28,14 +28,14 @@ const HEAD_FRONT_SIZE: usize = 9 + DIGEST_SIZE;
 
 /// Whether the first block, for which there is no memory, may be a Head of this version: it is looked at up to the
 /// lists of one.
-pub fn check_head<D: Disk>(disk: &mut D, source: Source, version: u8) -> Result<(), CheckError>
+pub fn check_head<D: Disk>(disk: &mut D, source: Source, version: u8) -> Result<(), BlockError>
     requires { IsTrue D.tells → HasBlockPast (D.held disk.old) (address_of source.file source.size 0) 0 }
     ensures front { OnOk result (IsTrue D.tells → FirstTakes version (D.held disk.old source.file)) }
-    ensures damaged { (damage : TheDamage) → IsErrOf result (CheckError.Damaged damage) → IsTrue D.tells
+    ensures damaged { (damage : TheDamage) → IsErrOf result (BlockError.Damaged damage) → IsTrue D.tells
         → snapshot_in version (D.held disk.old) source.file ≡ Err damage }
-    ensures kinds { IsErrOf result CheckError.Memory → ⊥ }
+    ensures kinds { IsErrOf result BlockError.Memory → ⊥ }
     ensures stays { Stays D.held D.moment D.images disk.old disk.new }
-    ensures cause { CountsFaults (D.faults disk.old) (D.faults disk.new) (IsErrOf result CheckError.Disk) }
+    ensures cause { CountsFaults (D.faults disk.old) (D.faults disk.new) (IsErrOf result BlockError.Disk) }
 {
     let mut header = [0u8; HEADER_SIZE as usize];
     disk.read(source.file, 0, &mut header)?;
@@ -96,7 +96,7 @@ fn is_head_front(version: u8, bytes: &[u8]) -> bool
 }
 
 /// Whether a later block, for which there is no memory, may be a file's.
-pub fn check_is_file<D: Disk>(disk: &mut D, source: Source, at: u64) -> Result<(), CheckError>
+pub fn check_is_file<D: Disk>(disk: &mut D, source: Source, at: u64) -> Result<(), BlockError>
     requires whole { IsTrue D.tells
         → HasBlockPast (D.held disk.old) (address_of source.file source.size at) SMALL_BLOCK_SIZE }
     requires size { IsTrue D.tells → source.size ≡ length (D.held disk.old source.file) }
@@ -104,11 +104,11 @@ pub fn check_is_file<D: Disk>(disk: &mut D, source: Source, at: u64) -> Result<(
     ensures file { OnOk result (IsTrue D.tells → (payload : List ℕ) (kind : ℕ)
         → reading_at (D.held disk.old) (address_of source.file source.size at) ≡ Whole kind payload
         → kind ≡ kind_code kinds.File) }
-    ensures damaged { (damage : TheDamage) → IsErrOf result (CheckError.Damaged damage) → IsTrue D.tells
+    ensures damaged { (damage : TheDamage) → IsErrOf result (BlockError.Damaged damage) → IsTrue D.tells
         → (k : Kept) (most : ℕ) → blocks_in_file (suc most) (D.held disk.old) source.file at k ≡ Err damage }
-    ensures kinds { IsErrOf result CheckError.Memory → ⊥ }
+    ensures kinds { IsErrOf result BlockError.Memory → ⊥ }
     ensures stays { Stays D.held D.moment D.images disk.old disk.new }
-    ensures cause { CountsFaults (D.faults disk.old) (D.faults disk.new) (IsErrOf result CheckError.Disk) }
+    ensures cause { CountsFaults (D.faults disk.old) (D.faults disk.new) (IsErrOf result BlockError.Disk) }
 {
     let mut kind = [0u8; 1];
     disk.read(source.file, at + (HEADER_SIZE - 1), &mut kind)?;
@@ -119,10 +119,10 @@ pub fn check_is_file<D: Disk>(disk: &mut D, source: Source, at: u64) -> Result<(
 }
 
 // The block at an offset is of bad form.
-fn bad_form(source: Source, at: u64) -> CheckError
-    ensures { result ≡ CheckError.Damaged (TheDamage.Form source.file at) }
+fn bad_form(source: Source, at: u64) -> BlockError
+    ensures { result ≡ BlockError.Damaged (TheDamage.Form source.file at) }
 {
-    CheckError::Damaged(Damage::Form {
+    BlockError::Damaged(Damage::Form {
         file: source.file,
         at,
     })

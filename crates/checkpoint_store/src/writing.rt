@@ -14,8 +14,8 @@ ghost use Rattle.checkpoint_store.specs.Output.{HasFreeRoom};
 ghost use Rattle.checkpoint_store.specs.Put.{IsPut, Within};
 ghost use Rattle.checkpoint_store.specs.Snapshot.{snapshot, snapshot_file, file_block, batch_block};
 
-use crate::CheckError;
 use crate::output::Output;
+use block_file::BlockError;
 use disk_trait::{Disk, Failed, FileKind, FileName};
 use flowfile_record::{ActiveList, BatchList, Stored};
 use std::alloc::Global;
@@ -28,7 +28,7 @@ pub fn write<D: Disk>(
     number: u64,
     version: u8,
     state: &Stored,
-) -> Result<(), CheckError>
+) -> Result<(), BlockError>
     requires { IsConsistentIn version (kept_of state.now) }
     // The file begins with the snapshot, and what stood behind it there and in other files is as it was.
     ensures written { OnOk result (IsTrue D.tells
@@ -39,9 +39,9 @@ pub fn write<D: Disk>(
     // A stop within the call leaves all as it was but for the bytes that the snapshot has.
     ensures images { Within D.moment D.images (snapshot_file number) disk.old disk.new
         (length (snapshot version (kept_of state.now))) }
-    ensures spared { IsErrOf result CheckError.Memory → disk.new ≡ disk.old }
-    ensures kinds { (damage : TheDamage) → IsErrOf result (CheckError.Damaged damage) → ⊥ }
-    ensures cause { CountsFaults (D.faults disk.old) (D.faults disk.new) (IsErrOf result CheckError.Disk) }
+    ensures spared { IsErrOf result BlockError.Memory → disk.new ≡ disk.old }
+    ensures kinds { (damage : TheDamage) → IsErrOf result (BlockError.Damaged damage) → ⊥ }
+    ensures cause { CountsFaults (D.faults disk.old) (D.faults disk.new) (IsErrOf result BlockError.Disk) }
 {
     let file = FileName {
         kind: FileKind::Snapshot,

@@ -1,15 +1,14 @@
 -- What the calls of a log ask, and what they leave.
-use Rattle.std.specs.Prelude.{◌≡◌, ◌⊎◌, ℕ, ◌+◌, true, false, List, [], ◌∷◌, length, All, Result, Err, OnErr, IsErrOf}
+use Rattle.std.specs.Prelude.{◌≡◌, ◌⊎◌, ℕ, ◌+◌, true, false, List, [], ◌∷◌, length, All, Result, OnErr, IsErr}
 use Rattle.disk_trait.specs.Faults.{CountsFaults}
 use Rattle.disk_trait.specs.Files.{Files}
 use Rattle.disk_trait.specs.Images.{After, IsOnly}
+use Rattle.disk_trait.specs.declared.file_name.Failed.{Failed}
 use Rattle.record_codec.specs.EntryEncoding.{IsEntry}
 use Rattle.record_codec.specs.Frames.{entry_frame}
 use Rattle.record_codec.specs.declared.entry.LogEntry.{LogEntry}
 use Rattle.flowfile_wal.specs.Current.{log_bytes}
 use Rattle.flowfile_wal.specs.Steps.{LogState, RestsAt, IsReadyIn, KeepsLog, AddsEntries}
-use Rattle.flowfile_wal.specs.declared.error.LogError.{LogError}
-use Rattle.flowfile_wal.specs.declared.error.LogError.TheVariants.{Disk}
 
 -- all files that a stop may leave are so
 abbrev pub InEach : (Files → Type 0) → (Files → Type 0) → Type 0
@@ -47,9 +46,8 @@ WithOrWithoutEntry number entry left held c =
 abbrev pub with_frame : LogState → List ℕ → LogState
 with_frame state bytes = record state { end = state.end + length bytes }
 
--- The one refusal is Disk. It comes only where the disk's fault count rose, and the log shows it.
-pub record LogRefusesOnFault {A : Type 0} (result : Result A LogError) (old new : LogState) (before now : ℕ) : Type 0
+-- A refusal comes only where the disk's fault count rose, and the log shows it.
+pub record LogRefusesOnFault {A : Type 0} (result : Result A Failed) (old new : LogState) (before now : ℕ) : Type 0
   where
-    pub error : OnErr result (result ≡ Err Disk)
     pub shown : OnErr result (new ≡ record old { failed = true })
-    pub cause : CountsFaults before now (IsErrOf result Disk)
+    pub cause : CountsFaults before now (IsErr result)

@@ -6,7 +6,8 @@ ghost use Rattle.disk_trait.specs.declared.damage.Damage.{Damage as TheDamage};
 ghost use Rattle.record_codec.specs.Frames.{counts};
 ghost use Rattle.flowfile_wal.specs.Reads.{IsFoundIn};
 
-use crate::LogError;
+use crate::LoadError;
+use block_file::BlockError;
 use disk_trait::{Disk, Failed, FileKind, FileName};
 use record_codec::OPEN_GATE;
 use std::alloc::Global;
@@ -45,13 +46,14 @@ fn is_counted<D: Disk>(disk: &mut D, file: FileName, size: u64) -> Result<bool, 
 }
 
 /// Looks for the current log, from the greatest number down.
-pub fn find_current<D: Disk>(alloc: Global, disk: &mut D) -> Result<Option<Candidate>, LogError>
+pub fn find_current<D: Disk>(alloc: Global, disk: &mut D) -> Result<Option<Candidate>, LoadError>
     ensures found { IfOk result (λ found. IsTrue D.tells → IsFoundIn (D.held disk.old) found) }
-    ensures undamaged { (damage : TheDamage) → IsErrOf result (LogError.Damaged damage) → ⊥ }
+    ensures undamaged { (damage : TheDamage) → IsErrOf result (LoadError.Block (BlockError.Damaged damage)) → ⊥ }
     // There is no memory but for the list.
-    ensures memory { IsErrOf result LogError.Memory → ⊥ }
+    ensures memory { IsErrOf result (LoadError.Block BlockError.Memory) → ⊥ }
     ensures stays { Stays D.held D.moment D.images disk.old disk.new }
-    ensures cause { CountsFaults (D.faults disk.old) (D.faults disk.new) (IsErrOf result LogError.Disk) }
+    ensures cause { CountsFaults (D.faults disk.old) (D.faults disk.new)
+        (IsErrOf result (LoadError.Block BlockError.Disk)) }
 {
     let mut logs = Vec::new(alloc);
     disk.files(FileKind::Log, &mut logs)?;

@@ -1,64 +1,47 @@
-//! Why a call of a log gave no answer.
+//! Why no log was loaded.
 ghost use Rattle.std.specs.Prelude.{◌≡◌};
-ghost use Rattle.flowfile_wal.specs.Errors.{disk_log_error, block_log_error};
-ghost use Rattle.flowfile_wal.specs.declared.error.LogError.TheVariants.{Disk, Memory};
+ghost use Rattle.block_file.specs.declared.error.BlockError.TheVariants.{Disk};
+ghost use Rattle.flowfile_wal.specs.Errors.{disk_load_error};
+ghost use Rattle.flowfile_wal.specs.declared.error.LoadError.TheVariants.{Block};
 
 use block_file::BlockError;
-use disk_trait::{Damage, DiskError, Failed};
-use std::alloc::AllocError;
+use disk_trait::{DiskError, Failed};
 use thiserror::Error;
 
 #[derive(Clone, Copy, Debug, PartialEq, Eq, Error)]
-pub enum LogError {
-    /// The disk failed. The log has to be loaded anew.
-    #[error("the disk failed")]
-    Disk,
+pub enum LoadError {
     /// There is no memory for the list of the logs, before any of them is looked at.
     #[error("out of memory")]
     NoList,
-    /// There is no memory for a block of the current log, which stands whole, or for its entry.
-    #[error("out of memory")]
-    Memory,
-    /// The current log is damaged.
+    /// The logs aren't listed for a failure of the disk, or the current one isn't read. Memory is wanted for a block of
+    /// it, which stands whole, or for the block's entries.
     #[error("{0}")]
-    Damaged(Damage),
+    Block(BlockError),
 }
 
-impl From<Failed> for LogError {
-    ghost from_gives = { λ _ error. error ≡ Disk };
+impl From<Failed> for LoadError {
+    ghost from_gives = { λ _ error. error ≡ Block Disk };
 
-    fn from(_: Failed) -> LogError {
-        LogError::Disk
+    fn from(_: Failed) -> LoadError {
+        LoadError::Block(BlockError::Disk)
     }
 }
 
-impl From<AllocError> for LogError {
-    ghost from_gives = { λ _ error. error ≡ Memory };
+impl From<DiskError> for LoadError {
+    ghost from_gives = { λ cause error. error ≡ disk_load_error cause };
 
-    fn from(_: AllocError) -> LogError {
-        LogError::Memory
-    }
-}
-
-impl From<DiskError> for LogError {
-    ghost from_gives = { λ from error. error ≡ disk_log_error from };
-
-    fn from(error: DiskError) -> LogError {
-        match error {
-            DiskError::Failed => LogError::Disk,
-            DiskError::Memory => LogError::NoList,
+    fn from(cause: DiskError) -> LoadError {
+        match cause {
+            DiskError::Failed => LoadError::Block(BlockError::Disk),
+            DiskError::Memory => LoadError::NoList,
         }
     }
 }
 
-impl From<BlockError> for LogError {
-    ghost from_gives = { λ from error. error ≡ block_log_error from };
+impl From<BlockError> for LoadError {
+    ghost from_gives = { λ cause error. error ≡ Block cause };
 
-    fn from(error: BlockError) -> LogError {
-        match error {
-            BlockError::Disk => LogError::Disk,
-            BlockError::Memory => LogError::Memory,
-            BlockError::Damaged(damage) => LogError::Damaged(damage),
-        }
+    fn from(cause: BlockError) -> LoadError {
+        LoadError::Block(cause)
     }
 }

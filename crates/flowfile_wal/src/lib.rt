@@ -9,6 +9,6 @@ mod log;
 mod mend;
 mod read;
 
-pub use error::LogError;
+pub use error::LoadError;
 pub use law::{logs_that_change_alike, logs_that_were_begun, logs_with_one_block_more};
 pub use log::{BEGUN_END, Log, LogEntries};

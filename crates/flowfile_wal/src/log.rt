@@ -9,12 +9,13 @@ ghost use Rattle.flowfile_wal.specs.Current.{current_log};
 ghost use Rattle.flowfile_wal.specs.Reads.{IsBegunWhole};
 ghost use Rattle.flowfile_wal.specs.Steps.{IsFrame, KeepsLog, AddsEntries, IsCurrentIn, IsReadyIn, IsBegunIn, log_with};
 
-use crate::LogError;
+use crate::LoadError;
 use crate::append::append_frame;
 use crate::current::find_current;
 use crate::mend::mend_log;
 use crate::read::read_log;
-use disk_trait::Disk;
+use block_file::BlockError;
+use disk_trait::{Disk, Failed};
 use record_codec::{BLOCK_OVERHEAD, FORMAT_VERSION, LogEntry};
 use std::alloc::Global;
 use std::marker::Model;
@@ -62,19 +63,22 @@ impl Model for Log {
 impl Log {
     /// Finds the current log and reads its entries, with memory for the list of the logs, for the entries and for one
     /// block. It writes nothing.
-    pub fn load<D: Disk>(alloc: Global, disk: &mut D) -> Result<(Log, LogEntries), LogError>
+    pub fn load<D: Disk>(alloc: Global, disk: &mut D) -> Result<(Log, LogEntries), LoadError>
         ensures loaded { IfOk result (λ loaded. IsTrue D.tells
             → current_log (D.held disk.old) ≡ Ok (log_with loaded.0 loaded.1.items)) }
         // Whatever the disk tells.
         ensures encoded { IfOk result (λ loaded. HaveEncodings loaded.1.items) }
         ensures unmended { IfOk result (λ loaded. (loaded.0.mended ≡ false) × (loaded.0.failed ≡ false)) }
         ensures empty { IfOk result (λ loaded. loaded.0.number ≡ None → loaded.1.items ≡ []) }
-        ensures damaged { (damage : TheDamage) → IsErrOf result (LogError.Damaged damage) → IsTrue D.tells
+        ensures damaged { (damage : TheDamage)
+            → IsErrOf result (LoadError.Block (BlockError.Damaged damage)) → IsTrue D.tells
             → current_log (D.held disk.old) ≡ Err damage }
         // Once the logs are listed, no memory is wanted where none is current, or the first block is damaged.
-        ensures memory { IsErrOf result LogError.Memory → IsTrue D.tells → IsBegunWhole (D.held disk.old) }
+        ensures memory { IsErrOf result (LoadError.Block BlockError.Memory) → IsTrue D.tells
+            → IsBegunWhole (D.held disk.old) }
         ensures stays { Stays D.held D.moment D.images disk.old disk.new }
-        ensures cause { CountsFaults (D.faults disk.old) (D.faults disk.new) (IsErrOf result LogError.Disk) }
+        ensures cause { CountsFaults (D.faults disk.old) (D.faults disk.new)
+            (IsErrOf result (LoadError.Block BlockError.Disk)) }
     {
         let Some(found) = find_current(alloc, disk)? else {
             return Ok((Log::unmended(None, FORMAT_VERSION, 0), Vec::new(alloc)));
@@ -104,8 +108,8 @@ impl Log {
         self.current
     }
 
-    /// Cuts what stands behind the last gate and closes the gate. It takes no memory, and its one error is `Disk`.
-    pub fn mend<D: Disk>(&mut self, disk: &mut D) -> Result<(), LogError>
+    /// Cuts what stands behind the last gate and closes the gate. It takes no memory.
+    pub fn mend<D: Disk>(&mut self, disk: &mut D) -> Result<(), Failed>
         requires works { self.old.failed ≡ false }
         requires some { (number : ℕ) × (self.old.number ≡ Some number) }
         requires synced { IsOnly (D.held disk.old) (D.images disk.old (D.moment disk.old)) }
@@ -123,7 +127,7 @@ impl Log {
         };
         let Ok(()) = mend_log(disk, number, self.gate) else {
             self.has_failed = true;
-            return Err(LogError::Disk);
+            return Err(Failed);
         };
         self.is_mended = true;
         Ok(())
@@ -148,9 +152,8 @@ impl Log {
     }
 
     /// Adds the entries of one block, one or more. `frame` is the block with a closed gate behind it. Answers the
-    /// disk's moment at which the entries were acknowledged. It makes four calls of the disk, takes no memory, and its
-    /// one error is `Disk`.
-    pub fn append<D: Disk>(&mut self, disk: &mut D, frame: &[u8]) -> Result<u64, LogError>
+    /// disk's moment at which the entries were acknowledged. It makes four calls of the disk, and takes no memory.
+    pub fn append<D: Disk>(&mut self, disk: &mut D, frame: &[u8]) -> Result<u64, Failed>
         requires works { IsWorkingLog self.old }
         requires frame { (entries : List Entry) × IsFrame self.old.version entries frame.now }
         requires ready { InEach (D.images disk.old (D.moment disk.old)) (IsReadyIn self.old) }
@@ -172,11 +175,11 @@ impl Log {
     {
         let Some(number) = self.current else {
             self.has_failed = true;
-            return Err(LogError::Disk);
+            return Err(Failed);
         };
         let Ok(()) = append_frame(disk, number, self.gate, frame) else {
             self.has_failed = true;
-            return Err(LogError::Disk);
+            return Err(Failed);
         };
         self.gate += frame.len() as u64;
         Ok(disk.moment())

@@ -13,10 +13,9 @@ ghost use Rattle.flowfile_wal.specs.Calls.{HaveEncodings};
 ghost use Rattle.flowfile_wal.specs.Current.{log_bytes, version_begun, log_in};
 ghost use Rattle.flowfile_wal.specs.Reads.{named_at, EntriesTake, HasFirstBlock, IsDamagedAt, IsNextAt, IsNextWithin, LogIsReadTo};
 
-use crate::LogError;
 use crate::current::read_gate;
 use crate::log::LogEntries;
-use block_file::{BlockAddress, read_block_at};
+use block_file::{BlockAddress, BlockError, read_block_at};
 use disk_trait::{Damage, Disk, FileKind, FileName};
 use record_codec::{Block, FORMAT_VERSION, LogEntry, OPEN_GATE, SECOND_VERSION, read_entries};
 use std::alloc::{AllocError, Global};
@@ -51,19 +50,19 @@ fn read_entries_at<D: Disk>(
     size: u64,
     at: u64,
     buffer: &mut Vec<u8>,
-) -> Result<FoundBlock, LogError>
+) -> Result<FoundBlock, BlockError>
     requires within { at < size }
     requires size { IsTrue D.tells → size ≡ length (D.held disk.old file) }
     ensures found { IfOk result (λ found. IsTrue D.tells
         → entries_found (reading_of (drop (at + 1) (D.held disk.old file))) ≡ Ok (found.entries.items, found.size)) }
     ensures encoded { IfOk result (λ found. All IsEntry found.entries.items) }
     ensures within { IfOk result (λ found. at + 1 + found.size ≤ size) }
-    ensures damaged { (damage : TheDamage) → IsErrOf result (LogError.Damaged damage) → IsTrue D.tells
+    ensures damaged { (damage : TheDamage) → IsErrOf result (BlockError.Damaged damage) → IsTrue D.tells
         → named_at file at (entries_found (reading_of (drop (at + 1) (D.held disk.old file)))) ≡ Err damage }
-    ensures memory { IsErrOf result LogError.Memory → IsTrue D.tells
+    ensures memory { IsErrOf result BlockError.Memory → IsTrue D.tells
         → EntriesTake (vec_capacity buffer.old) (reading_of (drop (at + 1) (D.held disk.old file))) }
     ensures stays { Stays D.held D.moment D.images disk.old disk.new }
-    ensures cause { CountsFaults (D.faults disk.old) (D.faults disk.new) (IsErrOf result LogError.Disk) }
+    ensures cause { CountsFaults (D.faults disk.old) (D.faults disk.new) (IsErrOf result BlockError.Disk) }
 {
     let address = BlockAddress {
         file,
@@ -85,23 +84,23 @@ fn entries_of(
     address: BlockAddress,
     buffer: &[u8],
     block: Block,
-) -> Result<Vec<LogEntry>, LogError>
+) -> Result<Vec<LogEntry>, BlockError>
     requires start { block.start ≤ block.end }
     requires end { block.end ≤ length buffer.now }
     ensures entries { IfOk result (λ entries.
         entries_in block.kind (slice_range buffer.now block.start block.end) ≡ Some entries.items) }
     ensures encoded { IfOk result (λ entries. All IsEntry entries.items) }
-    ensures damaged { (damage : TheDamage) → IsErrOf result (LogError.Damaged damage)
+    ensures damaged { (damage : TheDamage) → IsErrOf result (BlockError.Damaged damage)
         → (damage ≡ TheDamage.Form address.file address.at)
         × (entries_in block.kind (slice_range buffer.now block.start block.end) ≡ None) }
-    ensures memory { IsErrOf result LogError.Memory
+    ensures memory { IsErrOf result BlockError.Memory
         → IsTrue (entries_take_memory block.kind (slice_range buffer.now block.start block.end)) }
-    ensures kinds { IsErrOf result LogError.Disk → ⊥ }
+    ensures kinds { IsErrOf result BlockError.Disk → ⊥ }
 {
     let start = block.start as usize;
     let end = block.end as usize;
     let Some(entries) = read_entries(alloc, block.kind, &buffer[start..end])? else {
-        return Err(LogError::Damaged(Damage::Form {
+        return Err(BlockError::Damaged(Damage::Form {
             file: address.file,
             at: address.at,
         }));
@@ -117,18 +116,18 @@ fn next_block<D: Disk>(
     size: u64,
     at: u64,
     buffer: &mut Vec<u8>,
-) -> Result<Option<FoundBlock>, LogError>
+) -> Result<Option<FoundBlock>, BlockError>
     requires within { at ≤ size }
     requires size { IsTrue D.tells → size ≡ length (D.held disk.old file) }
     ensures next { IfOk result (λ next. IsTrue D.tells → IsNextAt at (D.held disk.old file) next) }
     ensures encoded { IfOk result (λ next. IfSome next (λ found. All IsEntry found.entries.items)) }
     ensures within { IfOk result (λ next. IsNextWithin at size next) }
-    ensures damaged { (damage : TheDamage) → IsErrOf result (LogError.Damaged damage) → IsTrue D.tells
+    ensures damaged { (damage : TheDamage) → IsErrOf result (BlockError.Damaged damage) → IsTrue D.tells
         → IsDamagedAt file at (D.held disk.old file) damage }
-    ensures memory { IsErrOf result LogError.Memory → IsTrue D.tells
+    ensures memory { IsErrOf result BlockError.Memory → IsTrue D.tells
         → EntriesTake (vec_capacity buffer.old) (reading_of (drop (at + 1) (D.held disk.old file))) }
     ensures stays { Stays D.held D.moment D.images disk.old disk.new }
-    ensures cause { CountsFaults (D.faults disk.old) (D.faults disk.new) (IsErrOf result LogError.Disk) }
+    ensures cause { CountsFaults (D.faults disk.old) (D.faults disk.new) (IsErrOf result BlockError.Disk) }
 {
     if size - at < 2 {
         return Ok(None);
@@ -148,26 +147,26 @@ fn read_begin<D: Disk>(
     number: u64,
     size: u64,
     buffer: &mut Vec<u8>,
-) -> Result<Begun, LogError>
+) -> Result<Begun, BlockError>
     requires size { IsTrue D.tells → size ≡ length (log_bytes (D.held disk.old) number) }
     requires counted { IsTrue D.tells → counts (log_bytes (D.held disk.old) number) ≡ true }
     ensures begun { IfOk result (λ begun. IsTrue D.tells
         → LogIsReadTo number begun.version begun.end [] (log_bytes (D.held disk.old) number)) }
     ensures within { IfOk result (λ begun. begun.end ≤ size) }
-    ensures damaged { (damage : TheDamage) → IsErrOf result (LogError.Damaged damage) → IsTrue D.tells
+    ensures damaged { (damage : TheDamage) → IsErrOf result (BlockError.Damaged damage) → IsTrue D.tells
         → log_in number (log_bytes (D.held disk.old) number) ≡ Err damage }
     ensures whole { OnOk result (IsTrue D.tells → HasFirstBlock (log_bytes (D.held disk.old) number)) }
     // What is damaged there is told without memory, unless its block stands whole.
-    ensures memory { IsErrOf result LogError.Memory → IsTrue D.tells
+    ensures memory { IsErrOf result BlockError.Memory → IsTrue D.tells
         → HasFirstBlock (log_bytes (D.held disk.old) number) }
     ensures stays { Stays D.held D.moment D.images disk.old disk.new }
-    ensures cause { CountsFaults (D.faults disk.old) (D.faults disk.new) (IsErrOf result LogError.Disk) }
+    ensures cause { CountsFaults (D.faults disk.old) (D.faults disk.new) (IsErrOf result BlockError.Disk) }
 {
     let file = FileName {
         kind: FileKind::Log,
         number,
     };
-    let misbegun = LogError::Damaged(Damage::Form { file, at: 0 });
+    let misbegun = BlockError::Damaged(Damage::Form { file, at: 0 });
     let Some(found) = next_block(alloc, disk, file, size, 0, buffer)? else {
         return Err(misbegun);
     };
@@ -198,18 +197,18 @@ pub fn read_log<D: Disk>(
     disk: &mut D,
     number: u64,
     size: u64,
-) -> Result<ReadLog, LogError>
+) -> Result<ReadLog, BlockError>
     requires size { IsTrue D.tells → size ≡ length (log_bytes (D.held disk.old) number) }
     requires counted { IsTrue D.tells → counts (log_bytes (D.held disk.old) number) ≡ true }
     ensures read { IfOk result (λ read. IsTrue D.tells → log_in number (log_bytes (D.held disk.old) number)
         ≡ Ok (record { number = number; version = read.version; entries = read.entries.items; end = read.end })) }
     ensures encoded { IfOk result (λ read. HaveEncodings read.entries.items) }
-    ensures damaged { (damage : TheDamage) → IsErrOf result (LogError.Damaged damage) → IsTrue D.tells
+    ensures damaged { (damage : TheDamage) → IsErrOf result (BlockError.Damaged damage) → IsTrue D.tells
         → log_in number (log_bytes (D.held disk.old) number) ≡ Err damage }
-    ensures memory { IsErrOf result LogError.Memory → IsTrue D.tells
+    ensures memory { IsErrOf result BlockError.Memory → IsTrue D.tells
         → HasFirstBlock (log_bytes (D.held disk.old) number) }
     ensures stays { Stays D.held D.moment D.images disk.old disk.new }
-    ensures cause { CountsFaults (D.faults disk.old) (D.faults disk.new) (IsErrOf result LogError.Disk) }
+    ensures cause { CountsFaults (D.faults disk.old) (D.faults disk.new) (IsErrOf result BlockError.Disk) }
 {
     let file = FileName {
         kind: FileKind::Log,
@@ -221,7 +220,7 @@ pub fn read_log<D: Disk>(
     let mut end = begun.end;
     while let Some(found) = next_block(alloc, disk, file, size, end, &mut buffer)? {
         if !all_belong(begun.version, found.entries.as_slice()) {
-            return Err(LogError::Damaged(Damage::Form { file, at: end }));
+            return Err(BlockError::Damaged(Damage::Form { file, at: end }));
         }
         push_all(&mut entries, end, found.entries)?;
         end += 1 + found.size;

@@ -1,6 +1,5 @@
 pub mod Aging
 pub mod Blocks
-pub mod Errors
 pub mod Events
 pub mod Growing
 pub mod Loading

@@ -9,7 +9,6 @@ mod age;
 mod append;
 mod blocks;
 mod counts;
-mod error;
 mod events;
 mod law;
 mod load;
@@ -18,7 +17,6 @@ mod scan;
 mod trim;
 
 pub use blocks::EventBlocks;
-pub use error::EventsError;
 pub use events::{Events, Stale};
 pub use law::{
     covered_events_stay, events_are_kept_step_by_step, events_up_to_the_last_are_in_a_row,

@@ -13,7 +13,8 @@ ghost use Rattle.prov_store.specs.State.{AreLonger, HasStale, IsEventLine, IsFou
 use crate::counts::count;
 use crate::events::file_named;
 use crate::read::{Cursor, read_event_at};
-use crate::{Events, EventsError, Stale};
+use crate::{Events, Stale};
+use block_file::BlockError;
 use disk_trait::{Disk, FileKind};
 use flowfile_record::{EVENTS_PER_FILE, EventCounts};
 use std::alloc::{AllocError, Global};
@@ -30,26 +31,26 @@ struct Loading {
 }
 
 impl Events {
-    /// Reads the events past a line and up to a last one, and finds the files that are longer than these. Of the files
+    /// Reads the events up to a last one and past a line, and finds the files that are longer than these. Of the files
     /// before the line it asks for their names alone. It writes nothing, and beside its lists it takes memory for one
     /// block.
     pub fn load<D: Disk>(
         alloc: Global,
         disk: &mut D,
-        line: u64,
         end: u64,
-    ) -> Result<Events, EventsError>
+        line: u64,
+    ) -> Result<Events, BlockError>
         requires end { IsNumber end }
         requires line { IsEventLine line end }
         ensures found { IfOk result (IsFoundOn D.tells (D.held disk.old) line end) }
         // The first damage by the events' numbers is told, where there is one.
-        ensures damaged { (damage : TheDamage) → IsErrOf result (EventsError.Damaged damage) → IsTrue D.tells
+        ensures damaged { (damage : TheDamage) → IsErrOf result (BlockError.Damaged damage) → IsTrue D.tells
             → events_in (D.held disk.old) line end ≡ Err damage }
         // Memory is taken for whole blocks alone, so that where the first one is damaged that is told.
-        ensures memory { IsErrOf result EventsError.Memory → IsTrue D.tells → line < end
+        ensures memory { IsErrOf result BlockError.Memory → IsTrue D.tells → line < end
             → HasWhole (reading_of (D.held disk.old (events_file (line / EVENTS_PER_FILE)))) }
         ensures stays { Stays D.held D.moment D.images disk.old disk.new }
-        ensures cause { CountsFaults (D.faults disk.old) (D.faults disk.new) (IsErrOf result EventsError.Disk) }
+        ensures cause { CountsFaults (D.faults disk.old) (D.faults disk.new) (IsErrOf result BlockError.Disk) }
     {
         let mut loading = Loading {
             line,
@@ -80,18 +81,18 @@ impl Loading {
         alloc: Global,
         disk: &mut D,
         number: u64,
-    ) -> Result<(), EventsError>
+    ) -> Result<(), BlockError>
         requires may { MayReadFile number self.old }
         requires read { FilesAreRead D.tells (D.held disk.old) number self.old }
         ensures read { OnOk result (FilesAreRead D.tells (D.held disk.old) (number + 1) self.new) }
         ensures same { (self.new.line ≡ self.old.line) × (self.new.end ≡ self.old.end) }
-        ensures damaged { (damage : TheDamage) → IsErrOf result (EventsError.Damaged damage) → IsTrue D.tells
+        ensures damaged { (damage : TheDamage) → IsErrOf result (BlockError.Damaged damage) → IsTrue D.tells
             → (more : ℕ)
             → events_of_files (number + suc more) self.old.line self.old.end 0 (D.held disk.old) ≡ Err damage }
-        ensures memory { IsErrOf result EventsError.Memory → IsTrue D.tells → self.old.line < self.old.end
+        ensures memory { IsErrOf result BlockError.Memory → IsTrue D.tells → self.old.line < self.old.end
             → HasWhole (reading_of (D.held disk.old (events_file (self.old.line / EVENTS_PER_FILE)))) }
         ensures stays { Stays D.held D.moment D.images disk.old disk.new }
-        ensures cause { CountsFaults (D.faults disk.old) (D.faults disk.new) (IsErrOf result EventsError.Disk) }
+        ensures cause { CountsFaults (D.faults disk.old) (D.faults disk.new) (IsErrOf result BlockError.Disk) }
     {
         let file = file_named(number);
         let first = number * EVENTS_PER_FILE;
@@ -112,15 +113,15 @@ impl Loading {
     }
 
     // All files that are longer than what is covered, once those from the line on are read.
-    fn stale_files<D: Disk>(&self, alloc: Global, disk: &mut D) -> Result<Vec<Stale>, EventsError>
+    fn stale_files<D: Disk>(&self, alloc: Global, disk: &mut D) -> Result<Vec<Stale>, BlockError>
         requires line { IsEventLine self.now.line self.now.end }
         requires read { FilesAreRead D.tells (D.held disk.old) (self.now.end / EVENTS_PER_FILE + 1) self.now }
         ensures longer { IfOk result (λ stale. AreLonger D.tells (D.held disk.old) stale.items) }
         ensures stale { IfOk result (λ stale. IsTrue D.tells
             → HasStale (loaded_state self.now stale.items) (D.held disk.old)) }
-        ensures kinds { (damage : TheDamage) → IsErrOf result (EventsError.Damaged damage) → ⊥ }
+        ensures kinds { (damage : TheDamage) → IsErrOf result (BlockError.Damaged damage) → ⊥ }
         ensures stays { Stays D.held D.moment D.images disk.old disk.new }
-        ensures cause { CountsFaults (D.faults disk.old) (D.faults disk.new) (IsErrOf result EventsError.Disk) }
+        ensures cause { CountsFaults (D.faults disk.old) (D.faults disk.new) (IsErrOf result BlockError.Disk) }
     {
         let mut numbers = Vec::new(alloc);
         disk.files(FileKind::Events, &mut numbers)?;
@@ -172,19 +173,19 @@ fn count_events<D: Disk>(
     many: u64,
     counts: &mut EventCounts,
     buffer: &mut Vec<u8>,
-) -> Result<u64, EventsError>
+) -> Result<u64, BlockError>
     requires there { IsThere D.tells (D.held disk.old) start }
     requires numbers { start.number + many < 2 ^ 64 }
     requires room { All (λ n. n + many < 2 ^ 64) counts.old.counts }
     requires long { length counts.old.counts ≡ 12 }
     ensures counted { IfOk result
         (HaveCounted D.tells (D.held disk.old) start many counts.old.counts counts.new.counts) }
-    ensures damaged { (damage : TheDamage) → IsErrOf result (EventsError.Damaged damage) → IsTrue D.tells
+    ensures damaged { (damage : TheDamage) → IsErrOf result (BlockError.Damaged damage) → IsTrue D.tells
         → events_from many start.file start.at start.number (bytes_there (D.held disk.old) start) ≡ Err damage }
-    ensures memory { IsErrOf result EventsError.Memory → IsTrue D.tells
+    ensures memory { IsErrOf result BlockError.Memory → IsTrue D.tells
         → HasWhole (reading_of (bytes_there (D.held disk.old) start)) }
     ensures stays { Stays D.held D.moment D.images disk.old disk.new }
-    ensures cause { CountsFaults (D.faults disk.old) (D.faults disk.new) (IsErrOf result EventsError.Disk) }
+    ensures cause { CountsFaults (D.faults disk.old) (D.faults disk.new) (IsErrOf result BlockError.Disk) }
 {
     let mut cursor = start;
     for _ in 0..many {

@@ -10,8 +10,7 @@ ghost use Rattle.prov_store.specs.Events.{events_file, event_in, event_by};
 ghost use Rattle.prov_store.specs.Reading.{event_there, HasWhole, IsEventHead, IsThere};
 ghost use Rattle.prov_store.specs.declared.read.EventHead.{EventHead as TheHead};
 
-use crate::EventsError;
-use block_file::{BlockAddress, read_block_at};
+use block_file::{BlockAddress, BlockError, read_block_at};
 use disk_trait::{Damage, Disk, Failed, FileName};
 use flowfile_record::{CodecError, Event, EventKind};
 use prov_event::{EVENT_KIND, read_event};
@@ -58,17 +57,17 @@ pub fn read_event_at<D: Disk>(
     disk: &mut D,
     cursor: Cursor,
     buffer: &mut Vec<u8>,
-) -> Result<(Event, u64), EventsError>
+) -> Result<(Event, u64), BlockError>
     requires { IsThere D.tells (D.held disk.old) cursor }
     ensures found { IfOk result (λ found. IsTrue D.tells → event_there (D.held disk.old) cursor ≡ Ok found) }
     ensures number { IfOk result (λ found. found.0.number ≡ cursor.number) }
     ensures within { IfOk result (λ found. cursor.at + found.1 ≤ cursor.size) }
-    ensures damaged { (damage : TheDamage) → IsErrOf result (EventsError.Damaged damage) → IsTrue D.tells
+    ensures damaged { (damage : TheDamage) → IsErrOf result (BlockError.Damaged damage) → IsTrue D.tells
         → event_there (D.held disk.old) cursor ≡ Err damage }
-    ensures memory { IsErrOf result EventsError.Memory → IsTrue D.tells
+    ensures memory { IsErrOf result BlockError.Memory → IsTrue D.tells
         → HasWhole (reading_of (drop cursor.at (D.held disk.old cursor.file))) }
     ensures stays { Stays D.held D.moment D.images disk.old disk.new }
-    ensures cause { CountsFaults (D.faults disk.old) (D.faults disk.new) (IsErrOf result EventsError.Disk) }
+    ensures cause { CountsFaults (D.faults disk.old) (D.faults disk.new) (IsErrOf result BlockError.Disk) }
 {
     let address = BlockAddress {
         file: cursor.file,
@@ -83,15 +82,15 @@ pub fn read_event_at<D: Disk>(
 }
 
 // The event of a block.
-fn event_of(alloc: Global, cursor: Cursor, kind: u8, payload: &[u8]) -> Result<Event, EventsError>
+fn event_of(alloc: Global, cursor: Cursor, kind: u8, payload: &[u8]) -> Result<Event, BlockError>
     ensures event { IfOk result (λ event. event_in cursor.number kind payload.now ≡ Some event) }
     ensures number { IfOk result (λ event. event.number ≡ cursor.number) }
-    ensures damaged { (damage : TheDamage) → IsErrOf result (EventsError.Damaged damage)
+    ensures damaged { (damage : TheDamage) → IsErrOf result (BlockError.Damaged damage)
         → (damage ≡ TheDamage.Form cursor.file cursor.at) × (event_in cursor.number kind payload.now ≡ None) }
-    ensures memory { IsErrOf result EventsError.Memory → (kind ≡ EVENT_KIND) × IsTrue (event_takes_memory payload.now) }
-    ensures kinds { IsErrOf result EventsError.Disk → ⊥ }
+    ensures memory { IsErrOf result BlockError.Memory → (kind ≡ EVENT_KIND) × IsTrue (event_takes_memory payload.now) }
+    ensures kinds { IsErrOf result BlockError.Disk → ⊥ }
 {
-    let damaged = EventsError::Damaged(Damage::Form {
+    let damaged = BlockError::Damaged(Damage::Form {
         file: cursor.file,
         at: cursor.at,
     });
@@ -105,25 +104,25 @@ fn event_of(alloc: Global, cursor: Cursor, kind: u8, payload: &[u8]) -> Result<E
             }
             Ok(event)
         }
-        Err(CodecError::Memory) => Err(EventsError::Memory),
+        Err(CodecError::Memory) => Err(BlockError::Memory),
         Err(CodecError::Form { .. }) => Err(damaged),
     }
 }
 
 /// The size of the block that stands there, by its header. What it holds isn't read.
-pub fn skip_event_at<D: Disk>(disk: &mut D, cursor: Cursor) -> Result<u64, EventsError>
+pub fn skip_event_at<D: Disk>(disk: &mut D, cursor: Cursor) -> Result<u64, BlockError>
     requires { IsThere D.tells (D.held disk.old) cursor }
     ensures size { IfOk result (λ size. IsTrue D.tells → (event : TheEvent) (whole : ℕ)
         → event_there (D.held disk.old) cursor ≡ Ok (event, whole) → size ≡ whole) }
     ensures within { IfOk result (λ size. cursor.at + size ≤ cursor.size) }
-    ensures damaged { (damage : TheDamage) → IsErrOf result (EventsError.Damaged damage) → IsTrue D.tells
+    ensures damaged { (damage : TheDamage) → IsErrOf result (BlockError.Damaged damage) → IsTrue D.tells
         → (event : TheEvent) (whole : ℕ) → event_there (D.held disk.old) cursor ≡ Ok (event, whole) → ⊥ }
     ensures stays { Stays D.held D.moment D.images disk.old disk.new }
-    ensures cause { CountsFaults (D.faults disk.old) (D.faults disk.new) (IsErrOf result EventsError.Disk) }
+    ensures cause { CountsFaults (D.faults disk.old) (D.faults disk.new) (IsErrOf result BlockError.Disk) }
 {
     let have = cursor.size - cursor.at;
     if have < HEADER_SIZE {
-        return Err(EventsError::Damaged(Damage::Short {
+        return Err(BlockError::Damaged(Damage::Short {
             file: cursor.file,
             at: cursor.at,
             need: HEADER_SIZE,
@@ -134,13 +133,13 @@ pub fn skip_event_at<D: Disk>(disk: &mut D, cursor: Cursor) -> Result<u64, Event
     disk.read(cursor.file, cursor.at, &mut header)?;
     match size_by_header(&header, have) {
         Ok(size) => Ok(size),
-        Err(BlockEnd::Short { need, have }) => Err(EventsError::Damaged(Damage::Short {
+        Err(BlockEnd::Short { need, have }) => Err(BlockError::Damaged(Damage::Short {
             file: cursor.file,
             at: cursor.at,
             need,
             have,
         })),
-        Err(_) => Err(EventsError::Damaged(Damage::Form {
+        Err(_) => Err(BlockError::Damaged(Damage::Form {
             file: cursor.file,
             at: cursor.at,
         })),

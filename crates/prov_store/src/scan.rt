@@ -9,9 +9,10 @@ ghost use Rattle.prov_store.specs.Loading.{bytes_there};
 ghost use Rattle.prov_store.specs.Reading.{IsThere};
 ghost use Rattle.prov_store.specs.Scanning.{is_within, HasBetween, HasRead, HasSkipped, MayScan, SameScan, numbers_between};
 
+use crate::Events;
 use crate::events::file_named;
 use crate::read::{Cursor, read_event_at, skip_event_at};
-use crate::{Events, EventsError};
+use block_file::BlockError;
 use disk_trait::Disk;
 use flowfile_record::{EVENTS_PER_FILE, Event};
 use std::alloc::Global;
@@ -36,7 +37,7 @@ impl Events {
         disk: &mut D,
         from: u64,
         to: u64,
-    ) -> Result<Vec<Event>, EventsError>
+    ) -> Result<Vec<Event>, BlockError>
         // Where the disk holds the events that are known.
         ensures found { IfOk result (λ found. IsTrue D.tells → (events : List TheEvent)
             → events_in (D.held disk.old) self.now.line self.now.end ≡ Ok events
@@ -48,10 +49,10 @@ impl Events {
         ensures refused { IsErr result → HasBetween from to self.now.line self.now.end }
         ensures none { (HasBetween from to self.now.line self.now.end → ⊥) → disk.new ≡ disk.old }
         // A disk that tells and holds the events up to the last one gives no damage.
-        ensures undamaged { (damage : TheDamage) → IsErrOf result (EventsError.Damaged damage) → IsTrue D.tells
+        ensures undamaged { (damage : TheDamage) → IsErrOf result (BlockError.Damaged damage) → IsTrue D.tells
             → (events : List TheEvent) → events_in (D.held disk.old) self.now.line self.now.end ≡ Ok events → ⊥ }
         ensures stays { Stays D.held D.moment D.images disk.old disk.new }
-        ensures cause { CountsFaults (D.faults disk.old) (D.faults disk.new) (IsErrOf result EventsError.Disk) }
+        ensures cause { CountsFaults (D.faults disk.old) (D.faults disk.new) (IsErrOf result BlockError.Disk) }
     {
         let mut scan = Scan {
             line: self.line,
@@ -70,7 +71,7 @@ impl Events {
 
 impl Scan {
     // Finds the events file by file.
-    fn scan_files<D: Disk>(&mut self, alloc: Global, disk: &mut D) -> Result<(), EventsError>
+    fn scan_files<D: Disk>(&mut self, alloc: Global, disk: &mut D) -> Result<(), BlockError>
         requires may { MayScan self.old }
         requires none { self.old.found.items ≡ [] }
         ensures numbered { OnOk result
@@ -78,10 +79,10 @@ impl Scan {
         ensures found { OnOk result (IsTrue D.tells → (events : List TheEvent)
             → events_in (D.held disk.old) self.old.line self.old.end ≡ Ok events
             → self.new.found.items ≡ filter (is_within self.old.first self.old.last) events) }
-        ensures undamaged { (damage : TheDamage) → IsErrOf result (EventsError.Damaged damage) → IsTrue D.tells
+        ensures undamaged { (damage : TheDamage) → IsErrOf result (BlockError.Damaged damage) → IsTrue D.tells
             → (events : List TheEvent) → events_in (D.held disk.old) self.old.line self.old.end ≡ Ok events → ⊥ }
         ensures stays { Stays D.held D.moment D.images disk.old disk.new }
-        ensures cause { CountsFaults (D.faults disk.old) (D.faults disk.new) (IsErrOf result EventsError.Disk) }
+        ensures cause { CountsFaults (D.faults disk.old) (D.faults disk.new) (IsErrOf result BlockError.Disk) }
     {
         let begin = (self.first - 1) / EVENTS_PER_FILE;
         let end = (self.last - 1) / EVENTS_PER_FILE + 1;
@@ -97,7 +98,7 @@ impl Scan {
         alloc: Global,
         disk: &mut D,
         number: u64,
-    ) -> Result<(), EventsError>
+    ) -> Result<(), BlockError>
         requires may { MayScan self.old }
         requires from { (self.old.first - 1) / EVENTS_PER_FILE ≤ number }
         requires to { number ≤ (self.old.last - 1) / EVENTS_PER_FILE }
@@ -109,11 +110,11 @@ impl Scan {
             ++ numbers_between (max self.old.first (first_event number))
             (min self.old.last (first_event (number + 1) - 1))) }
         ensures same { SameScan self.old self.new }
-        ensures undamaged { (damage : TheDamage) → IsErrOf result (EventsError.Damaged damage) → IsTrue D.tells
+        ensures undamaged { (damage : TheDamage) → IsErrOf result (BlockError.Damaged damage) → IsTrue D.tells
             → (here : List TheEvent)
             → events_of_file self.old.line self.old.end number (D.held disk.old) ≡ Ok here → ⊥ }
         ensures stays { Stays D.held D.moment D.images disk.old disk.new }
-        ensures cause { CountsFaults (D.faults disk.old) (D.faults disk.new) (IsErrOf result EventsError.Disk) }
+        ensures cause { CountsFaults (D.faults disk.old) (D.faults disk.new) (IsErrOf result BlockError.Disk) }
     {
         let file = file_named(number);
         let before = number * EVENTS_PER_FILE;
@@ -132,15 +133,15 @@ impl Scan {
 }
 
 // Skips so many events from there on. Answers where the next one stands.
-fn skip_events<D: Disk>(disk: &mut D, start: Cursor, many: u64) -> Result<Cursor, EventsError>
+fn skip_events<D: Disk>(disk: &mut D, start: Cursor, many: u64) -> Result<Cursor, BlockError>
     requires there { IsThere D.tells (D.held disk.old) start }
     requires numbers { start.number + many < 2 ^ 64 }
     ensures skipped { IfOk result (HasSkipped D.tells (D.held disk.old) start many) }
-    ensures undamaged { (damage : TheDamage) → IsErrOf result (EventsError.Damaged damage) → IsTrue D.tells
+    ensures undamaged { (damage : TheDamage) → IsErrOf result (BlockError.Damaged damage) → IsTrue D.tells
         → (events : List TheEvent)
         → events_from many start.file start.at start.number (bytes_there (D.held disk.old) start) ≡ Ok events → ⊥ }
     ensures stays { Stays D.held D.moment D.images disk.old disk.new }
-    ensures cause { CountsFaults (D.faults disk.old) (D.faults disk.new) (IsErrOf result EventsError.Disk) }
+    ensures cause { CountsFaults (D.faults disk.old) (D.faults disk.new) (IsErrOf result BlockError.Disk) }
 {
     let mut cursor = start;
     for _ in 0..many {
@@ -158,14 +159,14 @@ fn read_events<D: Disk>(
     many: u64,
     buffer: &mut Vec<u8>,
     found: &mut Vec<Event>,
-) -> Result<(), EventsError>
+) -> Result<(), BlockError>
     requires there { IsThere D.tells (D.held disk.old) start }
     requires numbers { start.number + many < 2 ^ 64 }
     ensures read { OnOk result (HasRead D.tells (D.held disk.old) start many found.old.items found.new.items) }
-    ensures damaged { (damage : TheDamage) → IsErrOf result (EventsError.Damaged damage) → IsTrue D.tells
+    ensures damaged { (damage : TheDamage) → IsErrOf result (BlockError.Damaged damage) → IsTrue D.tells
         → events_from many start.file start.at start.number (bytes_there (D.held disk.old) start) ≡ Err damage }
     ensures stays { Stays D.held D.moment D.images disk.old disk.new }
-    ensures cause { CountsFaults (D.faults disk.old) (D.faults disk.new) (IsErrOf result EventsError.Disk) }
+    ensures cause { CountsFaults (D.faults disk.old) (D.faults disk.new) (IsErrOf result BlockError.Disk) }
 {
     let mut cursor = start;
     for _ in 0..many {

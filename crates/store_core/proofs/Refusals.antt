@@ -1,24 +1,22 @@
 -- What the errors of the repositories tell, once they are the store's.
-use Rattle.std.proofs.Common.{◌≡◌, inl, inr, refl}
+use Rattle.std.proofs.Common.{◌≡◌, inl, inr, refl, ap}
 use Rattle.disk_trait.specs.declared.damage.Damage.{Damage}
 use Rattle.disk_trait.specs.declared.file_name.DiskError.{DiskError}
-use Rattle.checkpoint_store.specs.declared.error.CheckError.{CheckError}
+use Rattle.block_file.specs.declared.error.BlockError.{BlockError}
 use Rattle.content_repo.specs.declared.error.ContentError.{ContentError}
-use Rattle.flowfile_wal.specs.declared.error.LogError.{LogError}
+use Rattle.flowfile_wal.specs.declared.error.LoadError.{LoadError}
 use Rattle.store_core.specs.Calls.{IsDiskOrMemory, IsDiskMemoryOrDamage}
-use Rattle.store_core.specs.Errors.{disk_store_error, of_log, of_check, of_content}
+use Rattle.store_core.specs.Errors.{disk_store_error, of_block, of_load, of_content}
 use Rattle.store_core.specs.declared.error.StoreError.{StoreError}
 
-pub log_damaged : (e : LogError) (damage : Damage) → of_log e ≡ StoreError.Damaged damage → e ≡ LogError.Damaged damage
-log_damaged LogError.Disk damage is = absurd cc
-log_damaged LogError.NoList damage is = absurd cc
-log_damaged LogError.Memory damage is = absurd cc
-log_damaged (LogError.Damaged other) damage is = cc
+pub block_damaged : (e : BlockError) (damage : Damage) → of_block e ≡ StoreError.Damaged damage → e ≡ BlockError.Damaged damage
+block_damaged BlockError.Disk damage is = absurd cc
+block_damaged BlockError.Memory damage is = absurd cc
+block_damaged (BlockError.Damaged other) damage is = cc
 
-pub check_damaged : (e : CheckError) (damage : Damage) → of_check e ≡ StoreError.Damaged damage → e ≡ CheckError.Damaged damage
-check_damaged CheckError.Disk damage is = absurd cc
-check_damaged CheckError.Memory damage is = absurd cc
-check_damaged (CheckError.Damaged other) damage is = cc
+pub load_damaged : (e : LoadError) (damage : Damage) → of_load e ≡ StoreError.Damaged damage → e ≡ LoadError.Block (BlockError.Damaged damage)
+load_damaged LoadError.NoList damage is = absurd cc
+load_damaged (LoadError.Block error) damage is = ap (λ (e : BlockError). LoadError.Block e) (block_damaged error damage is)
 
 pub content_damaged : (e : ContentError) (damage : Damage) → of_content e ≡ StoreError.Damaged damage → e ≡ ContentError.Damaged damage
 content_damaged ContentError.Disk damage is = absurd cc
@@ -36,13 +34,11 @@ pub disk_refuses : (e : DiskError) → IsDiskOrMemory (disk_store_error e)
 disk_refuses DiskError.Failed = inl refl
 disk_refuses DiskError.Memory = inr refl
 
-pub log_refuses : (e : LogError) → IsDiskMemoryOrDamage (of_log e)
-log_refuses LogError.Disk = inl refl
-log_refuses LogError.NoList = inr (inl refl)
-log_refuses LogError.Memory = inr (inl refl)
-log_refuses (LogError.Damaged damage) = inr (inr (damage, refl))
+pub block_refuses : (e : BlockError) → IsDiskMemoryOrDamage (of_block e)
+block_refuses BlockError.Disk = inl refl
+block_refuses BlockError.Memory = inr (inl refl)
+block_refuses (BlockError.Damaged damage) = inr (inr (damage, refl))
 
-pub check_refuses : (e : CheckError) → IsDiskMemoryOrDamage (of_check e)
-check_refuses CheckError.Disk = inl refl
-check_refuses CheckError.Memory = inr (inl refl)
-check_refuses (CheckError.Damaged damage) = inr (inr (damage, refl))
+pub load_refuses : (e : LoadError) → IsDiskMemoryOrDamage (of_load e)
+load_refuses LoadError.NoList = inr (inl refl)
+load_refuses (LoadError.Block error) = block_refuses error

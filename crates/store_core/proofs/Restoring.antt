@@ -7,10 +7,8 @@ use Rattle.disk_trait.specs.declared.damage.Damage.{Damage}
 use Rattle.flowfile_record.specs.Stored.{Kept}
 use Rattle.flowfile_wal.specs.Current.{current_number}
 use Rattle.machine_model.specs.State.{State}
-use Rattle.prov_store.specs.declared.error.EventsError.{EventsError}
 use Rattle.store_core.specs.declared.error.StoreError.{StoreError}
 use Rattle.store_core.specs.declared.reading.Found.{Found}
-use Rattle.store_core.specs.Errors.{of_events}
 use Rattle.store_core.specs.Flow.{Flow, flow_in}
 use Rattle.store_core.specs.Kept.{kept_in}
 use Rattle.store_core.specs.Opened.{HasNoLeftovers, IsFound, IsOfOther, IsOpenedOn, IsRevived, IsShut}
@@ -72,11 +70,6 @@ pub events_torn : (flow : Flow) (lot : ℕ) (a b : Files) (k : Kept) (last : ℕ
 events_torn flow lot a b k last damage is contents files same torn =
     events_damaged flow lot a k damage is contents
     (ap (λ (f : Files). events_in f 0 k.last_event) (sym files) ∙ ap (events_in b 0) (sym same) ∙ torn)
-
-pub of_events_damaged : (error : EventsError) (damage : Damage) → of_events error ≡ StoreError.Damaged damage → error ≡ EventsError.Damaged damage
-of_events_damaged EventsError.Disk damage is = absurd cc
-of_events_damaged EventsError.Memory damage is = absurd cc
-of_events_damaged (EventsError.Damaged other) damage is = let same : other ≡ damage = cc in ap (λ (d : Damage). EventsError.Damaged d) same
 
 pub is_found : (flow : Flow) (lot : ℕ) (files : Files) (k : Kept) (events : List Event) (s : StoreState) → kept_in flow lot files ≡ Ok k → contents_damage files (live_contents k) ≡ None
     → events_in files 0 k.last_event ≡ Ok events → kept_by s ≡ k

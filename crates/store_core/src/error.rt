@@ -1,15 +1,14 @@
 //! Why a call of a store gave no answer.
 ghost use Rattle.std.specs.Prelude.{◌≡◌};
-ghost use Rattle.store_core.specs.Errors.{disk_store_error, of_log, of_content, of_check, of_events};
+ghost use Rattle.store_core.specs.Errors.{disk_store_error, of_block, of_load, of_content};
 ghost use Rattle.store_core.specs.declared.error.StoreError.TheVariants.{Disk, Memory};
 
-use checkpoint_store::CheckError;
+use block_file::BlockError;
 use content_repo::{ContentError, SLOTS};
 use disk_trait::{Damage, DiskError, Failed};
 use flowfile_record::DIGEST_SIZE;
-use flowfile_wal::LogError;
+use flowfile_wal::LoadError;
 use kept_state::{Limit, Which};
-use prov_store::EventsError;
 use std::alloc::AllocError;
 use thiserror::Error;
 
@@ -64,26 +63,25 @@ impl From<DiskError> for StoreError {
     }
 }
 
-impl From<LogError> for StoreError {
-    ghost from_gives = { λ from error. error ≡ of_log from };
+impl From<BlockError> for StoreError {
+    ghost from_gives = { λ from error. error ≡ of_block from };
 
-    fn from(error: LogError) -> StoreError {
+    fn from(error: BlockError) -> StoreError {
         match error {
-            LogError::Disk => StoreError::Disk,
-            LogError::NoList | LogError::Memory => StoreError::Memory,
-            LogError::Damaged(damage) => StoreError::Damaged(damage),
+            BlockError::Disk => StoreError::Disk,
+            BlockError::Memory => StoreError::Memory,
+            BlockError::Damaged(damage) => StoreError::Damaged(damage),
         }
     }
 }
 
-impl From<CheckError> for StoreError {
-    ghost from_gives = { λ from error. error ≡ of_check from };
+impl From<LoadError> for StoreError {
+    ghost from_gives = { λ from error. error ≡ of_load from };
 
-    fn from(error: CheckError) -> StoreError {
+    fn from(error: LoadError) -> StoreError {
         match error {
-            CheckError::Disk => StoreError::Disk,
-            CheckError::Memory => StoreError::Memory,
-            CheckError::Damaged(damage) => StoreError::Damaged(damage),
+            LoadError::NoList => StoreError::Memory,
+            LoadError::Block(error) => StoreError::from(error),
         }
     }
 }
@@ -101,18 +99,6 @@ impl From<ContentError> for StoreError {
                 wanted: u64::from(SLOTS) + 1,
             }),
             ContentError::Damaged(damage) => StoreError::Damaged(damage),
-        }
-    }
-}
-
-impl From<EventsError> for StoreError {
-    ghost from_gives = { λ from error. error ≡ of_events from };
-
-    fn from(error: EventsError) -> StoreError {
-        match error {
-            EventsError::Disk => StoreError::Disk,
-            EventsError::Memory => StoreError::Memory,
-            EventsError::Damaged(damage) => StoreError::Damaged(damage),
         }
     }
 }

@@ -83,7 +83,7 @@ fn restore<D: Disk>(
     let found = read_kept(alloc, disk, flow, lot)?;
     let kept = found.state.stored();
     let opened = read_contents(alloc, disk, kept)?;
-    let events = Events::load(alloc, disk, 0, kept.last_event)?;
+    let events = Events::load(alloc, disk, kept.last_event, 0)?;
     check_flow(kept, flow)?;
     revive(alloc, disk, found, opened, events, lot)
 }

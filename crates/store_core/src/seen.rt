@@ -164,7 +164,7 @@ fn see_made<D: Disk>(alloc: Global, disk: &mut D, state: KeptState) -> Result<Se
 {
     let kept = state.stored();
     read_contents(alloc, disk, kept)?;
-    let events = Events::load(alloc, disk, 0, kept.last_event)?;
+    let events = Events::load(alloc, disk, kept.last_event, 0)?;
     Ok(Seen {
         state: Some(state),
         events,

@@ -2,12 +2,10 @@
 #![tactic(auto)]
 
 mod blocks;
-mod error;
 mod reading;
 mod taken;
 mod writing;
 
 pub use blocks::FileBlocks;
-pub use error::SwapError;
 pub use reading::{batches_are_read_back, read_batch};
 pub use writing::{drop_batch, write_batch};

@@ -11,7 +11,6 @@ ghost use Rattle.swap_store.specs.Batch.{swap_file, batch_bytes, IsSwapBatch};
 ghost use Rattle.swap_store.specs.Reading.{files_from, swapped_files, swapped_files_in};
 ghost use Rattle.swap_store.specs.Taken.{address_in, AreTakenFiles, BatchWantsMemory, HasReadBatch, HasReadStep, HasWholeBlock};
 
-use crate::SwapError;
 use crate::taken::{Taken, Unfit};
 use block_file::{BlockAddress, BlockError, read_block_at};
 use disk_trait::{Damage, Disk, FileKind, FileName};
@@ -31,19 +30,19 @@ pub fn read_batch<D: Disk>(
     alloc: Global,
     disk: &mut D,
     batch: u64,
-) -> Result<Vec<FlowFile>, SwapError>
+) -> Result<Vec<FlowFile>, BlockError>
     // Whatever the disk tells, some bytes with right digests say just these files.
     ensures read { IfOk result
         (λ files. HasReadBatch D.tells (D.held disk.old) (swap_file batch) files.items) }
     ensures batch { IfOk result (λ files. IsSwapBatch files.items) }
     // The first damage is told, where there is one.
-    ensures damaged { (damage : TheDamage) → IsErrOf result (SwapError.Damaged damage) → IsTrue D.tells
+    ensures damaged { (damage : TheDamage) → IsErrOf result (BlockError.Damaged damage) → IsTrue D.tells
         → swapped_files_in (D.held disk.old) batch ≡ Err damage }
     // What is damaged before the block that memory is wanted for is told.
-    ensures memory { IsErrOf result SwapError.Memory → IsTrue D.tells
+    ensures memory { IsErrOf result BlockError.Memory → IsTrue D.tells
         → BatchWantsMemory (swap_file batch) (D.held disk.old (swap_file batch)) }
     ensures stays { Stays D.held D.moment D.images disk.old disk.new }
-    ensures cause { CountsFaults (D.faults disk.old) (D.faults disk.new) (IsErrOf result SwapError.Disk) }
+    ensures cause { CountsFaults (D.faults disk.old) (D.faults disk.new) (IsErrOf result BlockError.Disk) }
 {
     let file = FileName {
         kind: FileKind::Swap,
@@ -69,17 +68,17 @@ fn read_next<D: Disk>(
     at: u64,
     buffer: &mut Vec<u8>,
     taken: &mut Taken,
-) -> Result<Option<u64>, SwapError>
+) -> Result<Option<u64>, BlockError>
     requires address { IsAddress D.tells (D.held disk.old) (address_in source.file source.size at) }
     requires taken { AreTakenFiles taken.old }
     ensures read { IfOk result (HasReadStep D.tells (D.held disk.old) source at taken.old taken.new) }
-    ensures damaged { (damage : TheDamage) → IsErrOf result (SwapError.Damaged damage) → IsTrue D.tells
+    ensures damaged { (damage : TheDamage) → IsErrOf result (BlockError.Damaged damage) → IsTrue D.tells
         → (most : ℕ) → files_from (suc most) source.file at taken.old.files.items
         (drop at (D.held disk.old source.file)) ≡ Err damage }
-    ensures memory { IsErrOf result SwapError.Memory → IsTrue D.tells
+    ensures memory { IsErrOf result BlockError.Memory → IsTrue D.tells
         → HasWholeBlock (drop at (D.held disk.old source.file)) }
     ensures stays { Stays D.held D.moment D.images disk.old disk.new }
-    ensures cause { CountsFaults (D.faults disk.old) (D.faults disk.new) (IsErrOf result SwapError.Disk) }
+    ensures cause { CountsFaults (D.faults disk.old) (D.faults disk.new) (IsErrOf result BlockError.Disk) }
 {
     let block = read_block(disk, source, at, buffer)?;
     match taken.take_block(
@@ -99,17 +98,17 @@ fn read_block<D: Disk>(
     source: Source,
     at: u64,
     buffer: &mut Vec<u8>,
-) -> Result<Block, SwapError>
+) -> Result<Block, BlockError>
     requires { IsAddress D.tells (D.held disk.old) (address_in source.file source.size at) }
     ensures found { IfOk result
         (IsBlockAt D.tells (D.held disk.old) (address_in source.file source.size at) buffer.new.items) }
-    ensures damaged { (damage : TheDamage) → IsErrOf result (SwapError.Damaged damage) → IsTrue D.tells
+    ensures damaged { (damage : TheDamage) → IsErrOf result (BlockError.Damaged damage) → IsTrue D.tells
         → damage_in source.file at (reading_at (D.held disk.old) (address_in source.file source.size at))
         ≡ Some damage }
-    ensures memory { IsErrOf result SwapError.Memory → IsTrue D.tells
+    ensures memory { IsErrOf result BlockError.Memory → IsTrue D.tells
         → HasWholeBlock (drop at (D.held disk.old source.file)) }
     ensures stays { Stays D.held D.moment D.images disk.old disk.new }
-    ensures cause { CountsFaults (D.faults disk.old) (D.faults disk.new) (IsErrOf result SwapError.Disk) }
+    ensures cause { CountsFaults (D.faults disk.old) (D.faults disk.new) (IsErrOf result BlockError.Disk) }
 {
     let address = BlockAddress {
         file: source.file,
@@ -117,22 +116,17 @@ fn read_block<D: Disk>(
         offset: at,
         at,
     };
-    match read_block_at(disk, address, buffer) {
-        Ok(block) => Ok(block),
-        Err(BlockError::Disk) => Err(SwapError::Disk),
-        Err(BlockError::Memory) => Err(SwapError::Memory),
-        Err(BlockError::Damaged(damage)) => Err(SwapError::Damaged(damage)),
-    }
+    read_block_at(disk, address, buffer)
 }
 
 // Why the block at an offset doesn't join those before it.
-fn refused(source: Source, at: u64, unfit: Unfit) -> SwapError
-    ensures form { unfit ≡ Unfit.Form → result ≡ SwapError.Damaged (TheDamage.Form source.file at) }
-    ensures memory { unfit ≡ Unfit.Memory → result ≡ SwapError.Memory }
+fn refused(source: Source, at: u64, unfit: Unfit) -> BlockError
+    ensures form { unfit ≡ Unfit.Form → result ≡ BlockError.Damaged (TheDamage.Form source.file at) }
+    ensures memory { unfit ≡ Unfit.Memory → result ≡ BlockError.Memory }
 {
     match unfit {
-        Unfit::Memory => SwapError::Memory,
-        Unfit::Form => SwapError::Damaged(Damage::Form {
+        Unfit::Memory => BlockError::Memory,
+        Unfit::Form => BlockError::Damaged(Damage::Form {
             file: source.file,
             at,
         }),

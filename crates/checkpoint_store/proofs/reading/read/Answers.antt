@@ -8,7 +8,7 @@ use Rattle.checkpoint_store.specs.Consistent.{IsConsistentIn}
 use Rattle.checkpoint_store.specs.Memory.{BlockTakes, IsReadTo, Joins, more}
 use Rattle.checkpoint_store.specs.Reading.{blocks_from, snapshot_of}
 use Rattle.checkpoint_store.specs.Snapshot.{snapshot_file, files_end}
-use Rattle.checkpoint_store.specs.declared.error.CheckError.TheVariants.{Damaged, Memory}
+use Rattle.block_file.specs.declared.error.BlockError.TheVariants.{Damaged, Memory}
 use Rattle.checkpoint_store.proofs.reading.read.Goals as goal
 
 pub loop-so_far-init : goal.loop-so_far-init

@@ -1,7 +1,7 @@
 use Rattle.std.proofs.Common.{◌≡◌, Err, ap}
 use Rattle.std.proofs.lemmas.Result.{err_from_is_err_and}
 use Rattle.flowfile_record.specs.Stored.{kept_of}
-use Rattle.checkpoint_store.specs.declared.error.CheckError.TheVariants.{Memory}
+use Rattle.block_file.specs.declared.error.BlockError.TheVariants.{Memory}
 use Rattle.checkpoint_store.proofs.reading.read_next.Goals as goal
 
 pub returns-in_err-block-clause-memory : goal.returns-in_err-block-clause-memory

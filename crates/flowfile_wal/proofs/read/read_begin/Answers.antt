@@ -6,7 +6,7 @@ use Rattle.disk_trait.specs.declared.damage.Damage.TheVariants.{Form}
 use Rattle.disk_trait.specs.declared.file_name.FileKind.TheVariants.{Log}
 use Rattle.flowfile_wal.specs.Current.{version_begun}
 use Rattle.flowfile_wal.specs.Reads.{IsNextAt}
-use Rattle.flowfile_wal.specs.declared.error.LogError.TheVariants.{Damaged}
+use Rattle.block_file.specs.declared.error.BlockError.TheVariants.{Damaged}
 use Rattle.flowfile_wal.specs.declared.read.FoundBlock.{FoundBlock}
 use Rattle.flowfile_wal.proofs.Reading.{error, read_first, begin_other, begin_damaged}
 use Rattle.flowfile_wal.proofs.read.read_begin.Goals as goal

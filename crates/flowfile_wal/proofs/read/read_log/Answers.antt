@@ -10,7 +10,7 @@ use Rattle.record_codec.specs.LogEntries.{belongs, gated}
 use Rattle.record_codec.specs.declared.entry.LogEntry.{LogEntry}
 use Rattle.flowfile_wal.specs.Calls.{HaveEncodings}
 use Rattle.flowfile_wal.specs.Reads.{IsNextAt, IsNextWithin, IsDamagedAt, LogIsReadTo}
-use Rattle.flowfile_wal.specs.declared.error.LogError.TheVariants.{Damaged}
+use Rattle.block_file.specs.declared.error.BlockError.TheVariants.{Damaged}
 use Rattle.flowfile_wal.specs.declared.read.FoundBlock.{FoundBlock}
 use Rattle.flowfile_wal.proofs.Reading.{error, gated_encodings, read_next, read_done, read_foreign, read_damaged}
 use Rattle.flowfile_wal.proofs.read.read_log.Goals as goal

@@ -6,7 +6,7 @@ use Rattle.disk_trait.specs.Files.{Files}
 use Rattle.flowfile_record.specs.Events.{code_of}
 use Rattle.prov_store.specs.Loading.{AreReadEvents}
 use Rattle.prov_store.specs.Reading.{HasWhole, event_there}
-use Rattle.prov_store.specs.declared.error.EventsError.TheVariants.{Damaged, Memory}
+use Rattle.block_file.specs.declared.error.BlockError.TheVariants.{Damaged, Memory}
 use Rattle.prov_store.specs.declared.read.Cursor.{Cursor}
 use Rattle.prov_store.proofs.Counting.{code_within, most_more, counted_one}
 use Rattle.prov_store.proofs.Loads.{read_more, damaged_there, cursor_on}

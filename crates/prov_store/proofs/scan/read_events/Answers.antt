@@ -8,7 +8,7 @@ use Rattle.flowfile_record.specs.declared.event.Event.{Event}
 use Rattle.prov_store.specs.Events.{events_from}
 use Rattle.prov_store.specs.Loading.{AreReadEvents, bytes_there}
 use Rattle.prov_store.specs.Reading.{event_there}
-use Rattle.prov_store.specs.declared.error.EventsError.TheVariants.{Damaged}
+use Rattle.block_file.specs.declared.error.BlockError.TheVariants.{Damaged}
 use Rattle.prov_store.specs.declared.read.Cursor.{Cursor}
 use Rattle.prov_store.proofs.Loads.{read_more, damaged_there, cursor_on}
 use Rattle.prov_store.proofs.scan.read_events.Goals as goal

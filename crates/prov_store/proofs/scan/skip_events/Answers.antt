@@ -5,7 +5,7 @@ use Rattle.disk_trait.specs.Files.{Files}
 use Rattle.prov_store.specs.Events.{blocks_size}
 use Rattle.prov_store.specs.Loading.{bytes_there}
 use Rattle.prov_store.specs.Reading.{event_there}
-use Rattle.prov_store.specs.declared.error.EventsError.TheVariants.{Damaged}
+use Rattle.block_file.specs.declared.error.BlockError.TheVariants.{Damaged}
 use Rattle.prov_store.specs.declared.read.Cursor.{Cursor}
 use Rattle.prov_store.proofs.Loads.{cursor_on}
 use Rattle.prov_store.proofs.Scans.{skip_one}

@@ -5,8 +5,9 @@ use Rattle.flowfile_record.specs.Stored.{Kept, kept_of}
 use Rattle.store_core.specs.Flow.{flow_in}
 use Rattle.store_core.specs.declared.error.StoreError.TheVariants.{Damaged, OtherFlow}
 use Rattle.store_core.proofs.Opening.{kept_damaged, contents_damaged, since_read}
-use Rattle.prov_store.specs.declared.error.EventsError.{EventsError}
-use Rattle.store_core.proofs.Restoring.{moved, events_told, events_torn, of_events_damaged, is_other, is_found, not_shut, opened_on, stays_in_turn}
+use Rattle.block_file.specs.declared.error.BlockError.{BlockError}
+use Rattle.store_core.proofs.Refusals.{block_damaged}
+use Rattle.store_core.proofs.Restoring.{moved, events_told, events_torn, is_other, is_found, not_shut, opened_on, stays_in_turn}
 use Rattle.store_core.specs.Touched.{log_opened}
 use Rattle.store_core.proofs.Touching.{number_found, reads_alone, revived_alone}
 use Rattle.store_core.proofs.load.restore.Goals as goal
@@ -33,7 +34,7 @@ returns-in_err-opened-clause-damaged g c damage is =
 pub returns-in_err-events-clause-damaged : goal.returns-in_err-events-clause-damaged
 returns-in_err-events-clause-damaged g c damage is =
     let p = err_from_is_err_and c.from_residual-in_err-events.result c.from_residual-in_err-events.ensures.1 in
-    let same : c.in_err-events.field-0.0 ≡ EventsError.Damaged damage = of_events_damaged c.in_err-events.field-0.0 damage (cc (p.1, p.2, is)) in
+    let same : c.in_err-events.field-0.0 ≡ BlockError.Damaged damage = block_damaged c.in_err-events.field-0.0 damage (cc (p.1, p.2, is)) in
     let held = g.D.Disk.held in
     let d0 = c.args.disk.now in
     let k = c.in_ok-found.found.state.kept in

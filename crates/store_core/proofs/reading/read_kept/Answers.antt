@@ -2,18 +2,18 @@ use Rattle.std.proofs.Common.{◌≡◌, ap, arith}
 use Rattle.std.specs.Prelude.{Ok, Err}
 use Rattle.std.proofs.lemmas.Grind.{common_steps}
 use Rattle.std.proofs.lemmas.Result.{err_from_is_err_and}
-use Rattle.store_core.specs.Errors.{of_log}
+use Rattle.store_core.specs.Errors.{of_load}
 use Rattle.store_core.specs.declared.error.StoreError.TheVariants.{Damaged}
 use Rattle.store_core.proofs.KeptRead.{damaged_log, found_by}
-use Rattle.store_core.proofs.Refusals.{log_damaged}
+use Rattle.store_core.proofs.Refusals.{load_damaged}
 use Rattle.store_core.proofs.reading.read_kept.Goals as goal
 
 pub returns-in_err-log-clause-damaged : goal.returns-in_err-log-clause-damaged
 returns-in_err-log-clause-damaged g c damage is told =
     let p = err_from_is_err_and c.from_residual.result c.from_residual.ensures.1 in
-    let same : of_log c.in_err-log.field-0.0 ≡ Damaged damage = cc (p.1, p.2, is) in
+    let same : of_load c.in_err-log.field-0.0 ≡ Damaged damage = cc (p.1, p.2, is) in
     damaged_log c.args.flow.now c.args.lot (g.D.Disk.held c.args.disk.now) damage
-    (c.in_err-log.ensures.damaged damage (ap Err (log_damaged c.in_err-log.field-0.0 damage same)) told)
+    (c.in_err-log.ensures.damaged damage (ap Err (load_damaged c.in_err-log.field-0.0 damage same)) told)
 
 pub returns-in_err-state-clause-damaged : goal.returns-in_err-state-clause-damaged
 returns-in_err-state-clause-damaged g c damage is told =

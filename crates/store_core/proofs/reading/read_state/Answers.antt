@@ -5,14 +5,14 @@ use Rattle.disk_trait.specs.declared.damage.Damage.TheVariants.{Form}
 use Rattle.flowfile_record.specs.Stored.{kept_of}
 use Rattle.checkpoint_store.specs.Snapshot.{snapshot_file}
 use Rattle.kept_state.specs.Applied.{batches_that_matter}
-use Rattle.store_core.specs.Errors.{of_check}
+use Rattle.store_core.specs.Errors.{of_block}
 use Rattle.store_core.specs.Flow.{agrees_with, flow_in}
 use Rattle.store_core.specs.Kept.{least_of, unless_swapped, with_entries, snapshot_for, behind_snapshot}
 use Rattle.store_core.specs.declared.error.StoreError.TheVariants.{Damaged}
 use Rattle.store_core.proofs.Finding.{if_ok}
 use Rattle.store_core.proofs.KeptRead.{log_at, agreed_snapshot, other_snapshot, damaged_snapshot}
 use Rattle.store_core.proofs.Opening.{agrees_as}
-use Rattle.store_core.proofs.Refusals.{check_damaged}
+use Rattle.store_core.proofs.Refusals.{block_damaged}
 use Rattle.store_core.proofs.reading.read_state.Goals as goal
 
 pub returns-in_err-found-clause-damaged : goal.returns-in_err-found-clause-damaged
@@ -20,9 +20,9 @@ returns-in_err-found-clause-damaged g c damage is told version end =
     let file = snapshot_file c.args.number in
     let held = g.D.Disk.held c.args.disk.now in
     let p = err_from_is_err_and c.from_residual.result c.from_residual.ensures.1 in
-    let same : of_check c.in_err-found.field-0.0 ≡ Damaged damage = cc (p.1, p.2, is) in
+    let same : of_block c.in_err-found.field-0.0 ≡ Damaged damage = cc (p.1, p.2, is) in
     ap (behind_snapshot held (log_at c.args.number version c.args.entries.items end))
-    (damaged_snapshot c.args.flow.now file (held file) damage (c.in_err-found.ensures.damaged damage (ap Err (check_damaged c.in_err-found.field-0.0 damage same)) told))
+    (damaged_snapshot c.args.flow.now file (held file) damage (c.in_err-found.ensures.damaged damage (ap Err (block_damaged c.in_err-found.field-0.0 damage same)) told))
 
 pub returns-then-not-agrees-clause-damaged : goal.returns-then-not-agrees-clause-damaged
 returns-then-not-agrees-clause-damaged g c damage is told version end =

@@ -3,22 +3,22 @@ use Rattle.std.specs.Prelude.{Option, None, Ok, Err, IsTrue, option_map}
 use Rattle.std.proofs.lemmas.Result.{err_from_is_err_and}
 use Rattle.flowfile_wal.specs.Current.{current_number}
 use Rattle.kept_state.specs.Memory.{InMemory}
-use Rattle.store_core.specs.Errors.{of_log}
+use Rattle.store_core.specs.Errors.{of_load}
 use Rattle.store_core.specs.Kept.{kept_in}
 use Rattle.store_core.specs.Seen.{no_flow, or_anew}
 use Rattle.store_core.specs.declared.error.StoreError.TheVariants.{Damaged}
 use Rattle.store_core.proofs.Finding.{if_ok}
 use Rattle.store_core.proofs.KeptRead.{damaged_log, found_by}
-use Rattle.store_core.proofs.Refusals.{log_damaged}
+use Rattle.store_core.proofs.Refusals.{load_damaged}
 use Rattle.store_core.proofs.Touching.{number_read}
 use Rattle.store_core.proofs.seen.see_kept.Goals as goal
 
 pub returns-in_err-log-clause-damaged : goal.returns-in_err-log-clause-damaged
 returns-in_err-log-clause-damaged g c damage is told =
     let p = err_from_is_err_and c.from_residual.result c.from_residual.ensures.1 in
-    let same : of_log c.in_err-log.field-0.0 ≡ Damaged damage = cc (p.1, p.2, is) in
+    let same : of_load c.in_err-log.field-0.0 ≡ Damaged damage = cc (p.1, p.2, is) in
     damaged_log no_flow 0 (g.D.Disk.held c.args.disk.now) damage
-    (c.in_err-log.ensures.damaged damage (ap Err (log_damaged c.in_err-log.field-0.0 damage same)) told)
+    (c.in_err-log.ensures.damaged damage (ap Err (load_damaged c.in_err-log.field-0.0 damage same)) told)
 
 pub returns-clause-kept : goal.returns-clause-kept
 returns-clause-kept g c =

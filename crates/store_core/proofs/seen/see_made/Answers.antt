@@ -5,9 +5,10 @@ use Rattle.disk_trait.specs.Files.{Files}
 use Rattle.flowfile_record.specs.Stored.{Kept, kept_of}
 use Rattle.prov_store.specs.Events.{events_in}
 use Rattle.prov_store.specs.State.{HasEvents}
-use Rattle.prov_store.specs.declared.error.EventsError.{EventsError}
+use Rattle.block_file.specs.declared.error.BlockError.{BlockError}
 use Rattle.store_core.specs.declared.error.StoreError.TheVariants.{Damaged}
-use Rattle.store_core.proofs.Restoring.{moved, of_events_damaged}
+use Rattle.store_core.proofs.Refusals.{block_damaged}
+use Rattle.store_core.proofs.Restoring.{moved}
 use Rattle.store_core.proofs.Seeing.{torn_content, torn_event}
 use Rattle.store_core.proofs.seen.see_made.Goals as goal
 
@@ -23,7 +24,7 @@ returns-in_err-read_contents-clause-damaged g c damage is told =
 pub returns-in_err-events-clause-damaged : goal.returns-in_err-events-clause-damaged
 returns-in_err-events-clause-damaged g c damage is told =
     let p = err_from_is_err_and c.from_residual-in_err-events.result c.from_residual-in_err-events.ensures.1 in
-    let same : c.in_err-events.field-0.0 ≡ EventsError.Damaged damage = of_events_damaged c.in_err-events.field-0.0 damage (cc (p.1, p.2, is)) in
+    let same : c.in_err-events.field-0.0 ≡ BlockError.Damaged damage = block_damaged c.in_err-events.field-0.0 damage (cc (p.1, p.2, is)) in
     let held = g.D.Disk.held c.args.disk.now in
     let mid = g.D.Disk.held c.read_contents.new.disk in
     let k = c.args.state.kept in

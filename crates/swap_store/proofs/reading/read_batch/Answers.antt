@@ -5,7 +5,7 @@ use Rattle.disk_trait.specs.Files.{Files}
 use Rattle.swap_store.specs.Batch.{swap_file}
 use Rattle.swap_store.specs.Reading.{files_from}
 use Rattle.swap_store.specs.Taken.{HasWholeBlock}
-use Rattle.swap_store.specs.declared.error.SwapError.TheVariants.{Damaged, Memory}
+use Rattle.block_file.specs.declared.error.BlockError.TheVariants.{Damaged, Memory}
 use Rattle.swap_store.proofs.Steps.{comes_first, comes_on, comes_to_end, has_read}
 use Rattle.swap_store.proofs.reading.read_batch.Goals as goal
 

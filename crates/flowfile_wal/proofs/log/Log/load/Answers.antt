@@ -7,7 +7,7 @@ use Rattle.flowfile_wal.specs.Current.{CurrentLog, log_in}
 use Rattle.flowfile_wal.specs.Reads.{HasFirstBlock, IsFoundIn, IsCandidate}
 use Rattle.flowfile_wal.specs.Steps.{LogState, log_with}
 use Rattle.flowfile_wal.specs.declared.current.Candidate.{Candidate}
-use Rattle.flowfile_wal.specs.declared.error.LogError.TheVariants.{Damaged, Memory}
+use Rattle.block_file.specs.declared.error.BlockError.TheVariants.{Damaged, Memory}
 use Rattle.flowfile_wal.proofs.Files.{said, none_current, is_current, damaged_current}
 use Rattle.flowfile_wal.proofs.log.Log.load.Goals as goal
 

@@ -6,7 +6,7 @@ use Rattle.prov_store.specs.Events.{events_file, events_of_files}
 use Rattle.prov_store.specs.Loading.{EventsAreLoaded, loaded_state}
 use Rattle.prov_store.specs.State.{AreLonger, EventsState, HasStale, IsEventLine}
 use Rattle.flowfile_record.specs.declared.limits.TheConstants.{EVENTS_PER_FILE}
-use Rattle.prov_store.specs.declared.error.EventsError.TheVariants.{Damaged}
+use Rattle.block_file.specs.declared.error.BlockError.TheVariants.{Damaged}
 use Rattle.prov_store.proofs.Listing.{none_longer}
 use Rattle.prov_store.proofs.Loaded.{none_loaded, all_damaged, few_counted, has_events, same_stale}
 use Rattle.prov_store.proofs.Wholes.{first_file_whole}

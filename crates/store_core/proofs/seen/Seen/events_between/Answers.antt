@@ -2,16 +2,16 @@ use Rattle.std.proofs.Common.{◌≡◌, ℕ, ◌+◌, max, min, refl, ap, subst
 use Rattle.std.specs.Prelude.{Err}
 use Rattle.std.proofs.lemmas.Result.{err_from_is_err_and}
 use Rattle.prov_store.specs.Scanning.{HasBetween, numbers_between}
-use Rattle.prov_store.specs.declared.error.EventsError.{EventsError}
+use Rattle.block_file.specs.declared.error.BlockError.{BlockError}
 use Rattle.store_core.specs.Seen.{SeenState}
-use Rattle.store_core.proofs.Restoring.{of_events_damaged}
+use Rattle.store_core.proofs.Refusals.{block_damaged}
 use Rattle.store_core.proofs.Seeing.{says_known, between_are}
 use Rattle.store_core.proofs.seen.Seen.events_between.Goals as goal
 
 pub returns-in_err-events-clause-undamaged : goal.returns-in_err-events-clause-undamaged
 returns-in_err-events-clause-undamaged g c damage is told seen =
     let p = err_from_is_err_and c.from_residual.result c.from_residual.ensures.1 in
-    let same : c.in_err-events.field-0.0 ≡ EventsError.Damaged damage = of_events_damaged c.in_err-events.field-0.0 damage (cc (p.1, p.2, is)) in
+    let same : c.in_err-events.field-0.0 ≡ BlockError.Damaged damage = block_damaged c.in_err-events.field-0.0 damage (cc (p.1, p.2, is)) in
     let known : c.self.inside.events ≡ c.args.self.now.events = ap (λ (s : SeenState). s.events) c.self.view_is in
     c.in_err-events.ensures.undamaged damage (ap Err same) told seen.events.events (says_known (g.D.Disk.held c.args.disk.now) c.args.self.now c.self.inside.events known seen)
 
