@@ -1,5 +1,5 @@
 -- That no file has expired where the oldest one hasn't.
-use Rattle.std.proofs.Common.{◌≡◌, inl, inr, ℕ, ◌-◌, ◌<◌, ◌≤◌, ◌==◌, not, nat_lt, nat_le, true, false, cond, List, [], ◌∷◌, length, slice_index_or, Some, refl, sym, ap, ◌∙◌, subst, arith}
+use Rattle.std.proofs.Common.{◌≡◌, inl, inr, ℕ, ◌-◌, ◌<◌, ◌≤◌, ◌==◌, not, nat_lt, nat_le, true, false, cond, List, [], ◌∷◌, length, map, slice_index_or, Some, refl, sym, ap, ◌∙◌, subst, arith}
 use Rattle.std.specs.Prelude.{All}
 use Rattle.std.specs.List.{AllPairs}
 use Rattle.std.specs.Option.{option_map}
@@ -11,15 +11,15 @@ use Rattle.std.proofs.lemmas.List.Sorted.{All-permutation, IsPermutation-sym}
 use Rattle.flowfile_record.specs.NumberedItems.{item_of}
 use Rattle.prioritizer.specs.Order.{order_cmp}
 use Rattle.machine_model.specs.declared.flow.QueueLimits.{QueueLimits}
-use Rattle.machine_model.specs.Due.{numbers_of}
 use Rattle.machine_model.specs.Order.{goes_before, in_order}
 use Rattle.machine_model.specs.View.{FileView, is_expired}
 use Rattle.machine_model.proofs.OnlyOrder.{Leads}
 use Rattle.machine_model.proofs.Ordered.{in_order-permutes, pairs_head}
 use Rattle.flow_queue.specs.declared.held.Held.{Held}
+use Rattle.flow_queue.specs.declared.queue.ranked.Note.{Note}
 use Rattle.flow_queue.specs.Picking.{expiring}
 use Rattle.flow_queue.specs.Queue.{AreApart, held_number, held_view, views_of}
-use Rattle.flow_queue.specs.Ranked.{IsRanked}
+use Rattle.flow_queue.specs.Ranked.{IsRanked, noted_as}
 use Rattle.flow_queue.proofs.Expiring.{expiring-over}
 use Rattle.flow_queue.proofs.InOrder.{leads-all}
 use Rattle.flow_queue.proofs.Ranks.{all-found}
@@ -67,26 +67,27 @@ module _ (limits : QueueLimits) (moment : ℕ) where
     from_order fresh =
         none-listed (views_of files) (All-permutation (Fresh limits moment) own (views_of files) (IsPermutation-sym (views_of files) own (in_order-permutes [] (views_of files))) fresh)
 
-    none-there : (numbers : List ℕ) → IsRanked [] files numbers → numbers ≡ [] → expiring limits moment (views_of files) ≡ []
-    none-there numbers ranked is = from_order (empty own (sym ranked ∙ is))
+    none-there : (notes : List Note) → IsRanked [] files notes → notes ≡ [] → expiring limits moment (views_of files) ≡ []
+    none-there notes ranked is = from_order (empty own (sym ranked ∙ is))
       where
-        empty : (views : List FileView) → numbers_of views ≡ [] → All (Fresh limits moment) views
+        empty : (views : List FileView) → map noted_as views ≡ [] → All (Fresh limits moment) views
         empty [] none = All-nil (Fresh limits moment)
         empty (view ∷ views) none = cc
 
     abbrev IsOldest : Held → ℕ → Type 0
     IsOldest held n = item_of held_number n files ≡ Some held
 
-    is_older : (numbers rest : List ℕ) (n : ℕ) (held : Held) → IsRanked [] files numbers → numbers ≡ n ∷ rest → IsOldest held n
+    is_older : (notes rest : List Note) (note : Note) (held : Held) → IsRanked [] files notes → notes ≡ note ∷ rest → IsOldest held note.number
         → Fresh limits moment (held_view held) → expiring limits moment (views_of files) ≡ []
-    is_older numbers rest n held ranked is found fresh =
+    is_older notes rest note held ranked is found fresh =
         from_order (all own (sym is ∙ ranked) (all-found [] files apart.numbers) (leads-all [] (views_of files) apart.arrivals))
       where
-        all : (views : List FileView) → n ∷ rest ≡ numbers_of views → All (λ view. option_map held_view (item_of held_number view.number files) ≡ Some view) views
+        all : (views : List FileView) → note ∷ rest ≡ map noted_as views → All (λ view. option_map held_view (item_of held_number view.number files) ≡ Some view) views
             → AllPairs (Leads []) views → All (Fresh limits moment) views
         all [] first there leads = cc
         all (view ∷ views) first there leads =
-            let number : n ≡ view.number = cc in
+            let noted : note ≡ noted_as view = cc in
+            let number : note.number ≡ view.number = ap (λ (e : Note). e.number) noted in
             let seen : Some (held_view held) ≡ Some view
             = sym (ap (option_map held_view) found) ∙ ap (λ m. option_map held_view (item_of held_number m files)) number
             ∙ All-head (λ view. option_map held_view (item_of held_number view.number files) ≡ Some view) view views there in
@@ -95,11 +96,11 @@ module _ (limits : QueueLimits) (moment : ℕ) where
             All-cons (Fresh limits moment) view views young
             (All-weaker (Leads [] view) (Fresh limits moment) (λ other leads. younger view other (older view other leads) young) views (pairs_head (Leads []) view views leads))
 
-    pub none-older : (numbers : List ℕ) (n : ℕ) (held : Held) → IsRanked [] files numbers → 0 < length numbers → n ≡ slice_index_or numbers 0 n
-        → IsOldest held n → Fresh limits moment (held_view held) → expiring limits moment (views_of files) ≡ []
-    none-older [] n held ranked lt first found fresh = absurd (omega (arith, lt))
-    none-older (m ∷ rest) n held ranked lt first found fresh = is_older (m ∷ rest) rest n held ranked (λ j. sym first j ∷ rest) found fresh
+    pub none-older : (notes : List Note) (note : Note) (held : Held) → IsRanked [] files notes → 0 < length notes → note ≡ slice_index_or notes 0 note
+        → IsOldest held note.number → Fresh limits moment (held_view held) → expiring limits moment (views_of files) ≡ []
+    none-older [] note held ranked lt first found fresh = absurd (omega (arith, lt))
+    none-older (other ∷ rest) note held ranked lt first found fresh = is_older (other ∷ rest) rest note held ranked (λ j. sym first j ∷ rest) found fresh
 
-    pub none-in : (numbers : List ℕ) → IsRanked [] files numbers → length numbers ≡ 0 → expiring limits moment (views_of files) ≡ []
+    pub none-in : (notes : List Note) → IsRanked [] files notes → length notes ≡ 0 → expiring limits moment (views_of files) ≡ []
     none-in [] ranked is = none-there [] ranked refl
-    none-in (n ∷ rest) ranked is = absurd (omega (arith, is))
+    none-in (note ∷ rest) ranked is = absurd (omega (arith, is))

@@ -20,9 +20,10 @@ use Rattle.machine_model.proofs.Numbered.{drop-weighs, once-distinct, order-weig
 use Rattle.machine_model.proofs.Ordered.{in_order-permutes, pairs_nil}
 use Rattle.machine_model.proofs.Tally.{bit, many, tally-filter, tally-map}
 use Rattle.flow_queue.specs.declared.held.Held.{Held}
+use Rattle.flow_queue.specs.declared.queue.ranked.Note.{Note}
 use Rattle.flow_queue.specs.Picking.{Picks}
 use Rattle.flow_queue.specs.Queue.{QueueState, AreApart, held_number, held_view, views_of, IsAtRest}
-use Rattle.flow_queue.specs.Ranked.{IsRanked}
+use Rattle.flow_queue.specs.Ranked.{IsRanked, numbers_noted}
 use Rattle.flow_queue.specs.Swapping.{MayGoOut, batch_due, is_resting, last_of, resting_among}
 use Rattle.flow_queue.proofs.InOrder.{filter-mapped}
 use Rattle.flow_queue.proofs.Numbered.{ascends-map}
@@ -50,15 +51,15 @@ rest-count files =
 pub none-go : (queue : QueueState) → MayGoOut queue []
 none-go queue = record { at_rest = All-nil (IsAtRest queue); distinct = refl }
 
-module _ (queue : QueueState) (numbers : List ℕ) (apart : AreApart queue.files) (ranked : IsRanked queue.order queue.files numbers) where
+module _ (queue : QueueState) (notes : List Note) (apart : AreApart queue.files) (ranked : IsRanked queue.order queue.files notes) where
   abbrev ordered : List FileView
   ordered = in_order queue.order (at_rest (views_of queue.files))
 
   abbrev resting : List ℕ
-  resting = resting_among queue.files numbers
+  resting = resting_among queue.files (numbers_noted notes)
 
   are-ordered : resting ≡ numbers_of ordered
-  are-ordered = resting-ranked queue.order queue.files numbers apart ranked
+  are-ordered = resting-ranked queue.order queue.files notes apart ranked
 
   pub resting-count : length resting ≡ length (at_rest (views_of queue.files))
   resting-count =
@@ -88,7 +89,7 @@ module _ (queue : QueueState) (numbers : List ℕ) (apart : AreApart queue.files
   all-rest : All (IsAtRest queue) resting
   all-rest =
       All-weaker (λ n. is_resting queue.files n ≡ true) (IsAtRest queue) (λ n h. rests n (item_of held_number n queue.files) h) resting
-      (filter_passes (is_resting queue.files) numbers)
+      (filter_passes (is_resting queue.files) (numbers_noted notes))
 
   once : (k n : ℕ) → many (λ (m : ℕ). m) n (numbers_of (drop k ordered)) ≤ 1
   once k n =

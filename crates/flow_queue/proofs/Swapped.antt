@@ -1,5 +1,5 @@
 -- Files of some numbers, and the numbers of files that stay or rest, in the order of the queue.
-use Rattle.std.proofs.Common.{◌≡◌, ◌≢◌, inl, inr, ℕ, ◌+◌, ◌^◌, ◌<◌, ◌==◌, ◌&&◌, not, Bool, true, false, cond, List, [], ◌∷◌, Option, Some, None, is_some, refl, sym, ap, ◌∙◌, subst}
+use Rattle.std.proofs.Common.{◌≡◌, ◌≢◌, inl, inr, ℕ, ◌+◌, ◌^◌, ◌<◌, ◌==◌, ◌&&◌, not, Bool, true, false, cond, List, [], ◌∷◌, map, Option, Some, None, is_some, refl, sym, ap, ◌∙◌, subst}
 use Rattle.std.specs.Prelude.{All, IsSome, filter, find, sum_by}
 use Rattle.std.specs.Option.{option_map, option_map_or}
 use Rattle.std.proofs.lemmas.Bool.{true≢false, cases_Bool, cases_eq, eq-eqb, ne_eqb}
@@ -15,13 +15,14 @@ use Rattle.machine_model.specs.Laws.{ArrivalsDiffer}
 use Rattle.machine_model.specs.Order.{in_order}
 use Rattle.machine_model.specs.View.{FileView, at_rest}
 use Rattle.flow_queue.specs.declared.held.Held.{Held}
+use Rattle.flow_queue.specs.declared.queue.ranked.Note.{Note}
 use Rattle.flow_queue.specs.Inside.{AreSound}
 use Rattle.flow_queue.specs.Queue.{AreApart, held_number, held_bytes, held_view, views_of, flight_of, without_file}
-use Rattle.flow_queue.specs.Ranked.{IsRanked}
+use Rattle.flow_queue.specs.Ranked.{IsRanked, noted_as, numbers_noted}
 use Rattle.flow_queue.specs.Swapping.{files_going, files_staying, goes_out, is_held, is_resting, resting_among}
 use Rattle.flow_queue.proofs.InOrder.{Differ, filter-mapped, in_order-filter}
 use Rattle.flow_queue.proofs.Numbered.{ascends-filter}
-use Rattle.flow_queue.proofs.Ranks.{Found, all-found}
+use Rattle.flow_queue.proofs.Ranks.{Found, all-found, ranked-numbers}
 
 -- ---- the files that stay when some go
 
@@ -47,6 +48,9 @@ bytes-parted numbers files = sum_by-filter_both (goes_out numbers) (λ held. not
 
 -- ---- what is kept by a test of the number
 
+abbrev there_of : ℕ → List Held → Bool
+there_of n files = is_some (item_of held_number n files)
+
 module _ (q : ℕ → Bool) where
   abbrev keeps : Held → Bool
   keeps held = q (held_number held)
@@ -55,7 +59,7 @@ module _ (q : ℕ → Bool) where
   none_held true = refl
   none_held false = refl
 
-  pub held-kept : (n : ℕ) (files : List Held) → is_held (filter keeps files) n ≡ (q n && is_held files n)
+  held-kept : (n : ℕ) (files : List Held) → there_of n (filter keeps files) ≡ (q n && there_of n files)
   held-kept n [] = none_held (q n)
   held-kept n (held ∷ files) =
       let rest = held-kept n files in
@@ -66,7 +70,7 @@ module _ (q : ℕ → Bool) where
               | inl t ↦ let kept : q (held_number held) ≡ true = ap q is ∙ t in rw (kept, here, t) refl
               | inr f ↦
                   let kept : q (held_number held) ≡ false = ap q is ∙ f in
-                  rw (kept, here, f) (rest ∙ ap (λ b. b && is_held files n) f)
+                  rw (kept, here, f) (rest ∙ ap (λ b. b && there_of n files) f)
             ]
         | inr ne ↦
             let away : (held_number held == n) ≡ false = ne_eqb (held_number held) n ne in
@@ -88,7 +92,7 @@ module _ (q : ℕ → Bool) where
         sum = is;
       }
 
--- ---- numbers in the order of the queue
+-- ---- what is noted in the order of the queue
 
 same-filter : {X : Type 0} (p q : X → Bool) (xs : List X) → All (λ x. p x ≡ q x) xs → filter p xs ≡ filter q xs
 same-filter p q [] all = refl
@@ -96,16 +100,15 @@ same-filter p q (x ∷ xs) all =
     (λ i. cond (All-head (λ y. p y ≡ q y) x xs all i) (x ∷ filter p xs) (filter p xs))
     ∙ ap (λ l. cond (q x) (x ∷ l) l) (same-filter p q xs (All-tail (λ y. p y ≡ q y) x xs all))
 
-module _ (order : List Prioritizer) (files : List Held) (numbers : List ℕ) (apart : AreApart files) (ranked : IsRanked order files numbers) where
-  pub ranked-filter : (p : ℕ → Bool) (q : FileView → Bool) → ((view : FileView) → Found files view → p view.number ≡ q view)
-      → filter p numbers ≡ numbers_of (in_order order (filter q (views_of files)))
-  ranked-filter p q says =
+module _ (order : List Prioritizer) (files : List Held) (notes : List Note) (apart : AreApart files) (ranked : IsRanked order files notes) where
+  ordered-filter : {X : Type 0} (f : FileView → X) (p : X → Bool) (q : FileView → Bool) → ((view : FileView) → Found files view → p (f view) ≡ q view)
+      → filter p (map f (in_order order (views_of files))) ≡ map f (in_order order (filter q (views_of files)))
+  ordered-filter f p q says =
       let own = in_order order (views_of files) in
-      let same = All-weaker (Found files) (λ (view : FileView). p view.number ≡ q view) says own (all-found order files apart.numbers) in
-      ap (filter p) ranked
-      ∙ filter-mapped (λ (view : FileView). view.number) p own
-      ∙ ap numbers_of (same-filter (λ (view : FileView). p view.number) q own same)
-      ∙ ap numbers_of (sym (in_order-filter order q (views_of files) apart.arrivals))
+      let same = All-weaker (Found files) (λ (view : FileView). p (f view) ≡ q view) says own (all-found order files apart.numbers) in
+      filter-mapped f p own
+      ∙ ap (map f) (same-filter (λ (view : FileView). p (f view)) q own same)
+      ∙ ap (map f) (sym (in_order-filter order q (views_of files) apart.arrivals))
 
   found-held : (n : ℕ) (view : FileView) → (o : Option Held) → option_map held_view o ≡ Some view → is_some o ≡ true
   found-held n view None h = cc
@@ -115,19 +118,22 @@ module _ (order : List Prioritizer) (files : List Held) (numbers : List ℕ) (ap
   with-true true = refl
   with-true false = refl
 
-  pub ranked-kept : (q : ℕ → Bool) → IsRanked order (filter (λ held. q (held_number held)) files) (filter (is_held (filter (λ held. q (held_number held)) files)) numbers)
+  pub ranked-kept : (q : ℕ → Bool) → IsRanked order (filter (λ held. q (held_number held)) files) (filter (is_held (filter (λ held. q (held_number held)) files)) notes)
   ranked-kept q =
       let kept = filter (λ held. q (held_number held)) files in
-      ranked-filter (is_held kept) (λ (view : FileView). q view.number)
+      ap (filter (is_held kept)) ranked
+      ∙ ordered-filter noted_as (is_held kept) (λ (view : FileView). q view.number)
       (λ view f. held-kept q view.number files ∙ ap (λ b. q view.number && b) (found-held view.number view (item_of held_number view.number files) f) ∙ with-true (q view.number))
-      ∙ ap (λ views. numbers_of (in_order order views)) (filter-mapped held_view (λ (view : FileView). q view.number) files)
+      ∙ ap (λ views. map noted_as (in_order order views)) (filter-mapped held_view (λ (view : FileView). q view.number) files)
 
   rests-found : (view : FileView) (o : Option Held) → option_map held_view o ≡ Some view → option_map_or (λ held. not held.in_flight) o false ≡ not view.in_flight
   rests-found view None h = cc
   rests-found view (Some held) h = let is : held_view held ≡ view = cc in ap (λ (v : FileView). not v.in_flight) is
 
-  pub resting-ranked : resting_among files numbers ≡ numbers_of (in_order order (at_rest (views_of files)))
-  resting-ranked = ranked-filter (is_resting files) (λ (view : FileView). not view.in_flight) (λ view f. rests-found view (item_of held_number view.number files) f)
+  pub resting-ranked : resting_among files (numbers_noted notes) ≡ numbers_of (in_order order (at_rest (views_of files)))
+  resting-ranked =
+      ap (resting_among files) (ranked-numbers order files notes ranked)
+      ∙ ordered-filter (λ (view : FileView). view.number) (is_resting files) (λ (view : FileView). not view.in_flight) (λ view f. rests-found view (item_of held_number view.number files) f)
 
 -- ---- files are taken one by one
 

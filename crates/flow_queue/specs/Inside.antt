@@ -24,7 +24,7 @@ pub record AreSound (files : List Held) (bytes : ℕ) : Type 0 where
   pub sizes : All (λ held. held_bytes held < 2 ^ 64) files
   pub sum : bytes ≡ sum_by held_bytes files
 
--- The numbers stand in the order of the queue, and where files expire from the oldest on. Those of as many more files as
+-- The files are noted in the order of the queue, and where files expire from the oldest on. Those of as many more files as
 -- there is room for have capacity, the counts have room for these, and a batch has it where there is room for one.
 pub record IsSoundQueue (queue : Inside) : Type 0 where
   pub files : AreSound queue.files.items queue.bytes

@@ -1,19 +1,27 @@
--- The numbers of a queue's files in its order, and the files that they stand for.
-use Rattle.std.specs.Prelude.{◌≡◌, ℕ, Bool, true, false, List, length, Option, Some, None, if◌then◌else◌}
+-- A queue's files in its order, by what is noted of each.
+use Rattle.std.specs.Prelude.{◌≡◌, ℕ, Bool, true, false, List, length, map, nat_lt, Option, Some, None, if◌then◌else◌}
 use Rattle.std.specs.List.{AllWithin, filter_map}
 use Rattle.std.specs.Option.{option_map_or}
 use Rattle.flowfile_record.specs.NumberedItems.{item_of}
 use Rattle.prioritizer.specs.declared.prioritizer.Prioritizer.{Prioritizer}
 use Rattle.machine_model.specs.declared.flow.QueueLimits.{QueueLimits}
-use Rattle.machine_model.specs.Due.{numbers_of}
 use Rattle.machine_model.specs.Order.{goes_before, in_order, is_eligible}
 use Rattle.machine_model.specs.View.{FileView}
 use Rattle.flow_queue.specs.declared.held.Held.{Held}
+use Rattle.flow_queue.specs.declared.queue.ranked.Note.{Note}
 use Rattle.flow_queue.specs.Queue.{held_number, held_view, views_of}
 
--- the numbers of all files, the first that goes first
-abbrev pub IsRanked : List Prioritizer → List Held → List ℕ → Type 0
-IsRanked order files numbers = numbers ≡ numbers_of (in_order order (views_of files))
+-- what is noted of a file
+abbrev pub noted_as : FileView → Note
+noted_as file = record { number = file.number; penalty_end = file.penalty_end }
+
+-- the numbers that are noted
+abbrev pub numbers_noted : List Note → List ℕ
+numbers_noted notes = map (λ note. note.number) notes
+
+-- all files are noted, the first that goes first
+abbrev pub IsRanked : List Prioritizer → List Held → List Note → Type 0
+IsRanked order files notes = notes ≡ map noted_as (in_order order (views_of files))
 
 -- so many files go before one, the first of all in their order
 pub record IsRankOf (order : List Prioritizer) (file : FileView) (files : List FileView) (place : ℕ) : Type 0 where
@@ -31,10 +39,11 @@ if_eligible limits moment None = None
 if_eligible limits moment (Some held) =
     if is_eligible limits moment (held_view held) then Some (held_view held) else None
 
--- the file of a number, where a session may take it
-abbrev pub eligible_at : QueueLimits → ℕ → List Held → ℕ → Option FileView
-eligible_at limits moment files number = if_eligible limits moment (item_of held_number number files)
+-- the file that is noted, where its penalty has ended and a session may take it
+abbrev pub eligible_at : QueueLimits → ℕ → List Held → Note → Option FileView
+eligible_at limits moment files note =
+    if nat_lt moment note.penalty_end then None else if_eligible limits moment (item_of held_number note.number files)
 
--- the files of some numbers that a session may take
-abbrev pub eligible_among : QueueLimits → ℕ → List Held → List ℕ → List FileView
-eligible_among limits moment files numbers = filter_map (eligible_at limits moment files) numbers
+-- the files that are noted and that a session may take
+abbrev pub eligible_among : QueueLimits → ℕ → List Held → List Note → List FileView
+eligible_among limits moment files notes = filter_map (eligible_at limits moment files) notes

@@ -9,6 +9,7 @@ use Rattle.machine_model.specs.Due.{batch_size, last_batch}
 use Rattle.machine_model.specs.Files.{are_distinct, is_number_among}
 use Rattle.flow_queue.specs.declared.batch.Batch.{Batch}
 use Rattle.flow_queue.specs.declared.held.Held.{Held}
+use Rattle.flow_queue.specs.declared.queue.ranked.Note.{Note}
 use Rattle.flow_queue.specs.Queue.{QueueState, IsApart, IsAtRest, held_number, held_bytes, queue_as_seen}
 
 abbrev pub number_of_batch : Batch → ℕ
@@ -86,8 +87,9 @@ swapped_into queue batch files = record queue {
 
 -- ---- numbers, and the files that they stand for
 
-abbrev pub is_held : List Held → ℕ → Bool
-is_held files number = is_some (item_of held_number number files)
+-- the file that is noted is there
+abbrev pub is_held : List Held → Note → Bool
+is_held files note = is_some (item_of held_number note.number files)
 
 -- a file of this number is there, and no session works on it
 abbrev pub is_resting : List Held → ℕ → Bool

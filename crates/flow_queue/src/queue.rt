@@ -12,7 +12,7 @@ mod wholes;
 
 use self::ages::{put_age, reserve_ages, take_age};
 use self::counts::Counts;
-use self::ranked::{put_number, take_number};
+use self::ranked::{Note, put_note, take_note};
 use crate::batch::Batch;
 use crate::held::Held;
 use flowfile_record::{FlowFile, NumberedList};
@@ -29,10 +29,10 @@ pub struct Queue {
     order: Order,
     limits: QueueLimits,
     files: NumberedList<Held>,
-    // Their numbers in the order of the queue, with capacity for as many more as there is room.
-    by_rank: VecDeque<u64>,
-    // Where files expire, their numbers from the oldest on, with the same capacity.
-    by_age: VecDeque<u64>,
+    // They are noted in the order of the queue, with capacity for as many more as there is room.
+    by_rank: VecDeque<Note>,
+    // Where files expire, from the oldest on, with the same capacity.
+    by_age: VecDeque<Note>,
     oldest_first: Order,
     // How many belong to each whole, and have an end of a penalty.
     counts: Counts,
@@ -116,7 +116,7 @@ impl Queue {
             in_flight: false,
         };
         let size = held.size();
-        put_number(&mut self.by_rank, &self.files, &self.order, &held);
+        put_note(&mut self.by_rank, &self.files, &self.order, &held);
         put_age(
             &mut self.by_age,
             &self.limits,
@@ -168,7 +168,7 @@ impl Queue {
         let Some(held) = self.files.get(number) else {
             unreachable!()
         };
-        take_number(&mut self.by_rank, &self.files, &self.order, held);
+        take_note(&mut self.by_rank, &self.files, &self.order, held);
         take_age(
             &mut self.by_age,
             &self.limits,

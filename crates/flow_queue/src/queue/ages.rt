@@ -1,4 +1,4 @@
-//! The numbers of a queue's files from the oldest on, where files expire: so that none is looked at while none has.
+//! A queue's files from the oldest on, where files expire: so that none is looked at while none has.
 ghost use Rattle.std.specs.Prelude.{◌≡◌, ◌+◌, ◌<◌, ◌≤◌, [], Some, false, length, OnErr, OnOk};
 ghost use Rattle.std.specs.VecDeque.{deque_capacity};
 ghost use Rattle.flowfile_record.specs.NumberedItems.{item_of};
@@ -6,7 +6,7 @@ ghost use Rattle.flow_queue.specs.Ages.{HasAges, HasAgeRoom};
 ghost use Rattle.flow_queue.specs.Picking.{expiring};
 ghost use Rattle.flow_queue.specs.Queue.{AreApart, IsApart, held_number, queue_with_file, views_of, without_file};
 
-use super::ranked::{put_number, take_number};
+use super::ranked::{Note, put_note, take_note};
 use crate::held::Held;
 use flowfile_record::NumberedList;
 use machine_model::QueueLimits;
@@ -16,7 +16,7 @@ use std::collections::VecDeque;
 
 // Makes room for so many more files. It fails only where there was less.
 pub(super) fn reserve_ages(
-    ages: &mut VecDeque<u64>,
+    ages: &mut VecDeque<Note>,
     limits: &QueueLimits,
     count: u32,
 ) -> Result<(), AllocError>
@@ -32,9 +32,9 @@ pub(super) fn reserve_ages(
     Ok(())
 }
 
-// Puts the number of a file that comes.
+// Notes a file that comes.
 pub(super) fn put_age(
-    ages: &mut VecDeque<u64>,
+    ages: &mut VecDeque<Note>,
     limits: &QueueLimits,
     files: &NumberedList<Held>,
     oldest_first: &Order,
@@ -50,13 +50,13 @@ pub(super) fn put_age(
     ensures capacity { deque_capacity ages.old ≤ deque_capacity ages.new }
 {
     if limits.expiration > 0 {
-        put_number(ages, files, oldest_first, held);
+        put_note(ages, files, oldest_first, held);
     }
 }
 
-// Takes out the number of a file that goes.
+// Takes out what is noted of a file that goes.
 pub(super) fn take_age(
-    ages: &mut VecDeque<u64>,
+    ages: &mut VecDeque<Note>,
     limits: &QueueLimits,
     files: &NumberedList<Held>,
     oldest_first: &Order,
@@ -70,13 +70,13 @@ pub(super) fn take_age(
     ensures capacity { deque_capacity ages.new ≡ deque_capacity ages.old }
 {
     if limits.expiration > 0 {
-        take_number(ages, files, oldest_first, held);
+        take_note(ages, files, oldest_first, held);
     }
 }
 
 // Whether a file may have expired: where the oldest one hasn't, none has.
 pub(super) fn may_have_expired(
-    ages: &VecDeque<u64>,
+    ages: &VecDeque<Note>,
     limits: &QueueLimits,
     files: &NumberedList<Held>,
     moment: u64,
@@ -88,10 +88,10 @@ pub(super) fn may_have_expired(
     if limits.expiration == 0 {
         return false;
     }
-    let Some(number) = ages.front() else {
+    let Some(note) = ages.front() else {
         return false;
     };
-    match files.get(*number) {
+    match files.get(note.number) {
         Some(oldest) => oldest.is_expired(limits, moment),
         None => true,
     }

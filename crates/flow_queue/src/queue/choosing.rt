@@ -12,7 +12,7 @@ ghost use Rattle.flow_queue.specs.Ranked.{eligible_among};
 use super::Queue;
 use super::ages::may_have_expired;
 use super::bins::pick_bin;
-use super::ranked::{best_of, first_eligible};
+use super::ranked::{Note, best_of, first_eligible};
 use super::swapping::{bytes_short_of, files_short_of};
 use super::wholes::pick_whole;
 use crate::held::Held;
@@ -138,7 +138,7 @@ fn list_expired(
 
 fn pick_by(
     rule: TakeRule,
-    by_rank: &VecDeque<u64>,
+    by_rank: &VecDeque<Note>,
     files: &NumberedList<Held>,
     limits: &QueueLimits,
     moment: u64,

@@ -1,4 +1,4 @@
-//! The numbers of a queue's files in its order, and the files that they stand for.
+//! A queue's files in its order, by what is noted of each.
 ghost use Rattle.std.specs.Prelude.{◌≡◌, ◌<◌, ◌≤◌, [], Some, false, length, take, slice_get, IfOk, IsOk};
 ghost use Rattle.std.specs.Option.{option_map};
 ghost use Rattle.std.specs.VecDeque.{deque_capacity, deque_len};
@@ -15,47 +15,58 @@ use prioritizer::Order;
 use std::alloc::{AllocError, Global};
 use std::collections::VecDeque;
 
-// Puts the number of a file that comes to those of the files.
-pub(super) fn put_number(
-    numbers: &mut VecDeque<u64>,
+// What an order notes of a file: by the end of its penalty it is passed over without a look at the file.
+#[derive(Debug, Drop)]
+pub(super) struct Note {
+    pub(super) number: u64,
+    pub(super) penalty_end: u64,
+}
+
+// Notes a file that comes.
+pub(super) fn put_note(
+    notes: &mut VecDeque<Note>,
     files: &NumberedList<Held>,
     order: &Order,
     held: &Held,
 )
     requires apart { AreApart files.now.items }
-    requires ranked { IsRanked order.now files.now.items numbers.old.items }
+    requires ranked { IsRanked order.now files.now.items notes.old.items }
     requires new { IsApart held.now.file files.now.items }
     requires rests { held.now.in_flight ≡ false }
-    requires room { length numbers.old.items < deque_capacity numbers.old }
-    ensures ranked { IsRanked order.now (queue_with_file held.now.file files.now.items) numbers.new.items }
-    ensures capacity { deque_capacity numbers.old ≤ deque_capacity numbers.new }
+    requires room { length notes.old.items < deque_capacity notes.old }
+    ensures ranked { IsRanked order.now (queue_with_file held.now.file files.now.items) notes.new.items }
+    ensures capacity { deque_capacity notes.old ≤ deque_capacity notes.new }
 {
-    let place = place_in_order(numbers, files, order, held);
-    let Ok(()) = numbers.insert(place, held.file.number) else {
+    let place = place_in_order(notes, files, order, held);
+    let note = Note {
+        number: held.file.number,
+        penalty_end: held.file.penalty_end,
+    };
+    let Ok(()) = notes.insert(place, note) else {
         unreachable!()
     };
 }
 
-// Takes the number of a file that goes out of those of the files.
-pub(super) fn take_number(
-    numbers: &mut VecDeque<u64>,
+// Takes out what is noted of a file that goes.
+pub(super) fn take_note(
+    notes: &mut VecDeque<Note>,
     files: &NumberedList<Held>,
     order: &Order,
     held: &Held,
 )
     requires apart { AreApart files.now.items }
-    requires ranked { IsRanked order.now files.now.items numbers.old.items }
+    requires ranked { IsRanked order.now files.now.items notes.old.items }
     requires there { item_of held_number (held_number held.now) files.now.items ≡ Some held.now }
-    ensures ranked { IsRanked order.now (without_file (held_number held.now) files.now.items) numbers.new.items }
-    ensures capacity { deque_capacity numbers.new ≡ deque_capacity numbers.old }
+    ensures ranked { IsRanked order.now (without_file (held_number held.now) files.now.items) notes.new.items }
+    ensures capacity { deque_capacity notes.new ≡ deque_capacity notes.old }
 {
-    let place = place_in_order(numbers, files, order, held);
-    numbers.remove(place);
+    let place = place_in_order(notes, files, order, held);
+    notes.remove(place);
 }
 
 // How many files go before one.
 fn place_in_order(
-    by_rank: &VecDeque<u64>,
+    by_rank: &VecDeque<Note>,
     files: &NumberedList<Held>,
     order: &Order,
     held: &Held,
@@ -65,7 +76,7 @@ fn place_in_order(
     ensures bound { result ≤ deque_len by_rank.now }
     ensures rank { IsRankOf order.now (held_view held.now) (in_order order.now (views_of files.now.items)) result }
 {
-    by_rank.partition_point(|number| goes_ahead(*number, files, order, held))
+    by_rank.partition_point(|note| goes_ahead(note.number, files, order, held))
 }
 
 // Whether the file of a number goes before one.
@@ -78,9 +89,9 @@ fn goes_ahead(number: u64, files: &NumberedList<Held>, order: &Order, held: &Hel
     }
 }
 
-// The first file that may be taken of those of some numbers.
+// The first file that may be taken of those that are noted.
 pub(super) fn best_of<'a>(
-    by_rank: &VecDeque<u64>,
+    by_rank: &VecDeque<Note>,
     files: &'a NumberedList<Held>,
     limits: &QueueLimits,
     moment: u64,
@@ -88,18 +99,18 @@ pub(super) fn best_of<'a>(
     ensures { option_map (λ held. held_view held.now) result
         ≡ slice_get (eligible_among limits.now moment files.now.items by_rank.now.items) 0 }
 {
-    for number in by_rank.iter() {
-        if let Some(held) = eligible(*number, files, limits, moment) {
+    for note in by_rank.iter() {
+        if let Some(held) = eligible(note, files, limits, moment) {
             return Some(held);
         }
     }
     None
 }
 
-// The first files that may be taken of those of some numbers, at most so many.
+// The first files that may be taken of those that are noted, at most so many.
 pub(super) fn first_eligible<'a>(
     alloc: Global,
-    by_rank: &VecDeque<u64>,
+    by_rank: &VecDeque<Note>,
     files: &'a NumberedList<Held>,
     limits: &QueueLimits,
     moment: u64,
@@ -110,27 +121,30 @@ pub(super) fn first_eligible<'a>(
     ensures free { eligible_among limits.now moment files.now.items by_rank.now.items ≡ [] → IsOk result }
 {
     let mut list = Vec::new(alloc);
-    for number in by_rank.iter() {
+    for note in by_rank.iter() {
         if list.len() == most {
             return Ok(list);
         }
-        if let Some(held) = eligible(*number, files, limits, moment) {
+        if let Some(held) = eligible(note, files, limits, moment) {
             list.push(held)?;
         }
     }
     Ok(list)
 }
 
-// The file of a number, where it may be taken.
+// The file that is noted, where it may be taken.
 fn eligible<'a>(
-    number: u64,
+    note: &Note,
     files: &'a NumberedList<Held>,
     limits: &QueueLimits,
     moment: u64,
 ) -> Option<&'a Held>
-    ensures { option_map (λ held. held_view held.now) result ≡ eligible_at limits.now moment files.now.items number }
+    ensures { option_map (λ held. held_view held.now) result ≡ eligible_at limits.now moment files.now.items note.now }
 {
-    let held = files.get(number)?;
+    if moment < note.penalty_end {
+        return None;
+    }
+    let held = files.get(note.number)?;
     if !held.is_eligible(limits, moment) {
         return None;
     }

@@ -9,10 +9,12 @@ ghost use Rattle.machine_model.specs.Files.{are_distinct};
 ghost use Rattle.flow_queue.specs.Counts.{AreCountsOf, count_places};
 ghost use Rattle.flow_queue.specs.Picking.{Picks, PicksAll};
 ghost use Rattle.flow_queue.specs.Queue.{queue_as_seen, held_number, held_bytes, without_file};
+ghost use Rattle.flow_queue.specs.Ranked.{numbers_noted};
 ghost use Rattle.flow_queue.specs.Swapping.{batch_due, batch_in, last_of, number_of_batch, with_batch, MayGoOut, swapped_out_of, IsBatchOf, MayComeIn, swapped_into, files_staying, is_resting, resting_among, is_held, without_batch};
 
 use super::Queue;
 use super::counts::Counts;
+use super::ranked::Note;
 use crate::batch::Batch;
 use crate::held::Held;
 use flowfile_record::{FlowFile, NumberedList};
@@ -122,24 +124,25 @@ fn least_of(limits: &QueueLimits) -> u64
 
 // The last numbers of files that no session works on, where there are enough of these.
 fn pick_last(
-    numbers: &VecDeque<u64>,
+    notes: &VecDeque<Note>,
     files: &NumberedList<Held>,
     limits: &QueueLimits,
     resting: u64,
     list: &mut Vec<u64>,
 ) -> Result<bool, AllocError>
-    requires count { resting ≡ length (resting_among files.now.items numbers.now.items) }
+    requires count { resting ≡ length (resting_among files.now.items (numbers_noted notes.now.items)) }
     requires empty { list.old.items ≡ [] }
-    ensures picks { Picks (last_of limits.now (resting_among files.now.items numbers.now.items))
+    ensures picks { Picks (last_of limits.now (resting_among files.now.items (numbers_noted notes.now.items)))
         result list.new.items }
-    ensures free { last_of limits.now (resting_among files.now.items numbers.now.items) ≡ None → IsOk result }
+    ensures free { last_of limits.now (resting_among files.now.items (numbers_noted notes.now.items)) ≡ None
+        → IsOk result }
 {
     let least = least_of(limits);
     if resting < least {
         return Ok(false);
     }
     let size = u64::from(limits.swap / 2);
-    list_resting(numbers, files, resting - size, list)?;
+    list_resting(notes, files, resting - size, list)?;
     Ok(true)
 }
 
@@ -156,26 +159,27 @@ fn count_resting(files: &NumberedList<Held>) -> u64
     resting
 }
 
-// The numbers of the files that no session works on, in the order of these numbers, but for the first ones.
+// The numbers of the files that no session works on, in the order in which they are noted, but for the first ones.
 fn list_resting(
-    numbers: &VecDeque<u64>,
+    notes: &VecDeque<Note>,
     files: &NumberedList<Held>,
     skipped: u64,
     list: &mut Vec<u64>,
 ) -> Result<(), AllocError>
     requires { list.old.items ≡ [] }
-    ensures { PicksAll (drop skipped (resting_among files.now.items numbers.now.items)) result list.new.items }
+    ensures { PicksAll (drop skipped (resting_among files.now.items (numbers_noted notes.now.items)))
+        result list.new.items }
 {
     let mut left = skipped;
-    for number in numbers.iter() {
-        if !is_resting(*number, files) {
+    for note in notes.iter() {
+        if !is_resting(note.number, files) {
             continue;
         }
         if left > 0 {
             left -= 1;
             continue;
         }
-        if let Err(error) = list.push(*number) {
+        if let Err(error) = list.push(note.number) {
             list.clear();
             return Err(error.into());
         }
@@ -230,15 +234,15 @@ fn take_held(files: &mut NumberedList<Held>, number: u64) -> Held
     held
 }
 
-// Keeps the numbers that are those of files.
-fn keep_standing(numbers: &mut VecDeque<u64>, files: &NumberedList<Held>)
-    ensures numbers { numbers.new.items ≡ filter (is_held files.now.items) numbers.old.items }
-    ensures capacity { deque_capacity numbers.new ≡ deque_capacity numbers.old }
+// Keeps what is noted of files that are there.
+fn keep_standing(notes: &mut VecDeque<Note>, files: &NumberedList<Held>)
+    ensures notes { notes.new.items ≡ filter (is_held files.now.items) notes.old.items }
+    ensures capacity { deque_capacity notes.new ≡ deque_capacity notes.old }
 {
-    numbers.retain(
-        |number: &u64| -> bool
-            ensures { result ≡ is_held files.entry.now.items number.now }
-        { files.get(*number).is_some() },
+    notes.retain(
+        |note: &Note| -> bool
+            ensures { result ≡ is_held files.entry.now.items note.now }
+        { files.get(note.number).is_some() },
     );
 }
 

@@ -10,8 +10,8 @@ use Rattle.flow_queue.proofs.ForCallers.{its-number}
 use Rattle.flow_queue.proofs.Ranks.{ranked-length, still-ranked}
 use Rattle.flow_queue.proofs.queue.Queue.leave.Goals as goal
 
-pub take_number-requires-clause-there : goal.take_number-requires-clause-there
-take_number-requires-clause-there c =
+pub take_note-requires-clause-there : goal.take_note-requires-clause-there
+take_note-requires-clause-there c =
     let files = c.self.inside.files.items in
     let found : item_of held_number c.args.number files ≡ Some c.in-Some.held.now = sym c.in-Some.ensures in
     ap (λ m. item_of held_number m files) (its-number c.args.number c.in-Some.held.now files found) ∙ found
@@ -48,8 +48,8 @@ invariant_of-self c =
     let without = c.in-Some-take.ensures.items ∙ ap (λ m. without_file m files) (sym same) in
     record {
       files = subst (λ fs. AreSound fs (queue.bytes - c.from.result)) (sym c.in-Some-take.ensures.items) sound;
-      ranked = still-ranked queue.order _ _ _ _ without refl c.take_number.ensures.ranked;
-      room = omega (arith, c.self.invariant.room, left, ap length c.in-Some-take.ensures.items, c.in-Some-take.ensures.room, c.take_number.ensures.capacity);
+      ranked = still-ranked queue.order _ _ _ _ without refl c.take_note.ensures.ranked;
+      room = omega (arith, c.self.invariant.room, left, ap length c.in-Some-take.ensures.items, c.in-Some-take.ensures.room, c.take_note.ensures.capacity);
       oldest_first = c.self.invariant.oldest_first;
       ages = λ expire. still-ranked [] _ _ _ _ without refl (c.take_age.ensures.ages expire);
       age_room = λ expire. omega (arith, c.self.invariant.age_room expire, left, ap length c.in-Some-take.ensures.items, c.in-Some-take.ensures.room, c.take_age.ensures.capacity);

@@ -9,11 +9,11 @@ use Rattle.flow_queue.proofs.Fields.{new-number, sum_fits, sound-put}
 use Rattle.flow_queue.proofs.Ranks.{ranked-length, still-ranked}
 use Rattle.flow_queue.proofs.queue.Queue.put.Goals as goal
 
-pub put_number-requires-clause-new : goal.put_number-requires-clause-new
-put_number-requires-clause-new c = subst (IsApart c.args.file) (ap (λ q. q.files) (sym c.self.view_is)) c.requires.apart
+pub put_note-requires-clause-new : goal.put_note-requires-clause-new
+put_note-requires-clause-new c = subst (IsApart c.args.file) (ap (λ q. q.files) (sym c.self.view_is)) c.requires.apart
 
-pub put_number-requires-clause-room : goal.put_number-requires-clause-room
-put_number-requires-clause-room c =
+pub put_note-requires-clause-room : goal.put_note-requires-clause-room
+put_note-requires-clause-room c =
     let queue = c.self.inside in
     let long = ranked-length queue.order queue.files.items queue.by_rank.items c.self.invariant.ranked in
     omega (arith, c.self.invariant.room, long, c.requires.room, ap (λ q. q.spare) c.self.view_is)
@@ -55,8 +55,8 @@ invariant_of-self c =
     let sound = sound-put c.args.file files apart queue.bytes (queue.bytes + c.from.result) c.self.invariant.files (ap (λ n. queue.bytes + n) (c.from.ensures ∙ c.size-size.ensures)) small in
     record {
       files = subst (λ fs. AreSound fs (queue.bytes + c.from.result)) (sym c.put.ensures.items) sound;
-      ranked = still-ranked queue.order _ _ _ _ c.put.ensures.items refl c.put_number.ensures.ranked;
-      room = omega (arith, c.self.invariant.room, ap length c.put.ensures.items, length-with held_number new files, c.put.ensures.room, c.put_number.ensures.capacity);
+      ranked = still-ranked queue.order _ _ _ _ c.put.ensures.items refl c.put_note.ensures.ranked;
+      room = omega (arith, c.self.invariant.room, ap length c.put.ensures.items, length-with held_number new files, c.put.ensures.room, c.put_note.ensures.capacity);
       oldest_first = c.self.invariant.oldest_first;
       ages = λ expire. still-ranked [] _ _ _ _ c.put.ensures.items refl (c.put_age.ensures.ages expire);
       age_room = λ expire. omega (arith, c.self.invariant.age_room expire, ap length c.put.ensures.items, length-with held_number new files, c.put.ensures.room, c.put_age.ensures.capacity);

@@ -27,11 +27,11 @@ invariant_of-self c =
     let sound = sound-kept stays files queue.bytes (queue.bytes - c.take_files-bytes.result) c.self.invariant.files left in
     record {
       files = subst (λ fs. AreSound fs (queue.bytes - c.take_files-bytes.result)) (sym taken) sound;
-      ranked = still-ranked queue.order _ _ _ _ taken (c.keep_standing.ensures.numbers ∙ ap (λ fs. filter (is_held fs) queue.by_rank.items) taken)
+      ranked = still-ranked queue.order _ _ _ _ taken (c.keep_standing.ensures.notes ∙ ap (λ fs. filter (is_held fs) queue.by_rank.items) taken)
           (ranked-kept queue.order files queue.by_rank.items c.self.invariant.files.apart c.self.invariant.ranked stays);
       room = omega (arith, c.self.invariant.room, c.take_files-bytes.ensures.room, c.take_files-bytes.ensures.count, c.keep_standing.ensures.capacity);
       oldest_first = c.self.invariant.oldest_first;
-      ages = λ expire. still-ranked [] _ _ _ _ taken (c.keep_standing-2.ensures.numbers ∙ ap (λ fs. filter (is_held fs) queue.by_age.items) taken)
+      ages = λ expire. still-ranked [] _ _ _ _ taken (c.keep_standing-2.ensures.notes ∙ ap (λ fs. filter (is_held fs) queue.by_age.items) taken)
           (ranked-kept [] files queue.by_age.items c.self.invariant.files.apart (c.self.invariant.ages expire) stays);
       age_room = λ expire. omega (arith, c.self.invariant.age_room expire, c.take_files-bytes.ensures.room, c.take_files-bytes.ensures.count, c.keep_standing-2.ensures.capacity);
       counts = c.take_files-bytes.ensures.counted;

@@ -23,6 +23,6 @@ returns-in_default c _ =
 pub returns-in-Some-get : goal.returns-in-Some-get
 returns-in-Some-get c fresh =
     let ages = c.args.ages.now in
-    none-older c.args.limits.now c.args.moment c.args.files.now.items c.requires.apart ages.items c.in-Some.number.now c.in-Some-get.oldest.now
+    none-older c.args.limits.now c.args.moment c.args.files.now.items c.requires.apart ages.items c.in-Some.note.now c.in-Some-get.oldest.now
     (c.requires.ages (omega (arith, c.if-limits-eq0.false))) (omega (arith, c.in-Some.ensures.variant.0 refl, ages.ok.0)) c.in-Some.ensures.lookup
     (sym c.in-Some-get.ensures) (sym c.is_expired.ensures ∙ fresh)

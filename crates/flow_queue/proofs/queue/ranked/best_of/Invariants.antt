@@ -5,9 +5,9 @@ use Rattle.flow_queue.specs.Ranked.{eligible_among}
 use Rattle.flow_queue.proofs.queue.ranked.best_of.Given as goal
 
 -- the first of the files of the numbers that are left
-abbrev pub invariant-loop-number : goal.invariant-loop-number
-invariant-loop-number l = record {
-  next : (goal.iterator-loop-number).can_next l.number-iterator;
-  finite : (goal.iterator-loop-number).is_finite l.number-iterator;
-  first : slice_get (eligible_among l.limits l.moment l.files.items (deque_iter_rest l.number-iterator)) 0 ≡ slice_get (eligible_among l.limits l.moment l.files.items l.by_rank.items) 0;
+abbrev pub invariant-loop-note : goal.invariant-loop-note
+invariant-loop-note l = record {
+  next : (goal.iterator-loop-note).can_next l.note-iterator;
+  finite : (goal.iterator-loop-note).is_finite l.note-iterator;
+  first : slice_get (eligible_among l.limits l.moment l.files.items (deque_iter_rest l.note-iterator)) 0 ≡ slice_get (eligible_among l.limits l.moment l.files.items l.by_rank.items) 0;
 }

@@ -5,10 +5,10 @@ use Rattle.flow_queue.specs.Ranked.{eligible_among}
 use Rattle.flow_queue.proofs.queue.ranked.first_eligible.Given as goal
 
 -- the files so far, and those of the numbers that are left
-abbrev pub invariant-loop-number : goal.invariant-loop-number
-invariant-loop-number l = record {
-  next : (goal.iterator-loop-number).can_next l.number-iterator;
-  finite : (goal.iterator-loop-number).is_finite l.number-iterator;
+abbrev pub invariant-loop-note : goal.invariant-loop-note
+invariant-loop-note l = record {
+  next : (goal.iterator-loop-note).can_next l.note-iterator;
+  finite : (goal.iterator-loop-note).is_finite l.note-iterator;
   most : length l.list.items ≤ l.most;
-  files : views_at l.list.items ++ eligible_among l.limits l.moment l.files.items (deque_iter_rest l.number-iterator) ≡ eligible_among l.limits l.moment l.files.items l.by_rank.items;
+  files : views_at l.list.items ++ eligible_among l.limits l.moment l.files.items (deque_iter_rest l.note-iterator) ≡ eligible_among l.limits l.moment l.files.items l.by_rank.items;
 }

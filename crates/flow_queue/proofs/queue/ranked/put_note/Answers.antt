@@ -4,7 +4,7 @@ use Rattle.flow_queue.specs.declared.held.Held.{Held}
 use Rattle.flow_queue.specs.Queue.{held_view, views_of}
 use Rattle.flow_queue.specs.Ranked.{IsRankOf}
 use Rattle.flow_queue.proofs.Ranks.{ranked-put}
-use Rattle.flow_queue.proofs.queue.ranked.put_number.Goals as goal
+use Rattle.flow_queue.proofs.queue.ranked.put_note.Goals as goal
 
 pub returns-clause-ranked : goal.returns-clause-ranked
 returns-clause-ranked c =
@@ -14,7 +14,7 @@ returns-clause-ranked c =
     let place = c.place_in_order-place.result in
     let rests : held ≡ record { file = held.file; in_flight = false } = λ j. record { file = held.file; in_flight = c.requires.rests j } in
     c.in-Ok.ensures.items
-    ∙ ranked-put order files c.args.numbers.now.items c.requires.apart c.requires.ranked held.file place c.requires.new
+    ∙ ranked-put order files c.args.notes.now.items c.requires.apart c.requires.ranked held.file place c.requires.new
     (subst (λ (h : Held). IsRankOf order (held_view h) (in_order order (views_of files)) place) rests c.place_in_order-place.ensures.rank)
 
 pub returns-clause-capacity : goal.returns-clause-capacity
