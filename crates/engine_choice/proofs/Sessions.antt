@@ -32,8 +32,8 @@ use Rattle.engine_queues.specs.Laws.{SeesTheSame}
 use Rattle.engine_choice.specs.declared.choice.Choice.{Choice}
 use Rattle.engine_choice.specs.declared.choice.Taking.{Taking}
 use Rattle.engine_choice.specs.declared.choice.Taking.TheVariants.{Files, Generate, Receive}
-use Rattle.engine_choice.specs.Choice.{Known, choice_at, choice_of, coming_of, fits_content, in_turn, is_ready, may_begin, next_choice, place_behind, taking_by, taking_of}
-use Rattle.engine_choice.specs.Laws.{ChoicesAreSessions, given_for, numbers_in}
+use Rattle.engine_choice.specs.Choice.{Known, ProcessorTakes, choice_at, choice_of, coming_of, fits_content, in_turn, is_ready, may_begin, next_choice, place_behind, taking_by, taking_of}
+use Rattle.engine_choice.specs.Laws.{ChoicesAreSessions, TakingsAreSessions, given_for, numbers_in}
 use Rattle.engine_choice.proofs.AtRest.{MayTakeAtRest, eligible-beside, queue-without, takes-at-rest, valid-without, without_out}
 use Rattle.engine_choice.proofs.Found.{Each, Stands, GivenBy, each-among, each-append, each-drop, each-of, each-take, each-passed, each-stands, each-weaker, found, given-by}
 
@@ -52,11 +52,6 @@ choice-parts true place (Some taking) choice is =
     record { processor = ap (λ c. c.processor) same; taking = ap (λ c. Some c.taking) same }
 
 module _ (flow : Flow) (known : Known) where
-  pub record IsChosen (choice : Choice) : Type 0 where
-    pub processor : Processor
-    pub there : slice_get flow.processors choice.processor ≡ Some processor
-    pub taking : taking_of flow known (choice.processor, processor) ≡ Some choice.taking
-
   each-in-turn : (last : Option ℕ) → Each (Stands flow.processors) (in_turn last (enumerate_from 0 flow.processors))
   each-in-turn last =
       let all = enumerate_from 0 flow.processors in
@@ -64,11 +59,11 @@ module _ (flow : Flow) (known : Known) where
       each-append (Stands flow.processors) (drop (place_behind last) all) (take (place_behind last) all)
       (each-drop (Stands flow.processors) (place_behind last) all each) (each-take (Stands flow.processors) (place_behind last) all each)
 
-  pub chosen : (last : Option ℕ) (choice : Choice) → next_choice flow known last ≡ Some choice → IsChosen choice
+  pub chosen : (last : Option ℕ) (choice : Choice) → next_choice flow known last ≡ Some choice → ProcessorTakes flow known choice
   chosen last choice is = by_found (find (is_ready flow known) (in_turn last (enumerate_from 0 flow.processors))) refl is
     where
       by_found : (o : Option (ℕ × Processor)) → find (is_ready flow known) (in_turn last (enumerate_from 0 flow.processors)) ≡ o
-          → option_and_then (choice_of flow known) o ≡ Some choice → IsChosen choice
+          → option_and_then (choice_of flow known) o ≡ Some choice → ProcessorTakes flow known choice
       by_found None e is = cc
       by_found (Some (place, processor)) e is =
           let parts = choice-parts (may_begin flow known (place, processor)) place (taking_of flow known (place, processor)) choice is in
@@ -229,9 +224,8 @@ module _ (flow : Flow) (state : State) (world : World) (out : List ℕ) (coming 
       handled-pick (PutFile conflict) taking (λ files given there. (given, ap (λ b. cond (same_bool b (is_there world files)) (Some given) None) there ∙ ap (λ b. cond b (Some given) None) (same-same (is_there world files)))) may is
   handled kind taking may is = handled-pick kind taking (λ files given there. (given, refl)) may is
 
-pub choices-are-sessions : PicksMayBeTaken → OneConnectionHas → ChoicesAreSessions
-choices-are-sessions law one_has flow state world out known last choice valid knows is =
-    let it = chosen flow known last choice is in
+pub takings-are-sessions : PicksMayBeTaken → OneConnectionHas → TakingsAreSessions
+takings-are-sessions law one_has flow state world out known choice valid knows it =
     let place = choice.processor in
     let pick = first_pick flow known.queues known.moment (place, it.processor) in
     let taking : taking_by it.processor.kind known.coming (slice_index state.counts place) (slice_index known.busy place) pick ≡ Some choice.taking =
@@ -239,3 +233,7 @@ choices-are-sessions law one_has flow state world out known last choice valid kn
     let done = handled flow state world out known.coming knows.coming known.moment place (slice_index known.busy place) pick it.processor.kind choice.taking
     (picks-taken law one_has flow known.queues state out known.moment valid knows.seen place it.processor) taking in
     (record { processor = it.processor; files = done.files; handed = done.handed; found = it.there; taken = done.taken; given = done.given }, done.at_rest)
+
+pub choices-are-sessions : PicksMayBeTaken → OneConnectionHas → ChoicesAreSessions
+choices-are-sessions law one_has flow state world out known last choice valid knows is =
+    takings-are-sessions law one_has flow state world out known choice valid knows (chosen flow known last choice is)

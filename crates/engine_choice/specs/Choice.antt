@@ -1,5 +1,5 @@
 -- Which session comes next.
-use Rattle.std.specs.Prelude.{◌≡◌, ℕ, ◌+◌, ◌≤◌, ◌&&◌, not, nat_lt, nat_le, Bool, false, List, [], length, filter, take, drop, ◌++◌, find, Option, None, Some, is_some, option_map, option_and_then, slice_index, if◌then◌else◌}
+use Rattle.std.specs.Prelude.{◌≡◌, ℕ, ◌+◌, ◌≤◌, ◌&&◌, ◌||◌, not, nat_lt, nat_le, Bool, false, List, [], length, filter, take, drop, ◌++◌, find, Option, None, Some, is_some, option_map, option_and_then, slice_get, slice_index, if◌then◌else◌}
 use Rattle.std.specs.List.{enumerate_from, flat_map}
 use Rattle.std.specs.Option.{option_map_or}
 use Rattle.flowfile_record.specs.NamedFile.{bytes_of}
@@ -11,6 +11,7 @@ use Rattle.machine_model.specs.declared.kind.Kind.{Kind}
 use Rattle.machine_model.specs.declared.kind.Kind.TheVariants.{GetFile, GenerateFlowFile}
 use Rattle.machine_model.specs.Acting.{passes}
 use Rattle.machine_model.specs.Files.{queues_of}
+use Rattle.machine_model.specs.Kinds.{is_source}
 use Rattle.machine_model.specs.Quiet.{is_held_back, holds_back_any}
 use Rattle.machine_model.specs.State.{State, World}
 use Rattle.machine_model.specs.View.{QueueView}
@@ -18,6 +19,7 @@ use Rattle.flow_queue.specs.Queue.{QueueState, next_penalty_end}
 use Rattle.engine_queues.specs.Picking.{AreOf, first_pick}
 use Rattle.engine_queues.specs.Listing.{Left, names_left}
 use Rattle.engine_queues.specs.Queues.{queue_seen}
+use Rattle.engine_queues.specs.Waiting.{files_wait_for}
 use Rattle.engine_choice.specs.declared.choice.Choice.{Choice}
 use Rattle.engine_choice.specs.declared.choice.Ending.{Ending}
 use Rattle.engine_choice.specs.declared.choice.Ending.TheVariants.{Rest, Blocked, Quiet}
@@ -72,6 +74,16 @@ abbrev pub taking_of : Flow → Known → ℕ × Processor → Option Taking
 taking_of flow known (place, processor) =
     taking_by processor.kind known.coming (slice_index known.counts place) (slice_index known.busy place)
     (first_pick flow known.queues known.moment (place, processor))
+
+-- The choice is what its processor takes, whether another session comes before it or not.
+pub record ProcessorTakes (flow : Flow) (known : Known) (choice : Choice) : Type 0 where
+  pub processor : Processor
+  pub there : slice_get flow.processors choice.processor ≡ Some processor
+  pub taking : taking_of flow known (choice.processor, processor) ≡ Some choice.taking
+
+-- files wait for the processor, or it is a source: any other one has nothing to take
+abbrev pub may_take : Flow → (ℕ → QueueView) → ℕ × Processor → Bool
+may_take flow queues (place, processor) = files_wait_for flow queues place || is_source processor.kind
 
 -- fewer sessions of the processor are in flight than it may have, and no full connection leaves it
 abbrev pub may_begin : Flow → Known → ℕ × Processor → Bool

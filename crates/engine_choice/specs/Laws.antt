@@ -19,7 +19,7 @@ use Rattle.engine_choice.specs.declared.choice.Ending.{Ending}
 use Rattle.engine_choice.specs.declared.choice.Ending.TheVariants.{Rest, Blocked, Quiet}
 use Rattle.engine_choice.specs.declared.choice.Taking.{Taking}
 use Rattle.engine_choice.specs.declared.choice.Taking.TheVariants.{Files, Generate, Receive}
-use Rattle.engine_choice.specs.Choice.{Known, coming_of, ending_of, next_choice}
+use Rattle.engine_choice.specs.Choice.{Known, ProcessorTakes, coming_of, ending_of, next_choice}
 
 -- ---- a session
 
@@ -62,6 +62,14 @@ abbrev pub ChoicesAreSessions : Type 0
 ChoicesAreSessions =
     (flow : Flow) (state : State) (world : World) (out : List ℕ) (known : Known) (last : Option ℕ) (choice : Choice)
     → IsValid flow state → IsKnownOf flow state world out known → next_choice flow known last ≡ Some choice
+    → IsSessionAt flow state world known.moment choice
+    × All (λ number. is_out out number ≡ false) (numbers_in choice.taking)
+
+-- what a processor takes is a session of the machine, and none of the files that are out, whichever session comes next
+abbrev pub TakingsAreSessions : Type 0
+TakingsAreSessions =
+    (flow : Flow) (state : State) (world : World) (out : List ℕ) (known : Known) (choice : Choice)
+    → IsValid flow state → IsKnownOf flow state world out known → ProcessorTakes flow known choice
     → IsSessionAt flow state world known.moment choice
     × All (λ number. is_out out number ≡ false) (numbers_in choice.taking)
 

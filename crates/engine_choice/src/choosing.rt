@@ -1,12 +1,15 @@
 //! Which session comes next, and how it ends where none does.
-ghost use Rattle.std.specs.Prelude.{◌≡◌, ◌+◌, ◌<◌, ◌≤◌, nat_lt, None, Some, length, map, IfOk, slice_get, slice_index, option_map, if◌then◌else◌};
+ghost use Rattle.std.specs.Prelude.{◌≡◌, ℕ, ◌+◌, ◌<◌, ◌≤◌, nat_lt, None, Some, length, map, IfOk, slice_get, slice_index, option_map, if◌then◌else◌};
 ghost use Rattle.machine_model.specs.declared.flow.Processor.{Processor};
 ghost use Rattle.machine_model.specs.declared.limits.TheConstants.{CONNECTIONS_MAX};
+ghost use Rattle.machine_model.specs.Kinds.{is_source};
 ghost use Rattle.machine_model.specs.Quiet.{is_held_back};
+ghost use Rattle.machine_model.specs.View.{QueueView};
 ghost use Rattle.engine_queues.specs.Picking.{AreOf, first_pick};
 ghost use Rattle.engine_queues.specs.Queues.{queue_seen};
+ghost use Rattle.engine_queues.specs.Waiting.{AreWaits};
 ghost use Rattle.engine_choice.specs.declared.choice.Taking.TheVariants.{Files, Generate, Receive};
-ghost use Rattle.engine_choice.specs.Choice.{Known, known_by, MayChoose, may_begin, taking_of, place_within, choice_of, next_choice, takers, ending_of};
+ghost use Rattle.engine_choice.specs.Choice.{Known, known_by, MayChoose, may_begin, may_take, taking_of, place_within, choice_of, next_choice, takers, ending_of};
 ghost use Rattle.engine_choice.specs.First.{IsFirstGiven};
 
 use crate::{Choice, Ending, Taking};
@@ -33,11 +36,14 @@ pub fn choose(
 {
     let count = flow.processors.len() as u16;
     let start = place_behind(last, count);
+    let waits = queues.files_wait_for(alloc, flow)?;
     match first_choice(
-        alloc, flow, queues, counts, busy, listing, moment, start, count,
+        alloc, flow, queues, &waits, counts, busy, listing, moment, start, count,
     )? {
         Some(choice) => Ok(Some(choice)),
-        None => first_choice(alloc, flow, queues, counts, busy, listing, moment, 0, start),
+        None => first_choice(
+            alloc, flow, queues, &waits, counts, busy, listing, moment, 0, start,
+        ),
     }
 }
 
@@ -81,6 +87,7 @@ fn first_choice(
     alloc: Global,
     flow: &Flow,
     queues: &Queues,
+    waits: &[bool],
     counts: &[u64],
     busy: &[u16],
     listing: &Listing,
@@ -89,6 +96,7 @@ fn first_choice(
     end: u16,
 ) -> Result<Option<Choice>, AllocError>
     requires may { MayChoose flow.now queues.now counts.now listing.now }
+    requires waits { AreWaits flow.now (queue_seen queues.now) waits.now }
     requires end { end ≤ length flow.now.processors }
     ensures { IfOk result (IsFirstGiven
         (choice_of flow.now (known_by queues.now counts.now busy.now listing.now moment))
@@ -96,7 +104,7 @@ fn first_choice(
 {
     for processor in start..end {
         if let Some(choice) = choice_for(
-            alloc, flow, queues, counts, busy, listing, moment, processor,
+            alloc, flow, queues, waits, counts, busy, listing, moment, processor,
         )? {
             return Ok(Some(choice));
         }
@@ -109,6 +117,7 @@ fn choice_for(
     alloc: Global,
     flow: &Flow,
     queues: &Queues,
+    waits: &[bool],
     counts: &[u64],
     busy: &[u16],
     listing: &Listing,
@@ -116,10 +125,14 @@ fn choice_for(
     processor: u16,
 ) -> Result<Option<Choice>, AllocError>
     requires may { MayChoose flow.now queues.now counts.now listing.now }
+    requires waits { AreWaits flow.now (queue_seen queues.now) waits.now }
     requires processor { processor < length flow.now.processors }
     ensures { IfOk result (λ choice. (p : Processor) → slice_get flow.now.processors processor ≡ Some p
         → choice ≡ choice_of flow.now (known_by queues.now counts.now busy.now listing.now moment) (processor, p)) }
 {
+    if !may_take(flow, waits, processor) {
+        return Ok(None);
+    }
     if !may_begin(flow, queues, busy, listing, processor) {
         return Ok(None);
     }
@@ -158,8 +171,8 @@ fn takers(
     Ok(takers)
 }
 
-// What a session of a processor takes.
-fn taking_for(
+/// What a session of a processor takes, whether another one comes before it or not.
+pub fn taking_for(
     alloc: Global,
     flow: &Flow,
     queues: &Queues,
@@ -192,6 +205,24 @@ fn sessions_of(busy: &[u16], place: usize) -> u16
         Some(sessions) => *sessions,
         None => 0,
     }
+}
+
+// Whether a processor may have something to take: files wait for it, or it is a source. Any other one isn't asked
+// further.
+fn may_take(flow: &Flow, waits: &[bool], processor: u16) -> bool
+    requires waits { length waits.now ≡ length flow.now.processors }
+    requires processor { processor < length flow.now.processors }
+    ensures { (queues : ℕ → QueueView) (p : Processor) → AreWaits flow.now queues waits.now
+        → slice_get flow.now.processors processor ≡ Some p → result ≡ may_take flow.now queues (processor, p) }
+{
+    let place = usize::from(processor);
+    waits[place] || is_source(&flow.processors.as_slice()[place].kind)
+}
+
+fn is_source(kind: &Kind) -> bool
+    ensures { result ≡ is_source kind.now }
+{
+    matches!(kind, Kind::GetFile { .. } | Kind::GenerateFlowFile { .. })
 }
 
 // Whether a processor may begin a session: it has fewer in flight than it may have, and no full connection leaves it.

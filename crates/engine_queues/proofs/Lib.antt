@@ -21,4 +21,5 @@ pub mod Shown
 pub mod Left
 pub mod Moved
 pub mod Sources
+pub mod Waiting
 pub mod Walked

@@ -8,3 +8,4 @@ pub mod Picking
 pub mod Queues
 pub mod Settling
 pub mod Views
+pub mod Waiting

@@ -5,6 +5,7 @@ ghost use Rattle.checkpoint_store.specs.Consistent.{IsConsistent};
 ghost use Rattle.flow_queue.specs.Queue.{IsApart, queue_with_file};
 ghost use Rattle.engine_queues.specs.Queues.{AreQueuesOf};
 ghost use Rattle.engine_queues.specs.Opening.{empty_queue};
+ghost use Rattle.engine_queues.specs.Waiting.{has_files};
 
 use crate::Queues;
 use flow_queue::Queue;
@@ -23,8 +24,20 @@ impl Queues {
         for active in stored.files.iter() {
             put_copy(&mut list[usize::from(active.connection)], &active.file)?;
         }
-        Ok(Queues { list })
+        let occupied = occupied_by(alloc, &list)?;
+        Ok(Queues { list, occupied })
     }
+}
+
+// Which of these queues have files.
+fn occupied_by(alloc: Global, queues: &[Queue]) -> Result<Vec<bool>, AllocError>
+    ensures { IfOk result (λ occupied. occupied.items ≡ map has_files queues.now) }
+{
+    let mut occupied = Vec::new(alloc);
+    for queue in queues {
+        occupied.push(queue.len() > 0)?;
+    }
+    Ok(occupied)
 }
 
 // A queue without files for each connection.

@@ -1,5 +1,5 @@
 //! What the queues of a flow answer.
-ghost use Rattle.std.specs.Prelude.{◌≡◌, ℕ, ◌<◌, ◌≤◌, min, List, Some, length, map, find, slice_get, option_map, is_some, IfOk};
+ghost use Rattle.std.specs.Prelude.{◌≡◌, ℕ, ◌<◌, ◌≤◌, min, true, List, Some, length, map, set, find, slice_get, option_map, is_some, IfOk};
 ghost use Rattle.std.specs.List.{list_any, enumerate_from, filter_map, flat_map, reduce};
 ghost use Rattle.machine_model.specs.declared.limits.TheConstants.{CONNECTIONS_MAX};
 ghost use Rattle.machine_model.specs.declared.flow.Flow.{Flow as TheFlow};
@@ -10,6 +10,7 @@ ghost use Rattle.machine_model.specs.View.{QueueView};
 ghost use Rattle.flow_queue.specs.Queue.{queue_as_seen, next_penalty_end};
 ghost use Rattle.engine_queues.specs.Queues.{queue_seen};
 ghost use Rattle.engine_queues.specs.Picking.{AreOf, picked_from, first_pick};
+ghost use Rattle.engine_queues.specs.Waiting.{AreWaits};
 
 use crate::{LinkedFlow, Queues};
 use flow_queue::{Queue, TakeRule};
@@ -39,17 +40,34 @@ impl Queues {
             → option_map (λ expiry. (expiry.connection, expiry.numbers)) due
             ≡ due_expiry flow (queue_seen self.now) moment) }
     {
-        for (place, queue) in self.list.iter().enumerate() {
-            let mut numbers = Vec::new(alloc);
-            queue.expired(moment, &mut numbers)?;
-            if !numbers.is_empty() {
-                return Ok(Some(Expiry {
-                    connection: place as u16,
-                    numbers: Numbers::from(numbers),
-                }));
+        for (place, is_occupied) in self.occupied.iter().enumerate() {
+            if *is_occupied {
+                let mut numbers = Vec::new(alloc);
+                self.list[place].expired(moment, &mut numbers)?;
+                if !numbers.is_empty() {
+                    return Ok(Some(Expiry {
+                        connection: place as u16,
+                        numbers: Numbers::from(numbers),
+                    }));
+                }
             }
         }
         Ok(None)
+    }
+
+    /// For each processor, by its place, whether files wait for it: whether a connection that ends at it has some, in
+    /// flight or not.
+    pub fn files_wait_for(&self, alloc: Global, flow: &Flow) -> Result<Vec<bool>, AllocError>
+        requires { AreOf flow.now self.now }
+        ensures { IfOk result (λ waits. AreWaits flow.now (queue_seen self.now) waits.items) }
+    {
+        let mut waits = vec![in alloc; false; flow.processors.len() as usize]?;
+        for (place, is_occupied) in self.occupied.iter().enumerate() {
+            if *is_occupied {
+                mark_waiting(&mut waits, flow.connections.as_slice()[place].target);
+            }
+        }
+        Ok(waits)
     }
 
     /// The first connection that ends at a processor and from which its rule picks, with what it picks.
@@ -134,6 +152,16 @@ impl Queues {
         ensures { result ≡ next_penalty_end moment (flat_map (λ queue. (queue_as_seen queue).active) self.now) }
     {
         next_end(&self.list, moment)
+    }
+}
+
+// Marks that files wait for a processor.
+fn mark_waiting(waits: &mut Vec<bool>, processor: u16)
+    ensures { waits.new.items ≡ set waits.old.items processor true }
+{
+    let place = usize::from(processor);
+    if place < waits.len() {
+        waits[place] = true;
     }
 }
 

@@ -8,6 +8,8 @@ use std::marker::Model;
 #[derive(Drop)]
 pub struct Queues {
     pub(crate) list: Vec<Queue>,
+    // Which of them have files, so that the others needn't be looked at.
+    pub(crate) occupied: Vec<bool>,
 }
 
 impl Model for Queues {
@@ -21,6 +23,11 @@ impl Model for Queues {
     ghost coded = { Prim.hlevel (codes, attributes.the_row.coded) };
 
     ghost view = { λ queues. queues.list.items };
+
+    ghost use Rattle.std.specs.Prelude.{◌≡◌, map};
+    ghost use Rattle.engine_queues.specs.Waiting.{has_files};
+
+    ghost invariant = { λ queues. queues.occupied.items ≡ map has_files queues.list.items };
 }
 
 impl Queues {

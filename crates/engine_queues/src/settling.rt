@@ -7,6 +7,7 @@ ghost use Rattle.flow_queue.specs.Queue.{flight_of};
 ghost use Rattle.engine_queues.specs.Beside.{out_without};
 ghost use Rattle.engine_queues.specs.Queues.{AreQueuesOf};
 ghost use Rattle.engine_queues.specs.Settling.{MaySettleOver, IsKeptAfter, MayTakeFrom, MayGiveBack, HasRoomIn, HasRoomFor, without_room, without_flights, queue_marked, queues_marked, MayBeMarked, queues_without, HasFiles, queues_with, MayAllJoin, as_kept};
+ghost use Rattle.engine_queues.specs.Waiting.{has_files};
 
 use crate::Queues;
 use flow_queue::Queue;
@@ -56,8 +57,10 @@ impl Queues {
             → IsKeptAfter k connection settled (kept_of stored.now)
             → AreQueuesOf flow (kept_of stored.now) (out_without settled.gone out) self.new }
     {
-        take_out(&mut self.list, connection, settled.gone.as_slice());
-        put_in(&mut self.list, settled.placed.into_vec(), &stored.files);
+        let gone = settled.gone.as_slice();
+        take_out(&mut self.list, &mut self.occupied, connection, gone);
+        let placed = settled.placed.into_vec();
+        put_in(&mut self.list, &mut self.occupied, placed, &stored.files);
     }
 
     /// The queues after files of a connection expired, of which none was in flight. It takes no memory.
@@ -68,7 +71,7 @@ impl Queues {
             → MayTakeFrom flow k out connection numbers.now self.old
             → after.files ≡ left_after numbers.now k.files → AreQueuesOf flow after out self.new }
     {
-        take_out(&mut self.list, connection, numbers);
+        take_out(&mut self.list, &mut self.occupied, connection, numbers);
     }
 }
 
@@ -107,24 +110,38 @@ fn mark_one(queue: &mut Queue, number: u64, in_flight: bool)
     }
 }
 
-// Takes files out of the queue of a connection.
-fn take_out(queues: &mut Vec<Queue>, connection: u16, numbers: &[u64])
-    requires { HasFiles connection numbers.now queues.old.items }
-    ensures { queues.new.items ≡ queues_without connection numbers.now queues.old.items }
+// Takes files out of the queue of a connection, and marks whether it has some left.
+fn take_out(queues: &mut Vec<Queue>, occupied: &mut Vec<bool>, connection: u16, numbers: &[u64])
+    requires files { HasFiles connection numbers.now queues.old.items }
+    requires occupied { occupied.old.items ≡ map has_files queues.old.items }
+    ensures queues { queues.new.items ≡ queues_without connection numbers.now queues.old.items }
+    ensures occupied { occupied.new.items ≡ map has_files queues.new.items }
 {
     for number in numbers {
-        let _ = queues[usize::from(connection)].leave(*number);
+        let place = usize::from(connection);
+        let _ = queues[place].leave(*number);
+        occupied[place] = queues[place].len() > 0;
     }
 }
 
-// Puts placed files into the queues of their connections, their contents standing where these files say.
-fn put_in(queues: &mut Vec<Queue>, placed: Vec<Placed>, files: &ActiveList)
-    requires { MayAllJoin (map (as_kept files.now.items) placed.items) queues.old.items }
-    ensures { queues.new.items ≡ queues_with (map (as_kept files.now.items) placed.items) queues.old.items }
+// Puts placed files into the queues of their connections, their contents standing where these files say, and marks that
+// these have files.
+fn put_in(
+    queues: &mut Vec<Queue>,
+    occupied: &mut Vec<bool>,
+    placed: Vec<Placed>,
+    files: &ActiveList,
+)
+    requires files { MayAllJoin (map (as_kept files.now.items) placed.items) queues.old.items }
+    requires occupied { occupied.old.items ≡ map has_files queues.old.items }
+    ensures queues { queues.new.items ≡ queues_with (map (as_kept files.now.items) placed.items) queues.old.items }
+    ensures occupied { occupied.new.items ≡ map has_files queues.new.items }
 {
     for one in placed {
         let ActiveFile { connection, file } = as_kept(one, files);
-        queues[usize::from(connection)].put(file);
+        let place = usize::from(connection);
+        queues[place].put(file);
+        occupied[place] = true;
     }
 }
 

@@ -18,8 +18,8 @@ returns-in-Some c =
     chosen-behind c.args.flow.now (known_by c.args.queues.now c.args.counts.now c.args.busy.now c.args.listing.now c.args.moment) c.args.last c.in-Some.choice
     (subst C start (subst B c.len-count.ensures (subst A c.in-Some.is c.in_ok-choice.ensures)))
 
-pub returns-in-None : goal.returns-in-None
-returns-in-None c =
+pub returns : goal.returns
+returns c =
     let gives = choice_of c.args.flow.now (known_by c.args.queues.now c.args.counts.now c.args.busy.now c.args.listing.now c.args.moment) in
     let processors = c.args.flow.now.processors in
     let start : c.place_behind-start.result ≡ place_within (length processors) c.args.last =

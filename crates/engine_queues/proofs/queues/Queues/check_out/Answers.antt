@@ -3,6 +3,7 @@ use Rattle.flow_queue.specs.Queue.{QueueState}
 use Rattle.engine_queues.specs.Queues.{AreQueuesOf}
 use Rattle.engine_queues.specs.Settling.{queues_marked, without_flights, MayBeMarked}
 use Rattle.engine_queues.proofs.Marking.{all-rest, marked}
+use Rattle.engine_queues.proofs.Waiting.{marks-beside-flights}
 use Rattle.engine_queues.proofs.queues.Queues.check_out.Goals as goal
 
 pub mark-requires : goal.mark-requires
@@ -10,6 +11,12 @@ mark-requires c =
     let r = c.requires in
     subst (λ (l : List QueueState). MayBeMarked true c.args.connection c.args.numbers.now l) (sym c.self.view_is)
     (marked r.0 true r.1 r.2 c.args.connection c.args.numbers.now c.args.self.now r.3).1
+
+pub invariant_of-self : goal.invariant_of-self
+invariant_of-self c =
+    c.self.invariant
+    ∙ sym (marks-beside-flights c.mark.new.queues.items c.self.inside.list.items
+    (ap (map without_flights) c.mark.ensures ∙ all-rest true c.args.connection c.args.numbers.now c.self.inside.list.items))
 
 pub returns-clause-same : goal.returns-clause-same
 returns-clause-same c =

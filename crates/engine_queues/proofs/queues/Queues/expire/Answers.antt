@@ -7,8 +7,8 @@ use Rattle.engine_queues.specs.Settling.{queues_without, HasFiles}
 use Rattle.engine_queues.proofs.Changing.{leaving}
 use Rattle.engine_queues.proofs.queues.Queues.expire.Goals as goal
 
-pub take_out-requires : goal.take_out-requires
-take_out-requires c =
+pub take_out-requires-clause-files : goal.take_out-requires-clause-files
+take_out-requires-clause-files c =
     let k = c.requires.1 in
     let may = c.requires.3 in
     let after : Kept = record k { files = left_after c.args.numbers.now k.files } in
@@ -18,5 +18,5 @@ take_out-requires c =
 pub returns : goal.returns
 returns c flow k after out may files =
     let went = leaving flow out c.args.numbers.now k after c.args.connection c.args.self.now may.of_kept may.connections may.consistent may.distinct may.active files in
-    let new = c.take_out.ensures ∙ ap (queues_without c.args.connection c.args.numbers.now) c.self.view_is in
+    let new = c.take_out.ensures.queues ∙ ap (queues_without c.args.connection c.args.numbers.now) c.self.view_is in
     subst (λ (l : List QueueState). AreQueuesOf flow after out l) (sym new) went.0
