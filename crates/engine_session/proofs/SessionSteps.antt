@@ -145,7 +145,7 @@ pub record IsChange (flow : Flow) (k : Kept) (job : Job) (outcome : Outcome) (le
   pub brings : BringsWritten k.next_number outcome settled
 
 module _ (laws : Laws) (flow : Flow) (k : Kept) (job : Job) (outcome : Outcome) (left : Given) (settled : Settled) (is : IsChange flow k job outcome left settled)
-    (contents : ContentRef → List ℕ) (ranges : HaveRanges contents) (before : Machine) (tied : IsStateOf before contents k) (last : Option ℕ) (stands : JobStandsIn flow last k contents before job) where
+    (contents : ContentRef → List ℕ) (ranges : HaveRanges contents) (before : Machine) (tied : IsStateOf before contents k) (stands : JobStandsIn flow k contents before job) where
   abbrev state : State
   state = state_with contents before.state.events k
 
@@ -239,13 +239,12 @@ module _ (laws : Laws) (flow : Flow) (k : Kept) (job : Job) (outcome : Outcome) 
       (subst (λ (s : State). BringsWritten s.next_number outcome changed.settled) tied.is
       (subst (λ (s : Settled). BringsWritten k.next_number outcome s) (sym same) is.brings))
 
-  pub is_step : (changed : Changed) → changed.settled ≡ settled → changed.sending ≡ sending_of outcome.sent (sources_of k job) → IsStepOf flow last contents before job changed
+  pub is_step : (changed : Changed) → changed.settled ≡ settled → changed.sending ≡ sending_of outcome.sent (sources_of k job) → IsStepOf flow contents before job changed
   is_step changed same sends =
       let put = is_sent laws.unsent laws.put flow before (step_of job) (session before.state) outcome (sources_of k job) puts_sent (acts before.state tied.is) put_of in
       record {
         after = behind before.state;
         goes = goes;
-        comes = stands.comes;
         state = ap (state_after contents before.state) same;
         brings = brings_so changed same;
         inbox = inbox_behind laws.received laws.kept before (session before.state) outcome receives;
@@ -258,8 +257,8 @@ module _ (laws : Laws) (flow : Flow) (k : Kept) (job : Job) (outcome : Outcome) 
 
 pub makes_step : Laws → (flow : Flow) (k : Kept) (job : Job) (outcome : Outcome) (left : Given) (changed : Changed) → IsChange flow k job outcome left changed.settled
     → changed.sending ≡ sending_of outcome.sent (sources_of k job) → MakesStep flow k job changed
-makes_step laws flow k job outcome left changed is sends last contents before ranges tied valid stands =
-    is_step laws flow k job outcome left changed.settled is contents ranges before tied last stands changed refl sends
+makes_step laws flow k job outcome left changed is sends contents before ranges tied valid stands =
+    is_step laws flow k job outcome left changed.settled is contents ranges before tied stands changed refl sends
 
 -- ---- what the calls of the function gave
 

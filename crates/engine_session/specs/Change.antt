@@ -18,7 +18,6 @@ use Rattle.engine_session.specs.Handing.{AreTaken}
 use Rattle.run_law.specs.Journal.{inbox_left}
 use Rattle.run_law.specs.Puts.{IsPutBy, Outgoing}
 use Rattle.run_law.specs.Run.{IsPutStep, IsStateOf, StepBrings}
-use Rattle.run_law.specs.Turns.{ComesNext}
 use Rattle.engine_session.specs.Job.{JobStandsIn}
 use Rattle.engine_session.specs.Sending.{sending_of}
 use Rattle.engine_session.specs.declared.change.Changed.{Changed}
@@ -62,13 +61,12 @@ pub record TellsOfWork (done : Done) (changed : Changed) : Type 0 where
   pub session : TellsOfSession done.processor done.given.moment done.files changed.settled
   pub sending : changed.sending ≡ sending_of done.outcome.sent done.sources
 
--- It is the step that comes next. Behind it the state is that behind the change, which brings anew what the step wrote;
+-- It is a step of the machine. Behind it the state is that behind the change, which brings anew what the step wrote;
 -- the inbox has lost the file that the session was given, if one, and the outbox has what it sends.
-pub record IsStepOf (flow : Flow) (last : Option ℕ) (contents : ContentRef → List ℕ) (before : Machine) (job : Job)
-    (changed : Changed) : Type 0 where
+pub record IsStepOf (flow : Flow) (contents : ContentRef → List ℕ) (before : Machine) (job : Job) (changed : Changed)
+    : Type 0 where
   pub after : Machine
   pub goes : step flow before (step_of job) ≡ Some after
-  pub comes : ComesNext flow last before (step_of job)
   pub state : state_after contents before.state changed.settled ≡ after.state
   pub brings : StepBrings flow before (step_of job) changed.settled
   pub inbox : inbox_left after.world ≡ without_received job.given.file (inbox_left before.world)
@@ -81,9 +79,8 @@ pub record IsStepOf (flow : Flow) (last : Option ℕ) (contents : ContentRef →
 -- step
 abbrev pub MakesStep : Flow → Kept → Job → Changed → Type 0
 MakesStep flow k job changed =
-    (last : Option ℕ) (contents : ContentRef → List ℕ) (before : Machine) → HaveRanges contents
-    → IsStateOf before contents k → IsValid flow before.state → JobStandsIn flow last k contents before job
-    → IsStepOf flow last contents before job changed
+    (contents : ContentRef → List ℕ) (before : Machine) → HaveRanges contents → IsStateOf before contents k
+    → IsValid flow before.state → JobStandsIn flow k contents before job → IsStepOf flow contents before job changed
 
 -- where the files of its job stand so, each placed content that is in the store has the digest of its bytes
 abbrev pub TellsDigests : Kept → Job → Changed → Type 0

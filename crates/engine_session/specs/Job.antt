@@ -1,12 +1,11 @@
 -- What a session is handed, and what stands of it in the machine.
-use Rattle.std.specs.Prelude.{◌≡◌, ℕ, ◌<◌, List, Option, None, Some, length, map, slice_get}
+use Rattle.std.specs.Prelude.{◌≡◌, ℕ, ◌<◌, List, None, Some, length, map, slice_get}
 use Rattle.std.specs.Option.{option_to_list}
 use Rattle.flowfile_record.specs.Stored.{Kept}
 use Rattle.flowfile_record.specs.declared.content.ContentRef.{ContentRef}
 use Rattle.flowfile_record.specs.declared.limits.TheConstants.{NUMBER_LIMIT}
 use Rattle.machine_model.specs.declared.flow.Flow.{Flow}
 use Rattle.machine_model.specs.declared.flow.Processor.{Processor}
-use Rattle.machine_model.specs.declared.journal.Step.TheVariants.{Session}
 use Rattle.machine_model.specs.Changing.{queued_file}
 use Rattle.machine_model.specs.Kinds.{take_rule_of}
 use Rattle.machine_model.specs.Laws.{MayTake, received_name}
@@ -14,7 +13,6 @@ use Rattle.machine_model.specs.State.{Machine}
 use Rattle.machine_model.specs.Stepping.{given_in, taken_files}
 use Rattle.processor_api.specs.Acts.{IsGivenTo}
 use Rattle.engine_session.specs.Handing.{AreTaken}
-use Rattle.run_law.specs.Turns.{ComesNext}
 use Rattle.engine_session.specs.declared.job.Job.{Job}
 
 -- The processor at its place may be handed this: as many files as its rule takes, live ones of one connection, read
@@ -29,10 +27,9 @@ pub record MayHand (flow : Flow) (k : Kept) (job : Job) : Type 0 where
   pub file : received_name processor.kind job.given.file ≡ option_to_list job.given.file
   pub index : job.given.index < NUMBER_LIMIT
 
--- Where references stand for these bytes, it stands so in the machine's state and world: the session is the one that
--- comes next behind this last worker, its rules let it take these files, and what it is given is what stands.
-pub record JobStandsIn (flow : Flow) (last : Option ℕ) (k : Kept) (contents : ContentRef → List ℕ) (before : Machine)
-    (job : Job) : Type 0
+-- Where references stand for these bytes, it stands so in the machine's state and world: its rule lets it take these
+-- files, and what it is given is what stands. Whether another session comes next is no matter.
+pub record JobStandsIn (flow : Flow) (k : Kept) (contents : ContentRef → List ℕ) (before : Machine) (job : Job) : Type 0
   where
     pub processor : Processor
     pub found : slice_get flow.processors job.processor ≡ Some processor
@@ -41,5 +38,3 @@ pub record JobStandsIn (flow : Flow) (last : Option ℕ) (k : Kept) (contents : 
         ≡ Some (map (queued_file contents) job.files)
     pub given : given_in processor.kind job.processor before.state before.world (map (queued_file contents) job.files)
         (record job.given { bytes = None }) ≡ Some job.given
-    pub comes : ComesNext flow last before
-        (Session job.processor job.numbers job.given.moment (record job.given { bytes = None }))

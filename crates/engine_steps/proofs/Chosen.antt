@@ -1,4 +1,4 @@
--- What the session that comes next takes, by the kind of its processor.
+-- What a session takes that may be made, by the kind of its processor.
 use Rattle.std.proofs.Common.{◌≡◌, inl, inr, ℕ, ◌+◌, ◌<◌, ◌≤◌, zero, suc, Bool, true, false, cond, List, [], ◌∷◌, length, refl, sym, ap, subst, ◌∙◌, arith}
 use Rattle.std.specs.Prelude.{nat_lt, Option, None, Some, IsSome, IsTrue, IfSome, find, option_map, slice_get, slice_index}
 use Rattle.std.specs.Option.{IsSomeAnd, option_to_list}
@@ -33,13 +33,12 @@ use Rattle.engine_queues.specs.Picking.{first_pick}
 use Rattle.engine_queues.specs.Laws.{QueuesShowKept}
 use Rattle.engine_queues.specs.Queues.{AreQueuesOf, queue_seen}
 use Rattle.engine_queues.specs.Views.{kept_queues}
-use Rattle.engine_choice.specs.Choice.{next_choice, taking_by, known_alone}
+use Rattle.engine_choice.specs.Choice.{ProcessorTakes, taking_by, known_alone}
 use Rattle.engine_choice.specs.Laws.{given_for, numbers_in}
 use Rattle.engine_queues.specs.Listing.{first_passed}
 use Rattle.engine_choice.specs.declared.choice.Choice.{Choice}
 use Rattle.engine_choice.specs.declared.choice.Taking.{Taking}
 use Rattle.engine_choice.specs.declared.choice.Taking.TheVariants.{Files, Generate, Receive}
-use Rattle.engine_choice.proofs.Sessions.{chosen}
 use Rattle.engine_steps.specs.Engine.{AreTakeable}
 use Rattle.engine_steps.specs.Handing.{HasBytes, JobIsHanded, MayBeReceived, MayBeTaken, received_in}
 use Rattle.engine_session.specs.Job.{MayHand}
@@ -133,7 +132,7 @@ module _ (k : Kept) (names : List (List ℕ)) (moment made : ℕ) (pick : Option
       by_count true e is = let same : Generate (made + 1) ≡ taking = cc in subst (TakesSo k names moment (GenerateFlowFile count text)) same (generated_so count text sound (ap (λ n. nat_lt n count) (let alone : made ≡ made + 0 = omega arith in alone) ∙ e))
   takes_so kind taking sound may is = files_taken_so kind (record { to = λ given. tt; file = refl; taking = λ names made busy pick. refl }) taking may is
 
--- ---- the session that comes next
+-- ---- the session
 
 -- its processor, and what that takes
 pub record IsNext (flow : Flow) (k : Kept) (names : List (List ℕ)) (moment : ℕ) (choice : Choice) : Type 0 where
@@ -141,12 +140,11 @@ pub record IsNext (flow : Flow) (k : Kept) (names : List (List ℕ)) (moment : �
   pub found : slice_get flow.processors choice.processor ≡ Some processor
   pub takes : TakesSo k names moment processor.kind choice.taking
 
-pub next_takes : QueuesShowKept → (flow : Flow) (k : Kept) (queues : List QueueState) (names : List (List ℕ)) (moment : ℕ) (last : Option ℕ) (choice : Choice)
+pub next_takes : QueuesShowKept → (flow : Flow) (k : Kept) (queues : List QueueState) (names : List (List ℕ)) (moment : ℕ) (choice : Choice)
     → IsConsistent k → flow_in k ≡ identity_of flow → IsSound flow → AreQueuesOf flow k [] queues
-    → next_choice flow (known_alone (queue_seen queues) k.counts names moment) last ≡ Some choice → IsNext flow k names moment choice
-next_takes shown flow k queues names moment last choice consistent flow_is sound are is =
+    → ProcessorTakes flow (known_alone (queue_seen queues) k.counts names moment) choice → IsNext flow k names moment choice
+next_takes shown flow k queues names moment choice consistent flow_is sound are it =
     let same : queue_seen queues ≡ kept_queues k = shown_alone shown flow k queues consistent (ap (λ (f : store.Flow). length f.connections) flow_is ∙ length-map flow.connections (λ c. c.id)) are in
-    let it = chosen flow (known_alone (queue_seen queues) k.counts names moment) last choice is in
     let among = among_got flow.processors choice.processor it.processor it.there in
     let kind = it.processor.kind in
     let takes : taking_by kind names (slice_index k.counts choice.processor) 0 (first_pick flow (kept_queues k) moment (choice.processor, it.processor)) ≡ Some choice.taking =

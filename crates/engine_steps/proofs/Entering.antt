@@ -14,9 +14,7 @@ use Rattle.machine_model.specs.declared.journal.Step.TheVariants.{Session}
 use Rattle.machine_model.specs.State.{Machine}
 use Rattle.store_core.specs.Store.{FilesHold, kept_by}
 use Rattle.engine_queues.specs.Laws.{HeldContentsHaveSizes, QueuesAreSeen, QueuesShowKept}
-use Rattle.engine_queues.specs.Queues.{queue_seen}
-use Rattle.engine_choice.specs.Choice.{next_choice, known_alone}
-use Rattle.engine_choice.specs.Laws.{ChoicesAreSeen, ChoicesAreSessions}
+use Rattle.engine_choice.specs.Laws.{TakingsAreSessions}
 use Rattle.engine_queues.specs.Listing.{first_passed, names_left}
 use Rattle.engine_choice.specs.declared.choice.Choice.{Choice}
 use Rattle.engine_session.specs.Handing.{AreTaken}
@@ -25,7 +23,9 @@ use Rattle.run_law.specs.Journal.{TakesFromInbox}
 use Rattle.run_law.specs.Run.{IsStateOf, StandsFor}
 use Rattle.run_law.specs.Work.{IsAtWork}
 use Rattle.engine_session.specs.Change.{IsStepOf, MakesStep, step_of}
+use Rattle.engine_steps.specs.Checkout.{ChoiceStands}
 use Rattle.engine_steps.specs.Commit.{StandsSo}
+use Rattle.engine_steps.specs.OwnJob.{IsJobOf}
 use Rattle.engine_session.specs.Done.{IsWorkOn, step_done}
 use Rattle.engine_steps.specs.Engine.{AreTakeable, EngineState}
 use Rattle.engine_steps.specs.Ready.{EngineIsReady}
@@ -35,8 +35,6 @@ use Rattle.engine_steps.specs.Running.{IsRunning}
 use Rattle.engine_session.specs.declared.change.Changed.{Changed}
 use Rattle.engine_session.specs.declared.done.Done.{Done}
 use Rattle.engine_session.specs.declared.job.Job.{Job}
-use Rattle.engine_steps.proofs.Due.{chosen_of, nothing_due}
-use Rattle.engine_steps.proofs.Ending.{none_expired}
 use Rattle.engine_steps.proofs.Chosen.{IsNext, job_receives, next_first, next_is_left, next_takes_it, next_there_is}
 use Rattle.engine_steps.proofs.Goes.{takes_received}
 use Rattle.run_law.specs.Puts.{Outgoing, Start}
@@ -47,25 +45,31 @@ module _ (tells : Bool) {D : Type 0} (held : D → Files) (moment : D → ℕ) (
     (consistent : IsConsistent (kept_by v.store)) (in_tells out_tells : Bool) (left : List NamedFile) (out : Outgoing) (done : Done)
     (stands : StandsSo tells in_tells out_tells e (content_in (held disk)) left out.standing done) where
   abbrev pub job_in : Job
-  job_in = stands.0
+  job_in = stands.1
 
   abbrev pub choice_at : Choice
-  choice_at = stands.1.choice
+  choice_at = stands.0
 
-  chosen_at : next_choice e.flow (known_alone (queue_seen e.queues) (kept_by e.store).counts (names_left e.listing) done.given.moment) e.last ≡ Some choice_at
-  chosen_at = chosen_of e done.given.moment choice_at stands.1.chosen
+  own_at : IsJobOf tells in_tells out_tells e (content_in (held disk)) left out.standing done.given.moment choice_at job_in
+  own_at = stands.2
+
+  work_at : IsWorkOn e.flow (kept_by e.store).store job_in done
+  work_at = stands.3
+
+  chosen_at : ChoiceStands e done.given.moment choice_at
+  chosen_at = own_at.stands
 
   pub may_in : MayHand v.flow (kept_by v.store) job_in
-  may_in = subst (λ (x : EngineState). MayHand x.flow (kept_by x.store) job_in) (sym is) stands.1.may
+  may_in = subst (λ (x : EngineState). MayHand x.flow (kept_by x.store) job_in) (sym is) own_at.may
 
   pub work_in : IsWorkOn v.flow (kept_by v.store).store job_in done
-  work_in = subst (λ (x : EngineState). IsWorkOn x.flow (kept_by x.store).store job_in done) (sym is) stands.2
+  work_in = subst (λ (x : EngineState). IsWorkOn x.flow (kept_by x.store).store job_in done) (sym is) work_at
 
   pub handed_in : JobIsHanded (kept_by v.store) done.given.moment choice_at job_in
-  handed_in = subst (λ (x : EngineState). JobIsHanded (kept_by x.store) done.given.moment choice_at job_in) (sym is) stands.1.handed
+  handed_in = subst (λ (x : EngineState). JobIsHanded (kept_by x.store) done.given.moment choice_at job_in) (sym is) own_at.handed
 
   told_in : IsHandedAs tells in_tells out_tells (kept_by v.store) (content_in (held disk)) left out.standing choice_at job_in
-  told_in = subst (λ (x : EngineState). IsHandedAs tells in_tells out_tells (kept_by x.store) (content_in (held disk)) left out.standing choice_at job_in) (sym is) stands.1.told
+  told_in = subst (λ (x : EngineState). IsHandedAs tells in_tells out_tells (kept_by x.store) (content_in (held disk)) left out.standing choice_at job_in) (sym is) own_at.told
 
   -- where the disk tells, the files of the job stand so
   pub read_in : IsTrue tells → AreTaken (kept_by v.store) job_in.connection job_in.numbers (content_in (held disk)) job_in.files job_in.contents
@@ -75,30 +79,30 @@ module _ (tells : Bool) {D : Type 0} (held : D → Files) (moment : D → ℕ) (
   next_in shown = next_there tells held moment images v e is disk ready consistent done.given.moment choice_at chosen_at shown
 
   pub processor_in : done.processor ≡ choice_at.processor
-  processor_in = stands.2.processor ∙ stands.1.handed.processor
+  processor_in = work_at.processor ∙ own_at.handed.processor
 
   pub file_in : done.given.file ≡ job_in.given.file
-  file_in = ap (λ (g : Given). g.file) stands.2.given.but_bytes
+  file_in = ap (λ (g : Given). g.file) work_at.given.but_bytes
 
   pub received_is : done.given.file ≡ received_in choice_at.taking
-  received_is = file_in ∙ job_receives done.given.moment choice_at.taking job_in stands.1.handed.given
+  received_is = file_in ∙ job_receives done.given.moment choice_at.taking job_in own_at.handed.given
 
   -- the entry is the step of its job
   pub step_in : step_of job_in ≡ step_done done
   step_in =
-      let given : record job_in.given { bytes = None } ≡ record done.given { bytes = None } = sym (ap (λ (g : Given). record g { bytes = None }) stands.2.given.but_bytes) in
-      let time : job_in.given.moment ≡ done.given.moment = sym (ap (λ (g : Given). g.moment) stands.2.given.but_bytes) in
-      λ i. Session (sym stands.2.processor i) (sym stands.2.numbers i) (time i) (given i)
+      let given : record job_in.given { bytes = None } ≡ record done.given { bytes = None } = sym (ap (λ (g : Given). record g { bytes = None }) work_at.given.but_bytes) in
+      let time : job_in.given.moment ≡ done.given.moment = sym (ap (λ (g : Given). g.moment) work_at.given.but_bytes) in
+      λ i. Session (sym work_at.processor i) (sym work_at.numbers i) (time i) (given i)
 
-  -- what it makes is the step that comes next
-  pub steps_in : QueuesShowKept → QueuesAreSeen → HeldContentsHaveSizes → ChoicesAreSessions → ChoicesAreSeen → MachinesFilesAreLive → (kept_by v.store).batches ≡ [] → FilesHold v.store (held disk)
+  -- what it makes is a step
+  pub steps_in : QueuesShowKept → QueuesAreSeen → HeldContentsHaveSizes → TakingsAreSessions → MachinesFilesAreLive → (kept_by v.store).batches ≡ [] → FilesHold v.store (held disk)
       → ((flow : Flow) → IsAtWork flow tells held moment images v.store disk → (m : Machine) → InEach (images disk (moment disk)) (StandsFor flow v.store.lot m) → IsStateOf m (content_in (held disk)) (kept_by v.store))
       → IsTrue tells → IsTrue in_tells → IsTrue out_tells → (opened : Machine) (first : D) (start : Start) (time : ℕ) (run : IsRunning moment images e opened first start time disk left out) → (changed : Changed)
       → ((job : Job) → MayHand v.flow (kept_by v.store) job → IsWorkOn v.flow (kept_by v.store).store job done → MakesStep v.flow (kept_by v.store) job changed)
-      → IsStepOf e.flow e.last (content_in (held disk)) run.reached job_in changed × IsStateOf run.reached (content_in (held disk)) (kept_by v.store)
-  steps_in shown seen sizes sessions choices live no_batches holds tied telling in_telling out_telling opened first start time run changed makes =
-      step_so tells held moment images v e is disk ready consistent done.given.moment choice_at chosen_at shown seen sizes sessions choices live
-      (none_expired e done.given.moment (nothing_due e done.given.moment choice_at stands.1.chosen)) no_batches holds tied v.store refl opened first start time left out run job_in changed
+      → IsStepOf e.flow (content_in (held disk)) run.reached job_in changed × IsStateOf run.reached (content_in (held disk)) (kept_by v.store)
+  steps_in shown seen sizes sessions live no_batches holds tied telling in_telling out_telling opened first start time run changed makes =
+      step_so tells held moment images v e is disk ready consistent done.given.moment choice_at chosen_at shown seen sizes sessions live
+      no_batches holds tied v.store refl opened first start time left out run job_in changed
       handed_in (all_told told_in telling in_telling out_telling) (makes job_in may_in work_in)
 
   -- ---- the file that it receives

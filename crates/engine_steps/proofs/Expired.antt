@@ -15,7 +15,6 @@ use Rattle.machine_model.specs.declared.flow.Flow.{Flow}
 use Rattle.machine_model.specs.declared.journal.Step.TheVariants.{Expire}
 use Rattle.machine_model.specs.Changing.{state_after}
 use Rattle.machine_model.specs.Due.{due_expiry}
-use Rattle.machine_model.specs.Files.{queues_of}
 use Rattle.machine_model.specs.State.{Machine, State, World}
 use Rattle.machine_model.specs.Stepping.{expired, step}
 use Rattle.store_core.specs.Flow.{flow_in}
@@ -98,12 +97,6 @@ module _ (seen : KeptIsSeen) (law : DueExpiriesMayExpire) (flow : Flow) (k : Kep
           goes = subst P tied.is has.goes;
           is_so = record { connection = has.connection; at = has.at; is = refl };
         }
-
-    -- it comes next
-    pub due_comes : due_expiry flow (queues_of before.state) moment ≡ Some (place, numbers)
-    due_comes =
-        subst (λ (s : State). due_expiry flow (queues_of s) moment ≡ Some (place, numbers)) tied.is
-        (sym ((kept_alone seen flow contents before.state.events k consistent sizes).expiry moment) ∙ due)
 
   -- the settled expiry makes it
   pub makes_expiry : (settled : Settled) → LeavesExpired flow k place numbers moment settled → MakesExpiry flow k place numbers moment settled

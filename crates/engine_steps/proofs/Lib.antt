@@ -12,7 +12,8 @@ pub mod Fitting
 pub mod Goes
 pub mod LastWorker
 pub mod Left
-pub mod NextJob
+pub mod OwnChoice
+pub mod OwnJob
 pub mod Picked
 pub mod Readied
 pub mod Reread

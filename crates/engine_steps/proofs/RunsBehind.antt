@@ -1,9 +1,11 @@
 -- How a run goes on over the calls that tend, one behind the other.
-use Rattle.std.proofs.Common.{◌≡◌, ◌∙◌, ℕ, ◌≤◌, Bool, ap, sym}
+use Rattle.std.proofs.Common.{◌≡◌, ◌∙◌, ℕ, Bool, ap, sym}
 use Rattle.std.specs.Prelude.{Err, IsErrOf, Ok, Result}
 use Rattle.disk_trait.specs.Files.{Files}
 use Rattle.run_law.specs.Laws.{FaultsEnd, SparedRunsGoOn}
 use Rattle.engine_steps.specs.Engine.{EngineState}
+use Rattle.engine_steps.specs.Ready.{expiry_in}
+use Rattle.engine_steps.specs.Running.{undone_step}
 use Rattle.engine_steps.specs.TendingParts.{RunsOnSpared, RunsOnTended}
 use Rattle.engine_steps.specs.declared.error.EngineError.{EngineError}
 use Rattle.engine_steps.proofs.AsRead.{read_well, same_error}
@@ -21,7 +23,7 @@ module _ {D : Type 0} {tells : Bool} {held : D → Files} {moment : D → ℕ} {
       pub spared_in_err : RunsOnSpared r tells held moment images e f old new → RunsOnSpared result tells held moment images e f old new
       spared_in_err runs = record {
         goes_on = λ well opened first start time left out run. runs.goes_on (λ disk. well (is ∙ ap Err (same_error error EngineError.Disk (sym was ∙ disk)))) opened first start time left out run;
-        stopped = λ other fails opened first start time left out run. runs.stopped other (was ∙ ap Err (same_error error other (sym is ∙ fails))) opened first start time left out run;
+        stopped = λ other fails opened first start time left out next run. runs.stopped other (was ∙ ap Err (same_error error other (sym is ∙ fails))) opened first start time left out next run;
       }
 
       pub tended_in_err : {at : ℕ} (some : B) (expired : A) → RunsOnTended r some tells held moment images at e f old new → RunsOnTended result expired tells held moment images at e f old new
@@ -36,7 +38,7 @@ module _ {D : Type 0} {tells : Bool} {held : D → Files} {moment : D → ℕ} {
     pub spared_in_ok : (x : B) (y : A) → r ≡ Ok x → result ≡ Ok y → RunsOnSpared r tells held moment images e f old new → RunsOnSpared result tells held moment images e f old new
     spared_in_ok x y was is runs = record {
       goes_on = λ well opened first start time left out run. runs.goes_on (λ disk. read_well x EngineError.Disk (sym was ∙ disk)) opened first start time left out run;
-      stopped = λ other fails opened first start time left out run. read_well y other (sym is ∙ fails);
+      stopped = λ other fails opened first start time left out next run. read_well y other (sym is ∙ fails);
     }
 
     -- .. where files expired
@@ -54,8 +56,8 @@ module _ {D : Type 0} {tells : Bool} {held : D → Files} {moment : D → ℕ} {
     spared_behind before runs = record {
       goes_on = λ well opened first start time left out run.
           runs.goes_on well opened first start time left out (before.goes_on (λ disk. read_well x EngineError.Disk (sym was ∙ disk)) opened first start time left out run);
-      stopped = λ error fails opened first start time left out run.
-          runs.stopped error fails opened first start time left out (before.goes_on (λ disk. read_well x EngineError.Disk (sym was ∙ disk)) opened first start time left out run);
+      stopped = λ error fails opened first start time left out next run.
+          runs.stopped error fails opened first start time left out next (before.goes_on (λ disk. read_well x EngineError.Disk (sym was ∙ disk)) opened first start time left out run);
     }
 
     -- it let nothing expire
@@ -68,7 +70,7 @@ module _ {D : Type 0} {tells : Bool} {held : D → Files} {moment : D → ℕ} {
           runs.goes_on well opened first start time left out
           (before.idle (λ disk. read_well x EngineError.Disk (sym was ∙ disk)) (λ done. none (same_answer x some (sym was ∙ done))) opened first start time left out run);
       stopped = λ error fails opened first start time left out by run.
-          runs.stopped error fails opened first start at left out (before.goes_on (λ disk. read_well x EngineError.Disk (sym was ∙ disk)) opened first start time left out by run);
+          runs.stopped error fails opened first start at left out (undone_step error (expiry_in e at)) (before.goes_on (λ disk. read_well x EngineError.Disk (sym was ∙ disk)) opened first start time left out by run);
     }
 
   -- ---- nothing was done
@@ -78,5 +80,5 @@ module _ {D : Type 0} {tells : Bool} {held : D → Files} {moment : D → ℕ} {
   tended_idle expired law between e disk at wanting = record {
     goes_on = λ well opened first start time left out by run. runs_idle tells held moment images e opened first disk start time at by left out run law;
     idle = λ well none opened first start time left out run. run;
-    stopped = λ error fails opened first start time left out by run. stops_wanting tells held moment images e opened first disk start time at by left out run between error (wanting error fails);
+    stopped = λ error fails opened first start time left out by run. stops_wanting tells held moment images e opened first disk start time at by left out run between error (wanting error fails) (undone_step error (expiry_in e at));
   }

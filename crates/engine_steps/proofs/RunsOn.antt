@@ -16,16 +16,17 @@ use Rattle.machine_model.specs.State.{Machine, World}
 use Rattle.engine_choice.specs.Choice.{coming_of}
 use Rattle.run_law.specs.Going.{IsRunningAt, IsSpared}
 use Rattle.run_law.specs.Journal.{inbox_left}
-use Rattle.run_law.specs.Laws.{DiskFaultsEnd, FaultsEnd, IsOfQueue, NextStepsAreInTurn, QueuesLeaveTheWorld, SparedRunsGoOn, SteppedRunsGoOn}
+use Rattle.run_law.specs.Laws.{DiskFaultsEnd, FaultsEnd, IsOfQueue, QueuesLeaveTheWorld, SparedRunsGoOn, SteppedRunsGoOn}
 use Rattle.run_law.specs.Run.{HasRun, IsAtJournalLimit, IsAtLimit, IsAtStoreLimit, StandsFor}
-use Rattle.run_law.specs.Turns.{ComesNext, last_worker, step_moment, worker_behind}
+use Rattle.run_law.specs.Turns.{IsWithinRun, last_worker, step_moment, worker_behind}
+use Rattle.run_law.proofs.Turns.{since_start}
 use Rattle.run_law.specs.declared.ended.Ended.{Ended}
 use Rattle.run_law.specs.declared.ended.Ended.TheVariants as ending
 use Rattle.run_law.specs.declared.ended.Fault.{Fault}
 use Rattle.run_law.specs.declared.ended.Fault.TheVariants as fault
 use Rattle.engine_steps.specs.Engine.{EngineState, IsOfSameRun}
 use Rattle.engine_steps.specs.Errors.{ended_by}
-use Rattle.engine_steps.specs.Running.{IsLimited, IsRunning, IsRunningTo, Stops}
+use Rattle.engine_steps.specs.Running.{IsLimited, IsRunning, IsRunningTo, Stops, undone_step}
 use Rattle.engine_steps.specs.Tending.{GoesTo, IsCutOff, StepIsDone}
 use Rattle.engine_steps.specs.declared.error.EngineError.{EngineError}
 use Rattle.run_law.specs.Puts.{IsPutBy, Outgoing, Start, puts_of_step}
@@ -63,6 +64,11 @@ module _ {D : Type 0} (tells : Bool) (held : D → Files) (moment : D → ℕ) (
   abbrev pub StandsIn : EngineState → D → Machine → Type 0
   StandsIn e disk m = InEach (images disk (moment disk)) (StandsFor e.flow e.store.lot m)
 
+  -- a step that is made no earlier than the run's time is one of the run, up to a later time
+  pub made_behind : (e : EngineState) (opened : Machine) (first now : D) (start : Start) (time later : ℕ) (left : List NamedFile) (out : Outgoing) (one : Step) → IsRunning moment images e opened first start time now left out
+      → time ≤ step_moment one → step_moment one ≤ later → IsWithinRun start.time later one
+  made_behind e opened first now start time later left out one run by le = (omega (arith, since_start start.time time (steps e.journal) run.to.run.within, by), le)
+
   -- It runs on as another of the same run, behind calls of the disk.
   module _ (e f : EngineState) (same : IsOfSameRun e f) (opened : Machine) (first old new : D) (start : Start) (time : ℕ) (left : List NamedFile) (out : Outgoing) where
     runs_at : (later : ℕ) (journal : List Entry) (reached : Machine) → f.journal ≡ journal → IsRunningAt e.flow start later moment images e.store.lot opened first new journal reached left out
@@ -72,12 +78,12 @@ module _ {D : Type 0} (tells : Bool) (held : D → Files) (moment : D → ℕ) (
         (subst (λ (lot : ℕ). IsRunningAt f.flow start later moment images lot opened first new journal reached left out) (sym same.lot)
         (subst (λ (flow : Flow). IsRunningAt flow start later moment images e.store.lot opened first new journal reached left out) (sym same.flow) run))
 
-    has_run : (ended : Ended) (later : ℕ) (journal : List Entry) → f.journal ≡ journal → HasRun e.flow ended start later tells held moment images e.store.lot opened first new left out journal
-        → HasRun f.flow ended start later tells held moment images f.store.lot opened first new left out f.journal
-    has_run ended later journal is has =
-        subst (λ (j : List Entry). HasRun f.flow ended start later tells held moment images f.store.lot opened first new left out j) (sym is)
-        (subst (λ (lot : ℕ). HasRun f.flow ended start later tells held moment images lot opened first new left out journal) (sym same.lot)
-        (subst (λ (flow : Flow). HasRun flow ended start later tells held moment images e.store.lot opened first new left out journal) (sym same.flow) has))
+    has_run : (ended : Ended) (later : ℕ) (journal : List Entry) (next : Option Step) → f.journal ≡ journal → HasRun e.flow ended start later tells held moment images e.store.lot opened first new left out journal next
+        → HasRun f.flow ended start later tells held moment images f.store.lot opened first new left out f.journal next
+    has_run ended later journal next is has =
+        subst (λ (j : List Entry). HasRun f.flow ended start later tells held moment images f.store.lot opened first new left out j next) (sym is)
+        (subst (λ (lot : ℕ). HasRun f.flow ended start later tells held moment images lot opened first new left out journal next) (sym same.lot)
+        (subst (λ (flow : Flow). HasRun flow ended start later tells held moment images e.store.lot opened first new left out journal next) (sym same.flow) has))
 
     -- calls that leave what the disk stands for
     runs_to : SparedRunsGoOn moment images → (later : ℕ) → time ≤ later → f.journal ≡ e.journal → f.listing ≡ e.listing → f.last ≡ e.last
@@ -103,25 +109,25 @@ module _ {D : Type 0} (tells : Bool) (held : D → Files) (moment : D → ℕ) (
     -- a fault between two steps
     pub stops_spared : FaultsEnd tells held moment images → (error : EngineError) (cause : Fault) → ended_by error ≡ ending.Fault cause → f.journal ≡ e.journal
         → ((m : Machine) → StandsIn e old m → IsSpared e.flow moment images e.store.lot m old new) → IsRunning moment images e opened first start time old left out
-        → (later : ℕ) → time ≤ later → HasRun f.flow (ended_by error) start later tells held moment images f.store.lot opened first new left out f.journal
-    stops_spared law error cause is journal spared run later by =
-        has_run (ended_by error) later e.journal journal
-        (subst (λ (ended : Ended). HasRun e.flow ended start later tells held moment images e.store.lot opened first new left out e.journal) (sym is)
-        (law e.flow start time later e.store.lot opened run.reached first old new e.journal left out cause run.to.run by (spared run.reached run.to.run.holds)))
+        → (next : Option Step) (later : ℕ) → time ≤ later → HasRun f.flow (ended_by error) start later tells held moment images f.store.lot opened first new left out f.journal next
+    stops_spared law error cause is journal spared run next later by =
+        has_run (ended_by error) later e.journal next journal
+        (subst (λ (ended : Ended). HasRun e.flow ended start later tells held moment images e.store.lot opened first new left out e.journal next) (sym is)
+        (law e.flow start time later e.store.lot opened run.reached first old new e.journal left out next cause run.to.run by (spared run.reached run.to.run.holds)))
 
     -- the disk's, or want of memory
     pub stops_by : FaultsEnd tells held moment images → (error : EngineError) → (error ≡ EngineError.Disk) ⊎ (error ≡ EngineError.Memory) → (later : ℕ) → time ≤ later → f.journal ≡ e.journal
         → ((m : Machine) → StandsIn e old m → IsSpared e.flow moment images e.store.lot m old new)
-        → IsRunning moment images e opened first start time old left out → Stops error tells held moment images f opened first start later new left out
-    stops_by law error (inl is) later by journal spared run =
-        subst (λ (er : EngineError). Stops er tells held moment images f opened first start later new left out) (sym is)
-        (λ end le. stops_spared law EngineError.Disk fault.Disk refl journal spared run end (omega (arith, by, le)))
-    stops_by law error (inr is) later by journal spared run =
-        subst (λ (er : EngineError). Stops er tells held moment images f opened first start later new left out) (sym is)
-        (λ end le. stops_spared law EngineError.Memory fault.Memory refl journal spared run end (omega (arith, by, le)))
+        → IsRunning moment images e opened first start time old left out → (next : Option Step) → Stops error tells held moment images f opened first start later new left out next
+    stops_by law error (inl is) later by journal spared run next =
+        subst (λ (er : EngineError). Stops er tells held moment images f opened first start later new left out next) (sym is)
+        (λ end le. stops_spared law EngineError.Disk fault.Disk refl journal spared run next end (omega (arith, by, le)))
+    stops_by law error (inr is) later by journal spared run next =
+        subst (λ (er : EngineError). Stops er tells held moment images f opened first start later new left out next) (sym is)
+        (λ end le. stops_spared law EngineError.Memory fault.Memory refl journal spared run next end (omega (arith, by, le)))
 
-    -- a step of a queue that comes next
-    module _ (leaves : QueuesLeaveTheWorld) (one : Step) (queue : IsOfQueue one) (by : time ≤ step_moment one) (comes : (m : Machine) → StandsIn e old m → ComesNext e.flow (last_worker None (steps e.journal)) m one) where
+    -- a step of a queue
+    module _ (leaves : QueuesLeaveTheWorld) (one : Step) (queue : IsOfQueue one) (by : time ≤ step_moment one) where
       pub runs_stepped : SteppedRunsGoOn moment images → f.journal ≡ e.journal ++ record { step = one; acked = Some (moment new) } ∷ [] → f.listing ≡ e.listing → f.last ≡ e.last
           → ((m : Machine) → StandsIn e old m → StepIsDone e.flow moment images e.store.lot m one old new)
           → IsRunning moment images e opened first start time old left out → IsRunning moment images f opened first start (step_moment one) new left out
@@ -133,7 +139,8 @@ module _ {D : Type 0} (tells : Bool) (held : D → Files) (moment : D → ℕ) (
             reached = it.after;
             to = record {
               run = runs_at (step_moment one) (e.journal ++ entry ∷ []) it.after journal
-                  (law e.flow start time e.store.lot opened run.reached it.after first old new e.journal one left left out out run.to.run by (comes run.reached run.to.run.holds) it.goes it.is_so
+                  (law e.flow start time (step_moment one) e.store.lot opened run.reached it.after first old new e.journal one left left out out run.to.run by
+                  (made_behind e opened first old start time (step_moment one) left out one run by (omega arith)) it.goes it.is_so
                   (run.to.run.lies ∙ ap inbox_left (sym world)) (put_by_queue e.flow run.reached it.after one out queue world run.to.run.stands.standing));
               coming = ap coming_of world ∙ run.to.coming ∙ sym (ap (λ l. (names_left l)) names);
               last = last ∙ run.to.last ∙ sym (ap (λ (j : List Entry). last_worker None (steps j)) journal ∙ last_behind None e.journal entry ∙ queues_leave_the_worker (last_worker None (steps e.journal)) one queue);
@@ -142,38 +149,40 @@ module _ {D : Type 0} (tells : Bool) (held : D → Files) (moment : D → ℕ) (
 
       pub stops_cut_off : DiskFaultsEnd tells held moment images → f.journal ≡ e.journal ++ record { step = one; acked = None } ∷ []
           → ((m : Machine) → StandsIn e old m → IsCutOff e.flow moment images e.store.lot m one old new) → IsRunning moment images e opened first start time old left out
-          → (later : ℕ) → step_moment one ≤ later → HasRun f.flow (ended_by EngineError.Disk) start later tells held moment images f.store.lot opened first new left out f.journal
+          → (later : ℕ) → step_moment one ≤ later → HasRun f.flow (ended_by EngineError.Disk) start later tells held moment images f.store.lot opened first new left out f.journal None
       stops_cut_off law journal cut run later le =
           let it = cut run.reached run.to.run.holds in
           let world : it.after.world ≡ run.reached.world = leaves e.flow run.reached it.after one it.goes queue in
-          has_run (ended_by EngineError.Disk) later (e.journal ++ record { step = one; acked = None } ∷ []) journal
-          (law e.flow start time later e.store.lot opened run.reached it.after first old new e.journal one left out out run.to.run by le (comes run.reached run.to.run.holds) it.goes it.is_so
+          has_run (ended_by EngineError.Disk) later (e.journal ++ record { step = one; acked = None } ∷ []) None journal
+          (law e.flow start time later e.store.lot opened run.reached it.after first old new e.journal one left out out run.to.run (omega (arith, by, le))
+          (made_behind e opened first old start time later left out one run by le) it.goes it.is_so
           (put_by_queue e.flow run.reached it.after one out queue world run.to.run.stands.standing))
 
-    -- a limit, of the store or of the journal, before anything was called for the step that comes next
-    module _ (one : Step) (limit : Limit) (by : time ≤ step_moment one) (comes : (m : Machine) → StandsIn e old m → ComesNext e.flow (last_worker None (steps e.journal)) m one) where
+    -- a limit, of the store or of the journal, before anything was called for the step
+    module _ (one : Step) (limit : Limit) (by : time ≤ step_moment one) where
       abbrev pub IsMet : Machine → Machine → Type 0
       IsMet m after = StandsFor e.flow e.store.lot m (held old) × (IsAtStoreLimit e.flow tells held moment images limit m one after old ⊎ IsAtJournalLimit limit e.journal)
 
-      limit_at : (m : Machine) → new ≡ old → f.journal ≡ e.journal → IsAtLimit e.flow start (step_moment one) tells held moment images e.store.lot opened e.journal m limit old
-          → IsAtLimit f.flow start (step_moment one) tells held moment images f.store.lot opened f.journal m limit new
+      limit_at : (m : Machine) → new ≡ old → f.journal ≡ e.journal → IsAtLimit e.flow start (step_moment one) tells held moment images e.store.lot e.journal (Some one) m limit old
+          → IsAtLimit f.flow start (step_moment one) tells held moment images f.store.lot f.journal (Some one) m limit new
       limit_at m disk journal met =
-          subst (λ (d : D). IsAtLimit f.flow start (step_moment one) tells held moment images f.store.lot opened f.journal m limit d) (sym disk)
-          (subst (λ (j : List Entry). IsAtLimit f.flow start (step_moment one) tells held moment images f.store.lot opened j m limit old) (sym journal)
-          (subst (λ (lot : ℕ). IsAtLimit f.flow start (step_moment one) tells held moment images lot opened e.journal m limit old) (sym same.lot)
-          (subst (λ (flow : Flow). IsAtLimit flow start (step_moment one) tells held moment images e.store.lot opened e.journal m limit old) (sym same.flow) met)))
+          subst (λ (d : D). IsAtLimit f.flow start (step_moment one) tells held moment images f.store.lot f.journal (Some one) m limit d) (sym disk)
+          (subst (λ (j : List Entry). IsAtLimit f.flow start (step_moment one) tells held moment images f.store.lot j (Some one) m limit old) (sym journal)
+          (subst (λ (lot : ℕ). IsAtLimit f.flow start (step_moment one) tells held moment images lot e.journal (Some one) m limit old) (sym same.lot)
+          (subst (λ (flow : Flow). IsAtLimit flow start (step_moment one) tells held moment images e.store.lot e.journal (Some one) m limit old) (sym same.flow) met)))
 
-      pub stops_limited : SparedRunsGoOn moment images → NextStepsAreInTurn moment images → new ≡ old → f.journal ≡ e.journal → f.listing ≡ e.listing → f.last ≡ e.last
+      pub stops_limited : SparedRunsGoOn moment images → new ≡ old → f.journal ≡ e.journal → f.listing ≡ e.listing → f.last ≡ e.last
           → ((m : Machine) → StandsIn e old m → GoesTo e.flow m one (IsMet m))
-          → IsRunning moment images e opened first start time old left out → IsLimited tells held moment images f limit opened first start (step_moment one) new left out
-      stops_limited law turn disk journal names last limited run =
+          → IsRunning moment images e opened first start time old left out → IsLimited tells held moment images f limit opened first start (step_moment one) new left out (Some one)
+      stops_limited law disk journal names last limited run =
           let it = limited run.reached run.to.run.holds in
           record {
             reached = run.reached;
             to = runs_to law (step_moment one) by journal names last run.reached (λ stands. subst (λ (d : D). IsSpared e.flow moment images e.store.lot run.reached old d) (sym disk) (spared_by_none e.flow e.store.lot run.reached old stands)) run.to;
             met = limit_at run.reached disk journal (record {
-              next = one;
-              turn = turn e.flow start time (step_moment one) e.store.lot opened run.reached first old e.journal one left out run.to.run by (omega arith) (comes run.reached run.to.run.holds);
+              one = one;
+              is = refl;
+              within = made_behind e opened first old start time (step_moment one) left out one run by (omega arith);
               after = it.after;
               goes = it.goes;
               stands = it.is_so.0;
@@ -182,33 +191,33 @@ module _ {D : Type 0} (tells : Bool) (held : D → Files) (moment : D → ℕ) (
           }
 
     -- a step of a queue that failed
-    module _ (leaves : QueuesLeaveTheWorld) (one : Step) (queue : IsOfQueue one) (by : time ≤ step_moment one) (comes : (m : Machine) → StandsIn e old m → ComesNext e.flow (last_worker None (steps e.journal)) m one)
-        (law : SparedRunsGoOn moment images) (turn : NextStepsAreInTurn moment images) (between : FaultsEnd tells held moment images) (disk_fails : DiskFaultsEnd tells held moment images) (error : EngineError)
+    module _ (leaves : QueuesLeaveTheWorld) (one : Step) (queue : IsOfQueue one) (by : time ≤ step_moment one)
+        (law : SparedRunsGoOn moment images) (between : FaultsEnd tells held moment images) (disk_fails : DiskFaultsEnd tells held moment images) (error : EngineError)
         (names : f.listing ≡ e.listing) (last : f.last ≡ e.last) (open_journal : error ≡ EngineError.Disk → f.journal ≡ e.journal ++ record { step = one; acked = None } ∷ [])
         (cut : error ≡ EngineError.Disk → (m : Machine) → StandsIn e old m → IsCutOff e.flow moment images e.store.lot m one old new) (unwritten : (error ≡ EngineError.Disk → ⊥) → (new ≡ old) × (f.journal ≡ e.journal))
         (limited : (limit : Limit) → error ≡ EngineError.Limit limit → (m : Machine) → StandsIn e old m
         → GoesTo e.flow m one (λ after. StandsFor e.flow e.store.lot m (held old) × IsAtStoreLimit e.flow tells held moment images limit m one after old))
         (run : IsRunning moment images e opened first start time old left out) where
-      by_memory : error ≡ EngineError.Memory → Stops error tells held moment images f opened first start (step_moment one) new left out
+      by_memory : error ≡ EngineError.Memory → Stops error tells held moment images f opened first start (step_moment one) new left out (undone_step error (Some one))
       by_memory is =
           let stays = unwritten (λ disk. let both : EngineError.Memory ≡ EngineError.Disk = sym is ∙ disk in cc) in
           stops_by between error (inr is) (step_moment one) by stays.1
-          (λ m stands. subst (λ (d : D). IsSpared e.flow moment images e.store.lot m old d) (sym stays.0) (spared_by_none e.flow e.store.lot m old stands)) run
+          (λ m stands. subst (λ (d : D). IsSpared e.flow moment images e.store.lot m old d) (sym stays.0) (spared_by_none e.flow e.store.lot m old stands)) run (undone_step error (Some one))
 
-      by_disk : error ≡ EngineError.Disk → Stops error tells held moment images f opened first start (step_moment one) new left out
+      by_disk : error ≡ EngineError.Disk → Stops error tells held moment images f opened first start (step_moment one) new left out (undone_step error (Some one))
       by_disk is =
-          subst (λ (er : EngineError). Stops er tells held moment images f opened first start (step_moment one) new left out) (sym is)
-          (stops_cut_off leaves one queue by comes disk_fails (open_journal is) (cut is) run)
+          subst (λ (er : EngineError). Stops er tells held moment images f opened first start (step_moment one) new left out (undone_step er (Some one))) (sym is)
+          (stops_cut_off leaves one queue by disk_fails (open_journal is) (cut is) run)
 
-      by_limit : (limit : Limit) → error ≡ EngineError.Limit limit → Stops error tells held moment images f opened first start (step_moment one) new left out
+      by_limit : (limit : Limit) → error ≡ EngineError.Limit limit → Stops error tells held moment images f opened first start (step_moment one) new left out (undone_step error (Some one))
       by_limit limit is =
           let stays = unwritten (λ disk. let both : EngineError.Limit limit ≡ EngineError.Disk = sym is ∙ disk in cc) in
-          subst (λ (er : EngineError). Stops er tells held moment images f opened first start (step_moment one) new left out) (sym is)
-          (stops_limited one limit by comes law turn stays.0 stays.1 names last
+          subst (λ (er : EngineError). Stops er tells held moment images f opened first start (step_moment one) new left out (undone_step er (Some one))) (sym is)
+          (stops_limited one limit by law stays.0 stays.1 names last
           (λ m stands. let it = limited limit is m stands in record { after = it.after; goes = it.goes; is_so = (it.is_so.0, inl it.is_so.1) }) run)
 
       pub stops_failed : (error ≡ EngineError.Disk) ⊎ (error ≡ EngineError.Memory) ⊎ ((limit : Limit) × (error ≡ EngineError.Limit limit))
-          → Stops error tells held moment images f opened first start (step_moment one) new left out
+          → Stops error tells held moment images f opened first start (step_moment one) new left out (undone_step error (Some one))
       stops_failed (inl is) = by_disk is
       stops_failed (inr (inl is)) = by_memory is
       stops_failed (inr (inr is)) = by_limit is.0 is.1
@@ -220,10 +229,10 @@ module _ {D : Type 0} (tells : Bool) (held : D → Files) (moment : D → ℕ) (
         runs_spared e e (record { flow = refl; most = refl; checkpoint = refl; too_large = refl; lot = refl }) opened first disk disk start time left out law later by refl refl refl
         (λ m stands. spared_by_none e.flow e.store.lot m disk stands) run
 
-    pub stops_wanting : FaultsEnd tells held moment images → (error : EngineError) → error ≡ EngineError.Memory → Stops error tells held moment images e opened first start later disk left out
-    stops_wanting law error is =
+    pub stops_wanting : FaultsEnd tells held moment images → (error : EngineError) → error ≡ EngineError.Memory → (next : Option Step) → Stops error tells held moment images e opened first start later disk left out next
+    stops_wanting law error is next =
         stops_by e e (record { flow = refl; most = refl; checkpoint = refl; too_large = refl; lot = refl }) opened first disk disk start time left out law error (inr is) later by refl
-        (λ m stands. spared_by_none e.flow e.store.lot m disk stands) run
+        (λ m stands. spared_by_none e.flow e.store.lot m disk stands) run next
 
   -- at which moment nothing was due is no part of the run
   pub runs_tended : (e : EngineState) (tended : Option ℕ) (opened : Machine) (first disk : D) (start : Start) (time : ℕ) (left : List NamedFile) (out : Outgoing) → IsRunning moment images e opened first start time disk left out

@@ -1,4 +1,4 @@
--- What the session that comes next is handed stands in the machine's state and world.
+-- What a session is handed that may be made stands in the machine's state and world.
 use Rattle.std.proofs.Common.{◌≡◌, ℕ, Bool, true, false, cond, ◌≤◌, List, [], ◌∷◌, length, map, true≢false, refl, sym, ap, subst, ◌∙◌}
 use Rattle.std.specs.Prelude.{IsTrue, Option, None, Some, filter, slice_get, slice_index, bytes_eq, option_and_then}
 use Rattle.std.specs.Option.{IsSomeAnd}
@@ -16,7 +16,6 @@ use Rattle.machine_model.specs.declared.kind.Kind.{Kind}
 use Rattle.machine_model.specs.declared.kind.Kind.TheVariants.{GetFile, GenerateFlowFile, PutFile}
 use Rattle.machine_model.specs.declared.pattern.Pattern.{Pattern}
 use Rattle.machine_model.specs.Changing.{queued_file}
-use Rattle.machine_model.specs.Due.{due_expiry}
 use Rattle.machine_model.specs.Files.{queues_of}
 use Rattle.machine_model.specs.Kinds.{is_among, take_rule_of}
 use Rattle.machine_model.specs.State.{Machine, QueuedFile, State, World}
@@ -29,8 +28,8 @@ use Rattle.engine_change.specs.Committing.{identity_of}
 use Rattle.engine_queues.specs.Laws.{QueuesAreSeen, SeesTheSame}
 use Rattle.engine_queues.specs.Queues.{AreQueuesOf, queue_seen}
 use Rattle.engine_queues.specs.Views.{HaveSizes}
-use Rattle.engine_choice.specs.Choice.{coming_of, next_choice, known_alone}
-use Rattle.engine_choice.specs.Laws.{ChoicesAreSeen, ChoicesAreSessions, given_for, numbers_in}
+use Rattle.engine_choice.specs.Choice.{ProcessorTakes, coming_of, known_alone}
+use Rattle.engine_choice.specs.Laws.{TakingsAreSessions, given_for, numbers_in}
 use Rattle.engine_choice.specs.declared.choice.Choice.{Choice}
 use Rattle.engine_choice.specs.declared.choice.Taking.{Taking}
 use Rattle.engine_choice.specs.declared.choice.Taking.TheVariants.{Files, Generate, Receive}
@@ -38,7 +37,6 @@ use Rattle.engine_session.specs.Handing.{live_files}
 use Rattle.engine_session.specs.Laws.{MachinesFilesAreLive}
 use Rattle.run_law.specs.Journal.{inbox_left}
 use Rattle.run_law.specs.Run.{IsStateOf}
-use Rattle.run_law.specs.Turns.{IsNextSession}
 use Rattle.engine_steps.specs.Handing.{HasBytes, HasBytesOf, JobIsHanded, IsHandedAs}
 use Rattle.engine_session.specs.Job.{JobStandsIn}
 use Rattle.engine_session.specs.declared.job.Job.{Job}
@@ -126,22 +124,21 @@ moment_of moment there (Files connection numbers) = refl
 moment_of moment there (Generate index) = refl
 moment_of moment there (Receive name) = refl
 
-module _ (sessions : ChoicesAreSessions) (choices : ChoicesAreSeen) (seen : QueuesAreSeen) (live : MachinesFilesAreLive) (flow : Flow) (k : Kept) (queues : List QueueState) (names : List (List ℕ)) (moment : ℕ) (last : Option ℕ) (choice : Choice)
+module _ (sessions : TakingsAreSessions) (seen : QueuesAreSeen) (live : MachinesFilesAreLive) (flow : Flow) (k : Kept) (queues : List QueueState) (names : List (List ℕ)) (moment : ℕ) (choice : Choice)
     (contents : ContentRef → List ℕ) (m : Machine) (left : List NamedFile) (standing : List ℕ → Option (List ℕ)) (job : Job) where
   pub stands_in : IsConsistent k → k.batches ≡ [] → flow_in k ≡ identity_of flow → AreQueuesOf flow k [] queues → HaveSizes contents k
-      → due_expiry flow (queue_seen queues) moment ≡ None → next_choice flow (known_alone (queue_seen queues) k.counts names moment) last ≡ Some choice → IsNext flow k names moment choice
+      → ProcessorTakes flow (known_alone (queue_seen queues) k.counts names moment) choice → IsNext flow k names moment choice
       → IsStateOf m contents k → IsValid flow m.state → coming_of m.world ≡ names → left ≡ inbox_left m.world → standing ≡ m.world.outbox
-      → JobIsHanded k moment choice job → IsHandedAs true true true k contents left standing choice job → JobStandsIn flow last k contents m job
-  stands_in consistent no_batches flow_is are sizes nothing chosen next tied valid coming lies stands handed told =
+      → JobIsHanded k moment choice job → IsHandedAs true true true k contents left standing choice job → JobStandsIn flow k contents m job
+  stands_in consistent no_batches flow_is are sizes chosen next tied valid coming lies stands handed told =
       let count = ap (λ (f : store.Flow). length f.connections) flow_is ∙ length-map flow.connections (λ c. c.id) in
       let sees : SeesTheSame flow (queue_seen queues) (queues_of m.state) =
       subst (λ (s : State). SeesTheSame flow (queue_seen queues) (queues_of s)) tied.is (seen_alone seen flow contents m.state.events k queues consistent sizes count are) in
       let known = known_alone (queue_seen queues) m.state.counts (coming_of m.world) moment in
-      let comes : next_choice flow known last ≡ Some choice =
-      ap (λ (counts : List ℕ). next_choice flow (known_alone (queue_seen queues) counts (coming_of m.world) moment) last) (sym (ap (λ (s : State). s.counts) tied.is))
-      ∙ ap (λ (names : List (List ℕ)). next_choice flow (known_alone (queue_seen queues) k.counts names moment) last) coming
-      ∙ chosen in
-      let at = (sessions flow m.state m.world [] known last choice valid (alone_known flow m.state m.world (queue_seen queues) moment sees) comes).0 in
+      let takes_there : ProcessorTakes flow known choice =
+      subst (λ (counts : List ℕ). ProcessorTakes flow (known_alone (queue_seen queues) counts (coming_of m.world) moment) choice) (ap (λ (s : State). s.counts) tied.is)
+      (subst (λ (names : List (List ℕ)). ProcessorTakes flow (known_alone (queue_seen queues) k.counts names moment) choice) (sym coming) chosen) in
+      let at = (sessions flow m.state m.world [] known choice valid (alone_known flow m.state m.world (queue_seen queues) moment sees) takes_there).0 in
       let both : Some at.processor ≡ Some next.processor = sym at.found ∙ next.found in
       let same : next.processor ≡ at.processor = cc in
       let takes = subst (λ (p : Processor). TakesSo k names moment p.kind choice.taking) same next.takes in
@@ -155,21 +152,10 @@ module _ (sessions : ChoicesAreSessions) (choices : ChoicesAreSeen) (seen : Queu
       let gives : given_in at.processor.kind choice.processor m.state m.world at.files (record job.given { bytes = None }) ≡ Some at.handed =
       ap (given_in at.processor.kind choice.processor m.state m.world at.files) (handed.given ∙ ap (λ b. given_for moment b choice.taking) there) ∙ at.given in
       let back = handed_so k names moment choice.processor m.state m.world at.files left lies job.given at.handed at.processor.kind choice.taking takes handed.given handed.has (told.received refl) gives in
-      let turn : IsNextSession flow last m job.processor job.numbers job.given.moment (record job.given { bytes = None }) = record {
-        expired = sym (sees.expiry job.given.moment) ∙ ap (due_expiry flow (queue_seen queues)) time ∙ nothing;
-        choice = choice;
-        chosen = ap (λ (t : ℕ). next_choice flow (known_alone (queues_of m.state) m.state.counts (coming_of m.world) t) last) time
-            ∙ sym (choices flow known (queues_of m.state) last sees)
-            ∙ comes;
-        place_is = sym handed.processor;
-        numbers_are = sym handed.numbers;
-        given_is = ap (λ (t : ℕ). given_for t job.given.there choice.taking) time ∙ sym handed.given;
-      } in
       record {
         processor = at.processor;
         found = ap (slice_get flow.processors) handed.processor ∙ at.found;
         read = told.read refl;
         taken = (λ i. taken_files flow m.state (handed.processor i) rule (handed.numbers i) (time i)) ∙ at.taken ∙ ap Some files;
         given = (λ i. given_in at.processor.kind (handed.processor i) m.state m.world (sym files i) (record job.given { bytes = None })) ∙ gives ∙ ap Some back;
-        comes = turn;
       }

@@ -1,15 +1,14 @@
--- What a session was handed is what the session that comes next is handed, where it stands as it stood.
+-- What a session was handed is what it would be handed again, where it stands as it stood.
 use Rattle.std.proofs.Common.{◌≡◌, ℕ, Bool, true, List, [], ◌∷◌, length, map, refl, sym, ap, subst, ◌∙◌}
-use Rattle.std.specs.Prelude.{All, Contains, IsTrue, IfSome, Option, None, Some, is_some}
+use Rattle.std.specs.Prelude.{All, Contains, IsTrue, IfSome, Option, None, Some}
 use Rattle.std.proofs.lemmas.List.Elements.{All-nil}
 use Rattle.sha2.specs.Sha256.{sha256}
-use Rattle.flowfile_record.specs.NamedFile.{NamedFile, bytes_of}
+use Rattle.flowfile_record.specs.NamedFile.{NamedFile}
 use Rattle.flowfile_record.specs.Stored.{Kept}
 use Rattle.flowfile_record.specs.declared.content.ContentRef.{ContentRef}
 use Rattle.flowfile_record.specs.declared.flow_file.FlowFile.{FlowFile}
 use Rattle.kept_state.specs.Fits.{are_active_in, are_distinct_numbers}
 use Rattle.machine_model.specs.Changing.{queued_file}
-use Rattle.machine_model.specs.State.{World}
 use Rattle.machine_model.specs.Stepping.{is_there}
 use Rattle.machine_model.specs.declared.given.Given.{Given}
 use Rattle.process_session.specs.Bench.{taken_source}
@@ -25,11 +24,11 @@ use Rattle.engine_session.specs.Handing.{AreReadOf, AreTaken, IsReadContent, fil
 use Rattle.engine_session.specs.Job.{MayHand}
 use Rattle.engine_session.specs.declared.done.Done.{Done}
 use Rattle.engine_session.specs.declared.job.Job.{Job}
-use Rattle.engine_steps.specs.Checkout.{session_in}
+use Rattle.engine_steps.specs.Checkout.{ChoiceStands}
 use Rattle.engine_steps.specs.Commit.{StandsSo}
 use Rattle.engine_steps.specs.Engine.{EngineState}
 use Rattle.engine_steps.specs.Handing.{HasBytes, HasBytesOf, JobIsHanded, IsHandedAs, MayBeTaken, connection_in, received_in}
-use Rattle.engine_steps.specs.NextJob.{IsNextJob}
+use Rattle.engine_steps.specs.OwnJob.{IsJobOf}
 use Rattle.engine_steps.specs.Standing.{HandedStands}
 use Rattle.engine_steps.proofs.Files.{all_are_live}
 
@@ -99,20 +98,20 @@ bytes_from in_tells left (Files connection numbers) file bytes is has of = subst
 bytes_from in_tells left (Generate index) file bytes is has of = subst (λ (f : Option (List ℕ)). HasBytesFrom in_tells left f bytes) (sym is) has
 bytes_from in_tells left (Receive name) file bytes is has of = subst (λ (f : Option (List ℕ)). HasBytesFrom in_tells left f bytes) (sym is) (has, of)
 
--- the work on the job that comes next is done on what was read
-pub work_is_done : (tells in_tells out_tells : Bool) (e : EngineState) (contents : ContentRef → List ℕ) (left : List NamedFile) (standing : List ℕ → Option (List ℕ)) (moment : ℕ) (job : Job) (done : Done)
-    → IsNextJob tells in_tells out_tells e contents left standing moment job → IsWorkOn e.flow (kept_by e.store).store job done → WorkIsDone e.flow (kept_by e.store).store in_tells left done
-work_is_done tells in_tells out_tells e contents left standing moment job done next work = record {
+-- the work on a job is done on what was read
+pub work_is_done : (tells in_tells out_tells : Bool) (e : EngineState) (contents : ContentRef → List ℕ) (left : List NamedFile) (standing : List ℕ → Option (List ℕ)) (moment : ℕ) (choice : Choice) (job : Job) (done : Done)
+    → IsJobOf tells in_tells out_tells e contents left standing moment choice job → IsWorkOn e.flow (kept_by e.store).store job done → WorkIsDone e.flow (kept_by e.store).store in_tells left done
+work_is_done tells in_tells out_tells e contents left standing moment choice job done next work = record {
   job = job;
   read = (next.handed.bytes, next.handed.taken.read);
-  received = bytes_from in_tells left next.choice.taking job.given.file job.given.bytes (file_given moment job.given.there next.choice.taking job.given next.handed.given) next.handed.has next.told.received;
+  received = bytes_from in_tells left choice.taking job.given.file job.given.bytes (file_given moment job.given.there choice.taking job.given next.handed.given) next.handed.has next.told.received;
   work = work;
 }
 
 -- ---- the job
 
 module _ (tells in_tells out_tells : Bool) (e : EngineState) (contents : ContentRef → List ℕ) (left : List NamedFile) (standing : List ℕ → Option (List ℕ)) (choice : Choice) (done : Done)
-    (of : WorkIsDone e.flow (kept_by e.store).store in_tells left done) (chosen : session_in e done.given.moment ≡ Some choice)
+    (of : WorkIsDone e.flow (kept_by e.store).store in_tells left done) (chosen : ChoiceStands e done.given.moment choice)
     (stands : HandedStands tells out_tells (kept_by e.store) contents standing choice done) (may : MayBeTaken (kept_by e.store) choice.taking)
     (hand : (job : Job) → JobIsHanded (kept_by e.store) done.given.moment choice job → MayHand e.flow (kept_by e.store) job) where
   abbrev k : Kept
@@ -178,9 +177,9 @@ module _ (tells in_tells out_tells : Bool) (e : EngineState) (contents : Content
     there = λ telling world same. there_is ∙ stands.there telling world same ∙ ap (λ (files : List FlowFile). is_there world (map (queued_file contents) files)) work.files;
   }
 
-  next : IsNextJob tells in_tells out_tells e contents left standing done.given.moment job
-  next = record { choice = choice; chosen = chosen; handed = handed; told = told; may = by }
+  own : IsJobOf tells in_tells out_tells e contents left standing done.given.moment choice job
+  own = record { stands = chosen; handed = handed; told = told; may = by }
 
-  -- the job that comes next is the one that was worked on
+  -- the choice's job is the one that was worked on
   pub stands_so : StandsSo tells in_tells out_tells e contents left standing done
-  stands_so = (job, next, work)
+  stands_so = (choice, job, own, work)

@@ -1,6 +1,6 @@
 -- What is left where a change was sent and committed, by the call that refused.
 use Rattle.std.proofs.Common.{◌≡◌, ◌⊎◌, inl, inr, ℕ, Bool, false, List, refl, sym, ◌∙◌, ap, subst, []}
-use Rattle.std.specs.Prelude.{Option, Result, Err, IsTrue}
+use Rattle.std.specs.Prelude.{Result, Err, IsTrue}
 use Rattle.disk_trait.specs.Files.{Files}
 use Rattle.flowfile_wal.specs.Calls.{InEach}
 use Rattle.content_repo.specs.Claims.{content_in}

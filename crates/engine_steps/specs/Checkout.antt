@@ -1,6 +1,6 @@
 -- What comes next.
 use Rattle.std.specs.Prelude.{ℕ, ◌-◌, ◌^◌, ◌<◌, nat_lt, [], Option, None, Some, length, if◌then◌else◌}
-use Rattle.engine_choice.specs.Choice.{Known, ending_of, known_by, next_choice, MayChoose}
+use Rattle.engine_choice.specs.Choice.{Known, ProcessorTakes, ending_of, known_by, next_choice, MayChoose}
 use Rattle.engine_choice.specs.declared.choice.Choice.{Choice}
 use Rattle.engine_choice.specs.declared.choice.Ending.{Ending}
 use Rattle.engine_choice.specs.declared.choice.Ending.TheVariants as ending
@@ -16,6 +16,10 @@ use Rattle.engine_steps.specs.declared.checkout.Checkout.TheVariants.{Due, Sessi
 -- what the choice goes by, where no session is in flight
 abbrev pub known_in : EngineState → (moment : ℕ) → Known
 known_in e moment = known_by e.queues (kept_by e.store).counts [] e.listing moment
+
+-- the choice stands at its moment: it is what its processor takes then, whichever session comes next
+abbrev pub ChoiceStands : EngineState → (moment : ℕ) → Choice → Type 0
+ChoiceStands e moment choice = ProcessorTakes e.flow (known_in e moment) choice
 
 -- that of the first processor in turn that is ready
 abbrev pub choice_in : EngineState → (moment : ℕ) → Option Choice

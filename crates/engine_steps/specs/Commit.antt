@@ -9,14 +9,15 @@ use Rattle.kept_state.specs.declared.limit.Limit.{Limit as TheLimit}
 use Rattle.run_law.specs.Puts.{Outgoing}
 use Rattle.store_core.specs.Store.{kept_by}
 use Rattle.run_law.specs.Work.{WritesLog}
-use Rattle.engine_steps.specs.Checkout.{session_in}
+use Rattle.engine_choice.specs.declared.choice.Choice.{Choice}
+use Rattle.engine_steps.specs.Checkout.{ChoiceStands}
 use Rattle.engine_session.specs.Change.{names_without, with_sending, without_received}
 use Rattle.engine_session.specs.Sending.{sending_of}
 use Rattle.engine_session.specs.declared.change.Sending.{Sending}
 use Rattle.engine_steps.specs.Committing.{IsLeftBySend}
 use Rattle.engine_session.specs.Done.{IsSame, IsWorkOn, step_done}
 use Rattle.engine_steps.specs.Engine.{EngineState, IsOfSameRun}
-use Rattle.engine_steps.specs.NextJob.{IsNextJob}
+use Rattle.engine_steps.specs.OwnJob.{IsJobOf}
 use Rattle.engine_steps.specs.Tending.{counted_on}
 use Rattle.engine_steps.specs.declared.commit.Committed.{Committed}
 use Rattle.engine_steps.specs.declared.commit.Committed.TheVariants.{Acked, Changed}
@@ -26,20 +27,27 @@ use Rattle.engine_steps.specs.declared.error.EngineError.TheVariants.{Disk, Inbo
 use Rattle.engine_queues.specs.Listing.{names_left}
 use Rattle.engine_session.specs.declared.job.Job.{Job}
 
--- it is the work on the job that comes next at its moment
+-- it is the work on the job of a choice that stands at its moment
 abbrev pub StandsSo : (tells in_tells out_tells : Bool) → EngineState → (ContentRef → List ℕ) → List NamedFile
     → (List ℕ → Option (List ℕ)) → Done → Type 0
 StandsSo tells in_tells out_tells e contents left standing done =
-    (job : Job) × IsNextJob tells in_tells out_tells e contents left standing done.given.moment job
+    (choice : Choice) × (job : Job)
+    × IsJobOf tells in_tells out_tells e contents left standing done.given.moment choice job
     × IsWorkOn e.flow (kept_by e.store).store job done
 
--- no job comes next at its moment, or another one than its processor worked on
+-- no choice of this processor stands at the moment
+abbrev pub TakesNothing : EngineState → (moment processor : ℕ) → Type 0
+TakesNothing e moment processor =
+    (choice : Choice) → choice.processor ≡ processor → ChoiceStands e moment choice → ⊥
+
+-- its processor takes nothing at its moment, or has another job than it worked on
 abbrev pub StandsOtherwise : (tells in_tells out_tells : Bool) → EngineState → (ContentRef → List ℕ)
     → List NamedFile
     → (List ℕ → Option (List ℕ)) → Done → Type 0
 StandsOtherwise tells in_tells out_tells e contents left standing done =
-    (session_in e done.given.moment ≡ None)
-    ⊎ ((job : Job) × IsNextJob tells in_tells out_tells e contents left standing done.given.moment job
+    TakesNothing e done.given.moment done.processor
+    ⊎ ((choice : Choice) × (job : Job) × (choice.processor ≡ done.processor)
+    × IsJobOf tells in_tells out_tells e contents left standing done.given.moment choice job
     × (IsSame done job → ⊥))
 
 -- ---- what it leaves
@@ -121,8 +129,8 @@ pub record MakesEntry (result : Result Committed EngineError) (done : Done) (now
   pub inbox : IsTrue in_tells → IsInboxBehind result done.given.file left now_left
   pub outbox : IsTrue out_tells → IsOutboxBehind result (sending_of done.outcome.sent done.sources) out now_out
 
--- Only what stands is made part of the run. Where something has changed, another job comes next at the session's moment,
--- or none, and nothing is done.
+-- Only what stands is made part of the run. Where something has changed, the session's processor has another job at the
+-- session's moment, or takes nothing, and nothing is done.
 pub record TakesWhatStands {D : Type 0} (result : Result Committed EngineError) (tells in_tells out_tells : Bool)
     (held : D → Files) (moment : D → ℕ) (images : D → ℕ → Files → Type 0) (done : Done) (e_old e_new : EngineState) (old new : D)
     (left : List NamedFile) (out now_out : Outgoing) : Type 0 where

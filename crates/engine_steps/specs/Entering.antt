@@ -1,5 +1,5 @@
 -- What becomes of the work on a job, call by call: the job is read again, its change written, its session entered.
-use Rattle.std.specs.Prelude.{◌≡◌, ◌⊎◌, ◌↔◌, ℕ, ◌≤◌, Bool, true, false, List, Option, None, Result, IsTrue, IsErrOf}
+use Rattle.std.specs.Prelude.{◌≡◌, ◌⊎◌, ◌↔◌, ℕ, Bool, true, false, List, None, Some, Result, IsTrue, IsErrOf}
 use Rattle.disk_trait.specs.Files.{Files}
 use Rattle.disk_trait.specs.Images.{Stays}
 use Rattle.disk_trait.specs.declared.damage.Damage.{Damage}
@@ -13,6 +13,7 @@ use Rattle.machine_model.specs.declared.journal.Step.{Step}
 use Rattle.store_core.specs.Change.{HasLiveContents, MayChange}
 use Rattle.store_core.specs.Store.{StoreState, kept_by}
 use Rattle.run_law.specs.Puts.{Outgoing, Start}
+use Rattle.run_law.specs.Turns.{IsWithinRun}
 use Rattle.run_law.specs.Work.{DoesNotTell}
 use Rattle.engine_session.specs.Sending.{sending_of}
 use Rattle.engine_session.specs.declared.change.Changed.{Changed}
@@ -22,7 +23,7 @@ use Rattle.engine_steps.specs.Committing.{IsOutboxLeft}
 use Rattle.engine_steps.specs.Engine.{EngineState}
 use Rattle.engine_steps.specs.Errors.{IsReadBy}
 use Rattle.engine_steps.specs.Journal.{journaled}
-use Rattle.engine_steps.specs.Running.{IsRunning, Stops}
+use Rattle.engine_steps.specs.Running.{IsRunning, Stops, undone_step}
 use Rattle.engine_steps.specs.declared.error.EngineError.{EngineError}
 use Rattle.engine_steps.specs.declared.error.EngineError.TheVariants.{Damaged, Disk, Inbox, Put, Limit, MustReopen, Memory}
 
@@ -82,17 +83,18 @@ pub record EntersSession (result : Result ℕ EngineError) (done : Done) (now : 
   pub inbox : IsTrue in_tells → IsInboxLeft result done.given.file left now_left
   pub outbox : IsTrue out_tells → IsOutboxLeft result (sending_of done.outcome.sent done.sources) out now_out
 
--- What a run becomes by a session of this moment: it goes on, unless disk or put failed, or the file that was received
+-- What a run becomes by a session that is this step: it goes on, unless disk or put failed, or the file that was received
 -- couldn't be removed; and any error may stop it.
 pub record EntersRun {D A : Type 0} (result : Result A EngineError) (tells : Bool) (held : D → Files)
-    (moment_of : D → ℕ) (images : D → ℕ → Files → Type 0) (moment : ℕ) (e_old e_new : EngineState) (old new : D)
+    (moment : D → ℕ) (images : D → ℕ → Files → Type 0) (one : Step) (e_old e_new : EngineState) (old new : D)
     (left now_left : List NamedFile) (out now_out : Outgoing) : Type 0 where
   pub goes_on : (IsErrOf result Disk → ⊥) → e_new.failed ≡ false
       → (IsErrOf result Inbox → e_new.journal ≡ e_old.journal) → (opened : Machine) (first : D) (start : Start)
-      (time : ℕ) → time ≤ moment
-      → IsRunning moment_of images e_old opened first start time old left out
-      → IsRunning moment_of images e_new opened first start moment new now_left now_out
+      (time : ℕ) → IsWithinRun start.time time one
+      → IsRunning moment images e_old opened first start time old left out
+      → IsRunning moment images e_new opened first start time new now_left now_out
   pub stopped : (error : EngineError) → IsErrOf result error → (opened : Machine) (first : D) (start : Start)
-      (time : ℕ) → time ≤ moment
-      → IsRunning moment_of images e_old opened first start time old left out
-      → Stops error tells held moment_of images e_new opened first start moment new now_left now_out
+      (time : ℕ) → IsWithinRun start.time time one
+      → IsRunning moment images e_old opened first start time old left out
+      → Stops error tells held moment images e_new opened first start time new now_left now_out
+      (undone_step error (Some one))

@@ -5,7 +5,6 @@ use Rattle.flowfile_record.specs.NamedFile.{NamedFile, bytes_of}
 use Rattle.flowfile_record.specs.Stored.{Kept}
 use Rattle.flowfile_record.specs.declared.TheConstants.{CONTENT_MAX}
 use Rattle.flowfile_record.specs.declared.content.ContentRef.{ContentRef}
-use Rattle.flowfile_record.specs.declared.flow_file.FlowFile.{FlowFile}
 use Rattle.kept_state.specs.Fits.{are_active_in, are_distinct_numbers}
 use Rattle.machine_model.specs.Changing.{queued_file}
 use Rattle.machine_model.specs.State.{World}

@@ -9,7 +9,7 @@ pub mod Handing
 pub mod HandingParts
 pub mod Journal
 pub mod Leaving
-pub mod NextJob
+pub mod OwnJob
 pub mod Opening
 pub mod Ready
 pub mod Running

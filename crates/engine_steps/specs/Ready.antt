@@ -1,9 +1,11 @@
 -- What is due of an engine, and what holds of it between two calls on any devices.
-use Rattle.std.specs.Prelude.{◌≡◌, ℕ, ◌-◌, ◌^◌, ◌<◌, ◌≤◌, ◌&&◌, nat_lt, Bool, true, false, IsTrue, List, Option, None, Some, length, is_some, []}
+use Rattle.std.specs.Prelude.{◌≡◌, ℕ, ◌-◌, ◌^◌, ◌<◌, ◌≤◌, ◌&&◌, nat_lt, Bool, true, false, IsTrue, List, Option, None, Some, length, is_some, option_map, []}
 use Rattle.std.specs.Option.{option_map_or}
 use Rattle.disk_trait.specs.Files.{Files}
 use Rattle.flowfile_record.specs.NamedFile.{NamedFile}
 use Rattle.machine_model.specs.Due.{due_expiry, is_checkpoint_due, is_reclaim_due}
+use Rattle.machine_model.specs.declared.journal.Step.{Step}
+use Rattle.machine_model.specs.declared.journal.Step.TheVariants.{Expire}
 use Rattle.machine_model.specs.Sound.{IsSound}
 use Rattle.store_core.specs.Store.{StoreState, kept_by}
 use Rattle.engine_queues.specs.Listing.{AreDistinct, names_left}
@@ -38,6 +40,11 @@ abbrev pub due_in : EngineState → (moment : ℕ) → Option Due
 due_in e moment =
     due_first (is_some (due_expiry e.flow (queue_seen e.queues) moment)) (is_log_due e.checkpoint e.store)
     (is_reclaim_due e.since_reclaim)
+
+-- the step by which files expire at this moment, if any do
+abbrev pub expiry_in : EngineState → (moment : ℕ) → Option Step
+expiry_in e moment =
+    option_map (λ due. Expire due.0 due.1 moment) (due_expiry e.flow (queue_seen e.queues) moment)
 
 -- what was due where this was done
 abbrev pub due_behind : Tended → Option Due

@@ -19,8 +19,8 @@ use Rattle.run_law.specs.Run.{IsAtStoreLimit, StandsFor}
 use Rattle.run_law.specs.Work.{IsAtWork, IsNoEarlier, IsRefused, IsShortOn, WritesLog}
 use Rattle.engine_steps.specs.Engine.{EngineState, IsOfSameRun}
 use Rattle.engine_steps.specs.Errors.{IsJournalFull}
-use Rattle.engine_steps.specs.Ready.{EngineIsReady}
-use Rattle.engine_steps.specs.Running.{IsRunning, Stops}
+use Rattle.engine_steps.specs.Ready.{EngineIsReady, expiry_in}
+use Rattle.engine_steps.specs.Running.{IsRunning, Stops, undone_step}
 use Rattle.engine_steps.specs.Tending.{GoesTo, HasExpired, IsCheckpointed, IsCutOff, StepIsDone, counted_on}
 use Rattle.engine_steps.specs.declared.error.EngineError.{EngineError}
 use Rattle.engine_steps.specs.declared.error.EngineError.TheVariants.{Disk, Limit, Memory}
@@ -44,6 +44,7 @@ pub record RunsOnTended {D A : Type 0} (result : Result A EngineError) (expired 
       (left : List NamedFile) (out : Outgoing) → time ≤ moment
       → IsRunning moment_of images e_old opened first start time old left out
       → Stops error tells held moment_of images e_new opened first start moment new left out
+      (undone_step error (expiry_in e_old moment))
 
 -- .. by a call that makes no step: it goes on at the time that it had, or an error stops it then
 pub record RunsOnSpared {D A : Type 0} (result : Result A EngineError) (tells : Bool) (held : D → Files)
@@ -53,9 +54,9 @@ pub record RunsOnSpared {D A : Type 0} (result : Result A EngineError) (tells : 
       → IsRunning moment images e_old opened first start time old left out
       → IsRunning moment images e_new opened first start time new left out
   pub stopped : (error : EngineError) → IsErrOf result error → (opened : Machine) (first : D) (start : Start) (time : ℕ)
-      (left : List NamedFile) (out : Outgoing)
+      (left : List NamedFile) (out : Outgoing) (next : Option Step)
       → IsRunning moment images e_old opened first start time old left out
-      → Stops error tells held moment images e_new opened first start time new left out
+      → Stops error tells held moment images e_new opened first start time new left out next
 
 -- ---- what each call leaves of any engine
 

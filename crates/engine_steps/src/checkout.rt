@@ -1,16 +1,18 @@
 //! What comes next.
-ghost use Rattle.std.specs.Prelude.{◌≡◌, ◌⊎◌, ◌↔◌, ◌-◌, ◌^◌, ◌<◌, true, false, IfOk, IfErr, IsErrOf};
+ghost use Rattle.std.specs.Prelude.{◌≡◌, ◌⊎◌, ◌↔◌, ◌-◌, ◌^◌, ◌<◌, None, Some, true, false, IfOk, IfErr, IsErrOf};
 ghost use Rattle.engine_choice.specs.Choice.{MayChoose};
 ghost use Rattle.run_law.specs.Ending.{journal_full};
 ghost use Rattle.store_core.specs.Store.{kept_by};
-ghost use Rattle.engine_steps.specs.Checkout.{MayCheckOut, checkout_in, choice_in, ending_in, checkout_of_ending, session_in};
+ghost use Rattle.engine_choice.specs.declared.choice.Choice.{Choice as TheChoice};
+ghost use Rattle.engine_steps.specs.Checkout.{ChoiceStands, MayCheckOut, checkout_in, choice_in, ending_in, checkout_of_ending};
+ghost use Rattle.engine_steps.specs.Commit.{TakesNothing};
 ghost use Rattle.engine_steps.specs.Ready.{due_in};
 ghost use Rattle.engine_steps.specs.declared.error.EngineError.TheVariants.{Memory, MustReopen};
 
 use crate::EngineError;
 use crate::engine::Engine;
 use crate::tending::wants_checkpoint;
-use engine_choice::{Choice, Ending, choose, ending};
+use engine_choice::{Choice, Ending, choose, ending, taking_for};
 use machine_model::RECLAIM_ENTRIES;
 use std::alloc::{AllocError, Global};
 use store_core::{Limit, Which};
@@ -65,19 +67,36 @@ impl Engine<'_> {
         }
     }
 
-    /// The session that comes next, if nothing is due.
-    pub(crate) fn next_session(
+    /// What a processor takes at a moment, whichever session comes next; none, where it takes nothing or the flow has no
+    /// such processor.
+    pub(crate) fn own_choice(
         &self,
         alloc: Global,
+        processor: u16,
         moment: u64,
     ) -> Result<Option<Choice>, AllocError>
-        requires { MayCheckOut self.now }
-        ensures { IfOk result (λ choice. choice ≡ session_in self.now moment) }
+        requires { MayChoose self.now.flow self.now.queues (kept_by self.now.store).counts self.now.listing }
+        ensures stands { IfOk result (λ found. (choice : TheChoice) → found ≡ Some choice
+            → (choice.processor ≡ processor) × ChoiceStands self.now moment choice) }
+        ensures none { IfOk result (λ found. found ≡ None → TakesNothing self.now moment processor) }
     {
-        if self.is_due(alloc, moment)? {
+        if u64::from(processor) >= self.flow.processors.len() {
             return Ok(None);
         }
-        self.choice(alloc, moment)
+        let counts = self.store.state().counts.as_slice();
+        match taking_for(
+            alloc,
+            self.flow,
+            &self.queues,
+            counts,
+            &[],
+            &self.listing,
+            moment,
+            processor,
+        )? {
+            Some(taking) => Ok(Some(Choice { processor, taking })),
+            None => Ok(None),
+        }
     }
 
     // Whether anything is due. Where the engine knows that nothing is, the queues aren't searched.

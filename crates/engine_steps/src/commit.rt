@@ -12,7 +12,7 @@ ghost use Rattle.machine_model.specs.State.{Machine};
 ghost use Rattle.machine_model.specs.declared.flow.Flow.{Flow as TheFlow};
 ghost use Rattle.store_core.specs.Change.{HasLiveContents, MayChange};
 ghost use Rattle.store_core.specs.Store.{kept_by};
-ghost use Rattle.engine_steps.specs.Checkout.{session_in};
+ghost use Rattle.engine_steps.specs.Checkout.{ChoiceStands};
 ghost use Rattle.engine_steps.specs.Commit.{CommitsAlone, IsEntered, IsInboxBehind, IsInboxLeft, IsJournaled, IsLeftOut, IsOutboxBehind, MakesEntry, StandsOtherwise, StandsSo, TakesWhatStands};
 ghost use Rattle.engine_steps.specs.Committing.{HasWritten, IsAtWorkWithQueues, IsOutboxLeft};
 ghost use Rattle.engine_session.specs.Done.{WorkIsDone, step_done};
@@ -35,7 +35,7 @@ use crate::memory::holds_its_state;
 use crate::sending::{commit, remove};
 use crate::standing::handed_stands;
 use disk_trait::Disk;
-use engine_choice::{Choice, choices_are_seen, choices_are_sessions};
+use engine_choice::{Choice, takings_are_sessions};
 use engine_queues::what_is_kept_is_seen;
 use engine_session::{Changed, Done, is_work_on, session_change, step_done, taken_files_are_live};
 use machine_model::{Given, Step};
@@ -53,11 +53,11 @@ pub enum Committed {
 }
 
 impl Engine<'_> {
-    /// Makes a session part of the run. First it looks whether its job still stands: where the queues, the contents or
-    /// the outbox are no longer what its processor worked on, nothing is done. The file that it received isn't read
-    /// again: the inbox is asked for it, and answers with a failure where it changed. Then what the session sends is put
-    /// into the outbox, its change is committed, and the file that it received is removed from the inbox. Before the put
-    /// all its memory is taken. It asks for the moment at which its processor worked, no earlier than the journal's last.
+    /// Makes a session part of the run. First it looks whether its job still stands, whichever session would come next:
+    /// where its processor no longer takes the same at its moment, or the contents or the outbox aren't what it worked
+    /// on, nothing is done. The file that it received isn't read again: the inbox is asked for it, and answers with a
+    /// failure where it changed. Then what the session sends is put into the outbox, its change is committed, and the file
+    /// that it received is removed from the inbox. Before the put all its memory is taken.
     pub fn commit<D: Disk, I: Inbox, O: Outbox>(
         &mut self,
         alloc: Global,
@@ -79,7 +79,7 @@ impl Engine<'_> {
             (outgoing O.standing O.puts outbox.old) (outgoing O.standing O.puts outbox.new) }
         // The run goes on, unless a file that was received couldn't be removed, or it is stopped.
         ensures run { IsTrue D.tells → IsTrue I.tells → IsTrue O.tells
-            → CommitsRun result D.tells D.held D.moment D.images done.given.moment self.old self.new disk.old disk.new
+            → CommitsRun result D.tells D.held D.moment D.images (step_done done) self.old self.new disk.old disk.new
             (I.left inbox.old) (I.left inbox.new) (outgoing O.standing O.puts outbox.old)
             (outgoing O.standing O.puts outbox.new) }
         // Whatever inbox and outbox tell.
@@ -117,7 +117,7 @@ impl Engine<'_> {
             (outgoing O.standing O.puts outbox.old) (outgoing O.standing O.puts outbox.new) }
         ensures inbox { result ≡ Ok Committed.Changed → I.left inbox.new ≡ I.left inbox.old }
         ensures run { IsTrue D.tells → IsTrue I.tells → IsTrue O.tells
-            → EntersRun result D.tells D.held D.moment D.images done.given.moment self.old self.new disk.old disk.new
+            → EntersRun result D.tells D.held D.moment D.images (step_done done) self.old self.new disk.old disk.new
             (I.left inbox.old) (I.left inbox.new) (outgoing O.standing O.puts outbox.old)
             (outgoing O.standing O.puts outbox.new) }
         ensures leaves { LeavesEngine result D.tells D.held D.moment D.images I.tells (I.left inbox.new)
@@ -136,8 +136,8 @@ impl Engine<'_> {
         Ok(Committed::Acked { entry, moment })
     }
 
-    // Whether the job of this work still stands: whether the session that comes next at its moment is handed the same. It
-    // is read again only where that doesn't show without.
+    // Whether the job of this work still stands: whether its processor takes the same at its moment, and is handed the
+    // same. It is read again only where that doesn't show without.
     fn stands<D: Disk, I: Inbox, O: Outbox>(
         &mut self,
         alloc: Global,
@@ -163,7 +163,7 @@ impl Engine<'_> {
             (I.faults inbox.old) (I.faults inbox.new) (O.faults outbox.old) (O.faults outbox.new) }
     {
         let moment = done.given.moment;
-        let Some(choice) = self.next_session(alloc, moment)? else {
+        let Some(choice) = self.own_choice(alloc, done.processor, moment)? else {
             return Ok(false);
         };
         if self.shows_to_stand(alloc, disk, inbox, outbox, &choice, done)? {
@@ -183,7 +183,7 @@ impl Engine<'_> {
         done: &Done,
     ) -> Result<bool, EngineError>
         requires ready { EngineIsReady D.tells D.held D.moment D.images self.old disk.old }
-        requires chosen { session_in self.old done.now.given.moment ≡ Some choice.now }
+        requires stands { ChoiceStands self.old done.now.given.moment choice.now }
         requires left { IsTrue I.tells → AreTakeable (I.left inbox.old) (names_left self.old.listing) }
         requires done { WorkIsDone self.old.flow (kept_by self.old.store).store I.tells (I.left inbox.old) done.now }
         ensures so { result ≡ Ok true
@@ -212,7 +212,8 @@ impl Engine<'_> {
         done: &Done,
     ) -> Result<bool, EngineError>
         requires ready { EngineIsReady D.tells D.held D.moment D.images self.old disk.old }
-        requires chosen { session_in self.old done.now.given.moment ≡ Some choice }
+        requires own { choice.processor ≡ done.now.processor }
+        requires stands { ChoiceStands self.old done.now.given.moment choice }
         requires left { IsTrue I.tells → AreTakeable (I.left inbox.old) (names_left self.old.listing) }
         requires done { WorkIsDone self.old.flow (kept_by self.old.store).store I.tells (I.left inbox.old) done.now }
         ensures so { result ≡ Ok true
@@ -249,7 +250,7 @@ impl Engine<'_> {
             (I.left inbox.old) (I.left inbox.new) (outgoing O.standing O.puts outbox.old)
             (outgoing O.standing O.puts outbox.new) }
         ensures run { IsTrue D.tells → IsTrue I.tells → IsTrue O.tells
-            → EntersRun result D.tells D.held D.moment D.images done.given.moment self.old self.new disk.old disk.new
+            → EntersRun result D.tells D.held D.moment D.images (step_done done) self.old self.new disk.old disk.new
             (I.left inbox.old) (I.left inbox.new) (outgoing O.standing O.puts outbox.old)
             (outgoing O.standing O.puts outbox.new) }
         ensures leaves { LeavesEngine result D.tells D.held D.moment D.images I.tells (I.left inbox.new)
@@ -260,8 +261,7 @@ impl Engine<'_> {
             (I.faults inbox.old) (I.faults inbox.new) (O.faults outbox.old) (O.faults outbox.new) }
     {
         holds_its_state(&self.store, disk);
-        choices_are_sessions();
-        choices_are_seen();
+        takings_are_sessions();
         taken_files_are_live();
         what_is_kept_is_seen();
         run_goes_on::<D>();

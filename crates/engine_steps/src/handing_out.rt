@@ -13,12 +13,12 @@ ghost use Rattle.kept_state.specs.declared.limit.Limit.{Limit as TheLimit};
 ghost use Rattle.machine_model.specs.Acting.{name_in};
 ghost use Rattle.machine_model.specs.declared.flow.Flow.{Flow as TheFlow};
 ghost use Rattle.store_core.specs.Store.{kept_by};
-ghost use Rattle.engine_steps.specs.Checkout.{session_in};
+ghost use Rattle.engine_steps.specs.Checkout.{ChoiceStands};
 ghost use Rattle.engine_session.specs.Done.{MayWorkOn};
 ghost use Rattle.engine_steps.specs.Engine.{AreTakeable};
 ghost use Rattle.engine_steps.specs.Errors.{CountsEachFault, IsReadBy, OnlyReads, EngineRefusesToRead};
 ghost use Rattle.engine_steps.specs.Handing.{JobIsHanded, IsHandedAs, MayBeReceived, MayBeTaken};
-ghost use Rattle.engine_steps.specs.NextJob.{IsNextJob};
+ghost use Rattle.engine_steps.specs.OwnJob.{IsJobOf};
 ghost use Rattle.engine_steps.specs.Ready.{EngineIsReady, IsUsableWith};
 ghost use Rattle.run_law.specs.Work.{DoesNotTell, IsAtWork};
 ghost use Rattle.run_law.specs.Puts.{outgoing};
@@ -39,8 +39,8 @@ use store_core::Store;
 use world_io::{Inbox, Name, Outbox};
 
 impl Engine<'_> {
-    /// Reads the job of a session that comes next: the contents of the files that it takes, or the file of the inbox,
-    /// and whether the outbox has the file's name. Nothing is written.
+    /// Reads the job of a session that was chosen, and stands at its moment: the contents of the files that it takes, or
+    /// the file of the inbox, and whether the outbox has the file's name. Nothing is written.
     pub fn read<D: Disk, I: Inbox, O: Outbox>(
         &mut self,
         alloc: Global,
@@ -51,9 +51,9 @@ impl Engine<'_> {
         choice: Choice,
     ) -> Result<Job, EngineError>
         requires usable { IsUsableWith D.tells D.held D.moment D.images I.tells (I.left inbox.old) self.old disk.old }
-        requires chosen { session_in self.old moment ≡ Some choice }
-        ensures job { IfOk result (λ job. IsNextJob D.tells I.tells O.tells self.old
-            (content_in (D.held disk.old)) (I.left inbox.old) (O.standing outbox.old) moment job
+        requires stands { ChoiceStands self.old moment choice }
+        ensures job { IfOk result (λ job. IsJobOf D.tells I.tells O.tells self.old
+            (content_in (D.held disk.old)) (I.left inbox.old) (O.standing outbox.old) moment choice job
             × MayWorkOn self.old.flow (kept_by self.old.store).store job) }
         ensures engine { OnlyReads result self.old self.new }
         ensures world { Stays D.held D.moment D.images disk.old disk.new × (I.left inbox.new ≡ I.left inbox.old)
@@ -83,10 +83,10 @@ impl Engine<'_> {
         choice: Choice,
     ) -> Result<Job, EngineError>
         requires ready { EngineIsReady D.tells D.held D.moment D.images self.old disk.old }
-        requires chosen { session_in self.old moment ≡ Some choice }
+        requires stands { ChoiceStands self.old moment choice }
         requires left { IsTrue I.tells → AreTakeable (I.left inbox.old) (names_left self.old.listing) }
-        ensures job { IfOk result (IsNextJob D.tells I.tells O.tells self.old
-            (content_in (D.held disk.old)) (I.left inbox.old) (O.standing outbox.old) moment) }
+        ensures job { IfOk result (IsJobOf D.tells I.tells O.tells self.old
+            (content_in (D.held disk.old)) (I.left inbox.old) (O.standing outbox.old) moment choice) }
         ensures may { IfOk result (MayWorkOn self.old.flow (kept_by self.old.store).store) }
         ensures rest { self.new ≡ record self.old { store = self.new.store } }
         ensures leaves { LeavesAsRead result D.tells D.held D.moment D.images D.faults I.left I.faults

@@ -11,6 +11,7 @@ use Rattle.flowfile_wal.specs.Calls.{InEach}
 use Rattle.kept_state.specs.declared.limit.Limit.{Limit as TheLimit}
 use Rattle.machine_model.specs.declared.flow.Flow.{Flow}
 use Rattle.machine_model.specs.declared.journal.Entry.{Entry}
+use Rattle.machine_model.specs.declared.journal.Step.{Step}
 use Rattle.machine_model.specs.Acknowledged.{steps}
 use Rattle.machine_model.specs.State.{Machine, State}
 use Rattle.store_core.specs.Flow as store
@@ -25,7 +26,7 @@ use Rattle.run_law.specs.Ending.{EndsOnFaults, IsLimitMet, journal_full}
 use Rattle.run_law.specs.Going.{IsRunningAt, IsSpared}
 use Rattle.run_law.specs.Laws.{BlockedRunsEnd, FaultsEnd, LimitedRunsEnd, QuietRunsEnd}
 use Rattle.run_law.specs.Run.{HasRun, IsTidied, StandsFor}
-use Rattle.run_law.specs.Turns.{last_worker}
+use Rattle.run_law.specs.Turns.{ComeInTurn, last_worker}
 use Rattle.run_law.specs.Work.{IsAtWork, IsRefused}
 use Rattle.run_law.specs.declared.ended.Ended.{Ended}
 use Rattle.run_law.specs.declared.ended.Ended.TheVariants as ended
@@ -34,8 +35,8 @@ use Rattle.run_law.specs.declared.ended.Fault.TheVariants as fault
 use Rattle.engine_steps.specs.Engine.{EngineState}
 use Rattle.engine_steps.specs.Errors.{IsJournalFull, CountsEachFault, ended_by}
 use Rattle.engine_steps.specs.Opening.{IsOpened}
-use Rattle.flow_scheduler.specs.Driving.{IsEnded}
-use Rattle.engine_steps.specs.Running.{IsLimited, IsRunning, Stops}
+use Rattle.flow_scheduler.specs.Driving.{IsEnded, RunsInTurn}
+use Rattle.engine_steps.specs.Running.{IsLimited, Stops}
 use Rattle.engine_steps.specs.declared.error.EngineError.{EngineError}
 use Rattle.run_law.specs.Puts.{Outgoing, Start}
 use Rattle.engine_queues.specs.Listing.{names_left}
@@ -86,11 +87,11 @@ works_at_limit {A = A} result failed limit is fails =
 
 -- the run of an engine, told of its flow and a store like its own
 pub run_of : (flow other : Flow) (result : Ended) (start : Start) (time : ℕ) (tells : Bool) {D : Type 0} (held : D → Files) (moment : D → ℕ) (images : D → ℕ → Files → Type 0) (lot other_lot : ℕ) (opened : Machine) (first new : D) (left : List NamedFile)
-    (out : Outgoing) (journal : List Entry) → other ≡ flow → other_lot ≡ lot → HasRun other result start time tells held moment images other_lot opened first new left out journal
-    → HasRun flow result start time tells held moment images lot opened first new left out journal
-run_of flow other result start time tells held moment images lot other_lot opened first new left out journal flow_is lot_is run =
-    subst (λ (f : Flow). HasRun f result start time tells held moment images lot opened first new left out journal) flow_is
-    (subst (λ (l : ℕ). HasRun other result start time tells held moment images l opened first new left out journal) lot_is run)
+    (out : Outgoing) (journal : List Entry) (next : Option Step) → other ≡ flow → other_lot ≡ lot → HasRun other result start time tells held moment images other_lot opened first new left out journal next
+    → HasRun flow result start time tells held moment images lot opened first new left out journal next
+run_of flow other result start time tells held moment images lot other_lot opened first new left out journal next flow_is lot_is run =
+    subst (λ (f : Flow). HasRun f result start time tells held moment images lot opened first new left out journal next) flow_is
+    (subst (λ (l : ℕ). HasRun other result start time tells held moment images l opened first new left out journal next) lot_is run)
 
 module _ {D : Type 0} (tells : Bool) (held : D → Files) (moment : D → ℕ) (images : D → ℕ → Files → Type 0) (faults : FaultsEnd tells held moment images) (e : EngineState) (flow : Flow) (lot : ℕ) (flow_is : e.flow ≡ flow) (lot_is : e.store.lot ≡ lot)
     (flow_in_is : flow_in (kept_by e.store) ≡ identity_of e.flow) (opened : Machine) (first old new : D) (left : List NamedFile) (out : Outgoing) (start : Start) (time : ℕ) (result : Ended)
@@ -99,55 +100,58 @@ module _ {D : Type 0} (tells : Bool) (held : D → Files) (moment : D → ℕ) (
   abbrev RunsTo : Machine → Type 0
   RunsTo reached = IsRunningAt e.flow start time moment images e.store.lot opened first old e.journal reached left out
 
-  abbrev Ran : Ended → Type 0
-  Ran end = HasRun e.flow end start time tells held moment images e.store.lot opened first new left out e.journal
+  abbrev Ran : Option Step → Ended → Type 0
+  Ran next end = HasRun e.flow end start time tells held moment images e.store.lot opened first new left out e.journal next
 
   spared_by : (reached : Machine) → RunsTo reached → IsSpared e.flow moment images e.store.lot reached old new
   spared_by reached run = spares e.flow moment images e.store old new flow_in_is states reached run.holds
 
-  by_wanted : {A : Type 0} (closed : Result A EngineError) (wanted : Ended) (reached : Machine) → RunsTo reached → ClosesSo closed result wanted (IsTrue tells → IsTidied e.flow e.store.lot (held new)) → IsTrue tells
-      → (IsTidied e.flow e.store.lot (held new) → Ran wanted) → HasRun flow result start time tells held moment images lot opened first new left out e.journal
-  by_wanted closed wanted reached run closes telling ends =
-      run_of flow e.flow result start time tells held moment images lot e.store.lot opened first new left out e.journal flow_is lot_is
+  by_wanted : {A : Type 0} (closed : Result A EngineError) (wanted : Ended) (reached : Machine) (next : Option Step) → RunsTo reached → ClosesSo closed result wanted (IsTrue tells → IsTidied e.flow e.store.lot (held new)) → IsTrue tells
+      → (IsTidied e.flow e.store.lot (held new) → Ran next wanted) → HasRun flow result start time tells held moment images lot opened first new left out e.journal next
+  by_wanted closed wanted reached next run closes telling ends =
+      run_of flow e.flow result start time tells held moment images lot e.store.lot opened first new left out e.journal next flow_is lot_is
       (⊎_elim
-      (λ (so : (result ≡ wanted) × (IsTrue tells → IsTidied e.flow e.store.lot (held new))). subst Ran (sym so.0) (ends (so.1 telling)))
+      (λ (so : (result ≡ wanted) × (IsTrue tells → IsTidied e.flow e.store.lot (held new))). subst (Ran next) (sym so.0) (ends (so.1 telling)))
       (λ (fails : (result ≡ ended.Fault fault.Disk) × IsErrOf closed Disk).
-      subst Ran (sym fails.0) (faults e.flow start time time e.store.lot opened reached first old new e.journal left out fault.Disk run (omega arith) (spared_by reached run)))
+      subst (Ran next) (sym fails.0) (faults e.flow start time time e.store.lot opened reached first old new e.journal left out next fault.Disk run (omega arith) (spared_by reached run)))
       closes)
 
   pub closes_blocked : {A : Type 0} (closed : Result A EngineError) → BlockedRunsEnd tells held moment images → (connection : ℕ) → IsEnded (Blocked connection) moment images e opened first start time old left out
-      → ClosesSo closed result (ended.Blocked connection) (IsTrue tells → IsTidied e.flow e.store.lot (held new)) → IsTrue tells → HasRun flow result start time tells held moment images lot opened first new left out e.journal
+      → ClosesSo closed result (ended.Blocked connection) (IsTrue tells → IsTidied e.flow e.store.lot (held new)) → IsTrue tells → HasRun flow result start time tells held moment images lot opened first new left out e.journal None
   closes_blocked closed law connection end closes telling =
-      by_wanted closed (ended.Blocked connection) end.reached end.to.run closes telling (λ tidied.
+      by_wanted closed (ended.Blocked connection) end.reached None end.to.run closes telling (λ tidied.
       law e.flow start time time e.store.lot connection opened end.reached first old new e.journal left out end.to.run (omega arith) (spared_by end.reached end.to.run) is_left tidied end.ends)
 
   pub closes_quiet : {A : Type 0} (closed : Result A EngineError) → QuietRunsEnd tells held moment images → IsEnded Quiet moment images e opened first start time old left out
-      → ClosesSo closed result ended.Quiet (IsTrue tells → IsTidied e.flow e.store.lot (held new)) → IsTrue tells → HasRun flow result start time tells held moment images lot opened first new left out e.journal
+      → ClosesSo closed result ended.Quiet (IsTrue tells → IsTidied e.flow e.store.lot (held new)) → IsTrue tells → HasRun flow result start time tells held moment images lot opened first new left out e.journal None
   closes_quiet closed law end closes telling =
-      by_wanted closed ended.Quiet end.reached end.to.run closes telling (λ tidied.
+      by_wanted closed ended.Quiet end.reached None end.to.run closes telling (λ tidied.
       law e.flow start time time e.store.lot opened end.reached first old new e.journal left out end.to.run (omega arith) (spared_by end.reached end.to.run) is_left tidied end.ends)
 
-  pub closes_limited : {A : Type 0} (closed : Result A EngineError) → LimitedRunsEnd tells held moment images → (limit : TheLimit) → IsLimited tells held moment images e limit opened first start time old left out
-      → ClosesSo closed result (ended.Limit limit) (IsTrue tells → IsTidied e.flow e.store.lot (held new)) → IsTrue tells → HasRun flow result start time tells held moment images lot opened first new left out e.journal
-  closes_limited closed law limit stop closes telling =
-      by_wanted closed (ended.Limit limit) stop.reached stop.to.run closes telling (λ tidied.
-      law e.flow start time time e.store.lot opened stop.reached first old new e.journal left out limit stop.to.run (omega arith) stop.met (spared_by stop.reached stop.to.run) is_left tidied)
+  pub closes_limited : {A : Type 0} (closed : Result A EngineError) → LimitedRunsEnd tells held moment images → (limit : TheLimit) (next : Option Step) → IsLimited tells held moment images e limit opened first start time old left out next
+      → ClosesSo closed result (ended.Limit limit) (IsTrue tells → IsTidied e.flow e.store.lot (held new)) → IsTrue tells → HasRun flow result start time tells held moment images lot opened first new left out e.journal next
+  closes_limited closed law limit next stop closes telling =
+      by_wanted closed (ended.Limit limit) stop.reached next stop.to.run closes telling (λ tidied.
+      law e.flow start time time e.store.lot opened stop.reached first old new e.journal left out next limit stop.to.run (omega arith) stop.met (spared_by stop.reached stop.to.run) is_left tidied)
 
 -- ---- an engine that was opened
 
 pub begun : {D : Type 0} (moment : D → ℕ) (images : D → ℕ → Files → Type 0) (flow : Flow) (s : StoreState) (most checkpoint : ℕ) (e : EngineState) → IsOpened flow s most checkpoint e → (opened : Machine) (first disk : D) (start : Start) (time : ℕ) (left now_left : List NamedFile)
     (out : Outgoing) → now_left ≡ left → coming_of opened.world ≡ (names_left e.listing)
-    → IsRunningAt flow start time moment images s.lot opened first disk [] opened left out → IsRunning moment images e opened first start time disk now_left out
+    → IsRunningAt flow start time moment images s.lot opened first disk [] opened left out → RunsInTurn moment images e opened first start time disk now_left out
 begun moment images flow s most checkpoint e is opened first disk start time left now_left out left_is coming run = record {
-  reached = opened;
-  to = record {
-    run = subst (λ (l : List NamedFile). IsRunningAt e.flow start time moment images e.store.lot opened first disk e.journal opened l out) (sym left_is)
-        (subst (λ (j : List Entry). IsRunningAt e.flow start time moment images e.store.lot opened first disk j opened left out) (sym is.journal)
-        (subst (λ (f : Flow). IsRunningAt f start time moment images e.store.lot opened first disk [] opened left out) (sym is.flow_is)
-        (subst (λ (t : StoreState). IsRunningAt flow start time moment images t.lot opened first disk [] opened left out) (sym is.store_is) run)));
-    coming = coming;
-    last = is.last ∙ ap (λ (j : List Entry). last_worker None (steps j)) (sym is.journal);
+  run = record {
+    reached = opened;
+    to = record {
+      run = subst (λ (l : List NamedFile). IsRunningAt e.flow start time moment images e.store.lot opened first disk e.journal opened l out) (sym left_is)
+          (subst (λ (j : List Entry). IsRunningAt e.flow start time moment images e.store.lot opened first disk j opened left out) (sym is.journal)
+          (subst (λ (f : Flow). IsRunningAt f start time moment images e.store.lot opened first disk [] opened left out) (sym is.flow_is)
+          (subst (λ (t : StoreState). IsRunningAt flow start time moment images t.lot opened first disk [] opened left out) (sym is.store_is) run)));
+      coming = coming;
+      last = is.last ∙ ap (λ (j : List Entry). last_worker None (steps j)) (sym is.journal);
+    };
   };
+  turns = subst (λ (j : List Entry). ComeInTurn e.flow None start.time time opened (steps j)) (sym is.journal) run.within;
 }
 
 -- ---- errors
@@ -158,16 +162,16 @@ IsNoLimit error = (limit : TheLimit) → error ≡ Limit limit → ⊥
 
 -- .. has ended the run
 pub has_ended : {D : Type 0} (tells : Bool) (held : D → Files) (moment : D → ℕ) (images : D → ℕ → Files → Type 0) (e : EngineState) (opened : Machine) (first now : D) (left : List NamedFile) (out : Outgoing) (start : Start) (time : ℕ)
-    (error : EngineError) → IsNoLimit error → Stops error tells held moment images e opened first start time now left out
-    → HasRun e.flow (ended_by error) start time tells held moment images e.store.lot opened first now left out e.journal
-has_ended tells held moment images e opened first now left out start time (Damaged damage) none stops = stops time (omega arith)
-has_ended tells held moment images e opened first now left out start time Disk none stops = stops time (omega arith)
-has_ended tells held moment images e opened first now left out start time Inbox none stops = stops time (omega arith)
-has_ended tells held moment images e opened first now left out start time Outbox none stops = stops time (omega arith)
-has_ended tells held moment images e opened first now left out start time Put none stops = stops time (omega arith)
-has_ended tells held moment images e opened first now left out start time (Limit limit) none stops = absurd (none limit refl)
-has_ended tells held moment images e opened first now left out start time MustReopen none stops = stops time (omega arith)
-has_ended tells held moment images e opened first now left out start time Memory none stops = stops time (omega arith)
+    (error : EngineError) (next : Option Step) → IsNoLimit error → Stops error tells held moment images e opened first start time now left out next
+    → HasRun e.flow (ended_by error) start time tells held moment images e.store.lot opened first now left out e.journal next
+has_ended tells held moment images e opened first now left out start time (Damaged damage) next none stops = stops time (omega arith)
+has_ended tells held moment images e opened first now left out start time Disk next none stops = stops time (omega arith)
+has_ended tells held moment images e opened first now left out start time Inbox next none stops = stops time (omega arith)
+has_ended tells held moment images e opened first now left out start time Outbox next none stops = stops time (omega arith)
+has_ended tells held moment images e opened first now left out start time Put next none stops = stops time (omega arith)
+has_ended tells held moment images e opened first now left out start time (Limit limit) next none stops = absurd (none limit refl)
+has_ended tells held moment images e opened first now left out start time MustReopen next none stops = stops time (omega arith)
+has_ended tells held moment images e opened first now left out start time Memory next none stops = stops time (omega arith)
 
 pub no_limit_faults : (error : EngineError) → IsNoLimit error → (limit : TheLimit) → ended_by error ≡ ended.Limit limit → ⊥
 no_limit_faults (Damaged damage) none limit is = cc
@@ -263,14 +267,14 @@ module _ {D : Type 0} (tells : Bool) (held : D → Files) (moment : D → ℕ) (
   -- an engine that wasn't opened has done nothing
   pub not_opened : FaultsEnd tells held moment images → (flow : Flow) (lot : ℕ) (start : Start) (time : ℕ) (opened : Machine) (first disk : D) (left now_left : List NamedFile) (out : Outgoing) (error : EngineError) (end : Ended)
       → (error ≡ Inbox) ⊎ (error ≡ Memory) → end ≡ ended_by error → now_left ≡ left → IsRunningAt flow start time moment images lot opened first disk [] opened left out
-      → HasRun flow end start time tells held moment images lot opened first disk now_left out []
+      → HasRun flow end start time tells held moment images lot opened first disk now_left out [] None
   not_opened law flow lot start time opened first disk left now_left out error end kinds is left_is run =
-      subst (λ (l : List NamedFile). HasRun flow end start time tells held moment images lot opened first disk l out []) (sym left_is) (⊎_elim
+      subst (λ (l : List NamedFile). HasRun flow end start time tells held moment images lot opened first disk l out [] None) (sym left_is) (⊎_elim
       (λ (so : error ≡ Inbox). by fault.Inbox (is ∙ ap ended_by so))
       (λ (so : error ≡ Memory). by fault.Memory (is ∙ ap ended_by so))
       kinds)
     where
-      by : (cause : Fault) → end ≡ ended.Fault cause → HasRun flow end start time tells held moment images lot opened first disk left out []
+      by : (cause : Fault) → end ≡ ended.Fault cause → HasRun flow end start time tells held moment images lot opened first disk left out [] None
       by cause so =
-          subst (λ (r : Ended). HasRun flow r start time tells held moment images lot opened first disk left out []) (sym so)
-          (law flow start time time lot opened opened first disk disk [] left out cause run (omega arith) (wider moment images disk disk (images disk (moment disk)) (StandsFor flow lot opened) (nothing moment images disk) run.holds))
+          subst (λ (r : Ended). HasRun flow r start time tells held moment images lot opened first disk left out [] None) (sym so)
+          (law flow start time time lot opened opened first disk disk [] left out None cause run (omega arith) (wider moment images disk disk (images disk (moment disk)) (StandsFor flow lot opened) (nothing moment images disk) run.holds))

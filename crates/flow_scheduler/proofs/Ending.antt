@@ -4,6 +4,7 @@ use Rattle.std.specs.Prelude.{Option, None, Some}
 use Rattle.std.proofs.lemmas.List.Elements.{All-nil}
 use Rattle.disk_trait.specs.Files.{Files}
 use Rattle.flowfile_record.specs.NamedFile.{NamedFile}
+use Rattle.machine_model.specs.Acknowledged.{steps}
 use Rattle.machine_model.specs.Files.{queues_of}
 use Rattle.machine_model.specs.Sound.{IsSound}
 use Rattle.machine_model.specs.State.{Machine}
@@ -14,17 +15,18 @@ use Rattle.engine_queues.specs.Laws.{SeesTheSame}
 use Rattle.engine_queues.specs.Queues.{queue_seen}
 use Rattle.store_core.specs.Store.{kept_by}
 use Rattle.engine_steps.specs.Checkout.{choice_in, ending_in, known_in}
-use Rattle.flow_scheduler.specs.Driving.{IsEnded, IsTurned}
+use Rattle.flow_scheduler.specs.Driving.{IsEnded, IsTurned, RunsInTurn}
 use Rattle.engine_steps.specs.Engine.{EngineState}
 use Rattle.engine_steps.specs.Running.{IsRunning}
 use Rattle.engine_steps.specs.Ready.{due_in}
 use Rattle.run_law.specs.Puts.{Outgoing, Start}
+use Rattle.run_law.specs.Turns.{ComeInTurn}
 use Rattle.engine_steps.proofs.Ending.{none_expired}
 
 -- ---- the end is the machine's
 
 module _ (law : EndsAreMachineEnds) {D : Type 0} (moment : D → ℕ) (images : D → ℕ → Files → Type 0) (e : EngineState) (opened : Machine) (first now : D) (left : List NamedFile) (out : Outgoing)
-    (start : Start) (time : ℕ) (run : IsRunning moment images e opened first start time now left out) (seen : SeesTheSame e.flow (queue_seen e.queues) (queues_of run.reached.state)) (counts : (kept_by e.store).counts ≡ run.reached.state.counts)
+    (start : Start) (time : ℕ) (run : IsRunning moment images e opened first start time now left out) (turns : ComeInTurn e.flow None start.time time opened (steps e.journal)) (seen : SeesTheSame e.flow (queue_seen e.queues) (queues_of run.reached.state)) (counts : (kept_by e.store).counts ≡ run.reached.state.counts)
     (due : due_in e time ≡ None) (sound : IsSound e.flow) where
   machine_end : choice_in e time ≡ None → IsMachineEnd e.flow run.reached.state run.reached.world time (ending_in e time)
   machine_end none =
@@ -35,11 +37,12 @@ module _ (law : EndsAreMachineEnds) {D : Type 0} (moment : D → ℕ) (images : 
   ended ending ends = record {
     reached = run.reached;
     to = run.to;
+    turns = turns;
     ends = ends;
   }
 
   pub turned_at_end : (ending : Ending) → ending ≡ ending_in e time → choice_in e time ≡ None → IsTurned (Some ending) moment images e opened first start time now left out
-  turned_at_end (Rest until) is none = run
+  turned_at_end (Rest until) is none = record { run = run; turns = turns }
   turned_at_end (Blocked connection) is none = ended (Blocked connection) (((machine_end none).is_blocked connection).0 (sym is))
   turned_at_end Quiet is none = ended Quiet ((machine_end none).is_quiet.0 (sym is))
 
@@ -48,10 +51,10 @@ module _ (law : EndsAreMachineEnds) {D : Type 0} (moment : D → ℕ) (images : 
 module _ {D : Type 0} (moment : D → ℕ) (images : D → ℕ → Files → Type 0) (e : EngineState) (opened : Machine) (first now : D) (start : Start) (left : List NamedFile) (out : Outgoing) (time : ℕ) (answer : Option Ending)
     (turned : IsTurned answer moment images e opened first start time now left out) where
   -- it went on, or it rests
-  pub went_on : answer ≡ None → IsRunning moment images e opened first start time now left out
+  pub went_on : answer ≡ None → RunsInTurn moment images e opened first start time now left out
   went_on is = subst (λ (a : Option Ending). IsTurned a moment images e opened first start time now left out) is turned
 
-  pub rests : (until : ℕ) → answer ≡ Some (Rest until) → IsRunning moment images e opened first start time now left out
+  pub rests : (until : ℕ) → answer ≡ Some (Rest until) → RunsInTurn moment images e opened first start time now left out
   rests until is = subst (λ (a : Option Ending). IsTurned a moment images e opened first start time now left out) is turned
 
   -- it ended, by a clock that tells this moment

@@ -1,6 +1,6 @@
 -- What holds from turn to turn of an engine, and how a turn stops.
 use Rattle.std.proofs.Common.{◌≡◌, ◌⊎◌, inl, inr, ℕ, ◌≤◌, Bool, true, false, true≢false, List, length, refl, sym, ◌∙◌, ap, subst, arith}
-use Rattle.std.specs.Prelude.{Option, Ok, Err, Result, IsErrOf, MatchResult}
+use Rattle.std.specs.Prelude.{Some, Ok, Err, Result, IsErrOf, MatchResult}
 use Rattle.disk_trait.specs.Faults.{CountsFaults}
 use Rattle.disk_trait.specs.Files.{Files}
 use Rattle.flowfile_record.specs.NamedFile.{NamedFile}
@@ -13,8 +13,9 @@ use Rattle.engine_choice.specs.declared.choice.Choice.{Choice}
 use Rattle.engine_choice.specs.declared.choice.Taking.{Taking}
 use Rattle.engine_choice.specs.declared.choice.Taking.TheVariants as taking
 use Rattle.run_law.specs.Ending.{journal_full}
-use Rattle.run_law.specs.Laws.{NextStepsAreInTurn, SparedRunsGoOn}
-use Rattle.run_law.specs.Turns.{ComesNext}
+use Rattle.run_law.specs.Laws.{SparedRunsGoOn}
+use Rattle.run_law.proofs.Turns.{since_start}
+use Rattle.machine_model.specs.Acknowledged.{steps}
 use Rattle.engine_steps.specs.Engine.{EngineState, IsOfSameRun}
 use Rattle.engine_steps.specs.Errors.{CountsEachFault, OnlyReads, Reopens}
 use Rattle.engine_steps.specs.Handing.{JobIsHanded}
@@ -99,23 +100,21 @@ no_limit one error same (inr memory) limit is = let both : Memory ≡ Limit limi
 module _ {D : Type 0} (tells : Bool) (held : D → Files) (moment : D → ℕ) (images : D → ℕ → Files → Type 0) (e : EngineState) (opened : Machine) (first : D) (start : Start) (time : ℕ) (now : D) (left : List NamedFile) (out : Outgoing) where
   module _ (law : SparedRunsGoOn moment images) (later : ℕ) (by : time ≤ later) where
     -- at a later time the journal has as many entries as it may, and a session comes next
-    pub limited : NextStepsAreInTurn moment images → (run : IsRunning moment images e opened first start time now left out) → length e.journal ≡ e.most → images now (moment now) (held now)
-        → HasStep e.flow e.last later run.reached → IsLimited tells held moment images e (journal_full e.most) opened first start later now left out
-    limited turn run full is_left goes =
-        let comes = subst (λ (last : Option ℕ). ComesNext e.flow last run.reached goes.next) run.to.last goes.comes in
-        let one_after = subst (λ (t : ℕ). time ≤ t) (sym goes.at) by in
-        record {
-          reached = run.reached;
-          to = (runs_on moment images law e opened first start time later now now left out run by (spared_by_none tells held moment images e.flow e.store.lot run.reached now run.to.run.holds)).to;
-          met = record {
-            next = goes.next;
-            turn = turn e.flow start time later e.store.lot opened run.reached first now e.journal goes.next left out run.to.run one_after (omega (arith, goes.at)) comes;
-            after = goes.after;
-            goes = goes.goes;
-            stands = run.to.run.holds (held now) is_left;
-            met = inr (ap journal_full (sym full));
-          };
-        }
+    pub limited : (run : IsRunning moment images e opened first start time now left out) → length e.journal ≡ e.most → images now (moment now) (held now)
+        → (goes : HasStep e.flow e.last later run.reached) → IsLimited tells held moment images e (journal_full e.most) opened first start later now left out (Some goes.next)
+    limited run full is_left goes = record {
+      reached = run.reached;
+      to = (runs_on moment images law e opened first start time later now now left out run by (spared_by_none tells held moment images e.flow e.store.lot run.reached now run.to.run.holds)).to;
+      met = record {
+        one = goes.next;
+        is = refl;
+        within = (omega (arith, since_start start.time time (steps e.journal) run.to.run.within, by, goes.at), omega (arith, goes.at));
+        after = goes.after;
+        goes = goes.goes;
+        stands = run.to.run.holds (held now) is_left;
+        met = inr (ap journal_full (sym full));
+      };
+    }
 
 -- ---- a session's moment
 

@@ -3,12 +3,14 @@ use Rattle.std.specs.Prelude.{◌≡◌, ◌⊎◌, ℕ, ◌≤◌, Bool, true, 
 use Rattle.disk_trait.specs.Files.{Files}
 use Rattle.flowfile_record.specs.NamedFile.{NamedFile}
 use Rattle.machine_model.specs.declared.journal.Entry.{Entry}
+use Rattle.machine_model.specs.declared.journal.Step.{Step}
+use Rattle.machine_model.specs.Acknowledged.{steps}
 use Rattle.machine_model.specs.State.{Machine}
 use Rattle.engine_choice.specs.Laws.{IsEndAt}
 use Rattle.engine_choice.specs.declared.choice.Ending.{Ending}
 use Rattle.engine_choice.specs.declared.choice.Ending.TheVariants.{Rest}
 use Rattle.run_law.specs.Puts.{Outgoing, Start}
-use Rattle.run_law.specs.Turns.{AreMadeAt, step_moment}
+use Rattle.run_law.specs.Turns.{AreMadeAt, ComeInTurn, IsInTurn, step_moment}
 use Rattle.run_law.specs.Work.{WritesLog}
 use Rattle.engine_steps.specs.Engine.{EngineState, IsOfSameRun}
 use Rattle.engine_steps.specs.Errors.{HasCause}
@@ -47,21 +49,37 @@ pub record KeepsTime {A : Type 0} (result : Result A EngineError) (is_given : �
 
 -- ---- where all devices tell
 
+-- The run goes on, and the steps of its journal came in turn.
+pub record RunsInTurn {D : Type 0} (moment : D → ℕ) (images : D → ℕ → Files → Type 0) (e : EngineState)
+    (opened : Machine) (first : D) (start : Start) (time : ℕ) (now : D) (left : List NamedFile)
+    (out : Outgoing) : Type 0 where
+  pub run : IsRunning moment images e opened first start time now left out
+  pub turns : ComeInTurn e.flow None start.time time opened (steps e.journal)
+
+-- An error has stopped it, at this step, if at one; and that came in turn, too.
+pub record StopsInTurn {D : Type 0} (error : EngineError) (tells : Bool) (held : D → Files) (moment : D → ℕ)
+    (images : D → ℕ → Files → Type 0) (e : EngineState) (opened : Machine) (first : D) (start : Start) (time : ℕ)
+    (now : D) (left : List NamedFile) (out : Outgoing) : Type 0 where
+  pub next : Option Step
+  pub stops : Stops error tells held moment images e opened first start time now left out next
+  pub turns : IsInTurn e.flow start.time time opened e.journal next
+
 -- Nothing is left to do, or all of it is held back, at this moment of the clock.
 pub record IsEnded {D : Type 0} (ending : Ending) (moment : D → ℕ) (images : D → ℕ → Files → Type 0) (e : EngineState)
     (opened : Machine) (first : D) (start : Start) (time : ℕ) (now : D) (left : List NamedFile)
     (out : Outgoing) : Type 0 where
   pub reached : Machine
   pub to : IsRunningTo moment images e opened first start time now left out reached
+  pub turns : ComeInTurn e.flow None start.time time opened (steps e.journal)
   pub ends : IsEndAt e.flow reached.state reached.world time ending
 
 -- what a turn leaves at this moment of the clock: a run that goes on, at once or behind a rest, or one that has ended
 abbrev pub IsTurned : {D : Type 0} → Option Ending → (D → ℕ) → (D → ℕ → Files → Type 0) → EngineState
     → (opened : Machine) → (first : D) → (start : Start) (time : ℕ) → (now : D) → List NamedFile → Outgoing → Type 0
 IsTurned None moment images e opened first start time now left out =
-    IsRunning moment images e opened first start time now left out
+    RunsInTurn moment images e opened first start time now left out
 IsTurned (Some (Rest until)) moment images e opened first start time now left out =
-    IsRunning moment images e opened first start time now left out
+    RunsInTurn moment images e opened first start time now left out
 IsTurned (Some ending) moment images e opened first start time now left out =
     IsEnded ending moment images e opened first start time now left out
 
@@ -76,7 +94,7 @@ abbrev pub DrivesRun : {A D : Type 0} → Result A EngineError
 DrivesRun {D = D} result behind tells in_tells out_tells held moment images e_old e_new by at old new left now_left
     out now_out =
     IsTrue tells → IsTrue in_tells → IsTrue out_tells → (opened : Machine) (first : D) (start : Start) (time : ℕ)
-    → time ≤ by → IsRunning moment images e_old opened first start time old left out
+    → time ≤ by → RunsInTurn moment images e_old opened first start time old left out
     → MatchResult result
     (λ answer. behind answer moment images e_new opened first start at new now_left now_out)
-    (λ error. Stops error tells held moment images e_new opened first start at new now_left now_out)
+    (λ error. StopsInTurn error tells held moment images e_new opened first start at new now_left now_out)

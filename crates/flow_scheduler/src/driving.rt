@@ -5,8 +5,7 @@ ghost use Rattle.engine_steps.specs.Checkout.{session_in};
 ghost use Rattle.engine_steps.specs.Errors.{CountsEachFault};
 ghost use Rattle.engine_steps.specs.Leaving.{MayGoOn};
 ghost use Rattle.engine_steps.specs.Ready.{due_in};
-ghost use Rattle.engine_steps.specs.Running.{IsRunning};
-ghost use Rattle.flow_scheduler.specs.Driving.{DrivesRun, GrowsAt, IsEnded, IsTurned, KeepsTime, LeavesRun};
+ghost use Rattle.flow_scheduler.specs.Driving.{DrivesRun, GrowsAt, IsEnded, IsTurned, KeepsTime, LeavesRun, RunsInTurn};
 ghost use Rattle.run_law.specs.Puts.{outgoing};
 ghost use Rattle.run_law.specs.Work.{IsNoEarlier, IsShortOn};
 
@@ -16,7 +15,7 @@ use engine_choice::{
 };
 use engine_session::{sessions_are_steps, work};
 use engine_steps::{Checkout, Engine, EngineError, Tended};
-use run_law::{faults_end_a_run, run_goes_on};
+use run_law::{faults_end_a_run, run_goes_on, turns_go_on};
 use std::alloc::Global;
 use world_io::{Clock, Gate, Inbox, Outbox};
 
@@ -48,6 +47,7 @@ pub(crate) fn drive<D: Disk, I: Inbox, O: Outbox, C: Clock, G: Gate>(
         (I.faults inbox.old) (I.faults inbox.new) (O.faults outbox.old) (O.faults outbox.new) }
 {
     faults_end_a_run::<D>();
+    turns_go_on();
     for _turn in 0..u64::MAX {
         let moment = clock.now();
         match turn(engine, alloc, disk, inbox, outbox, moment, gate)? {
@@ -84,6 +84,8 @@ fn turn<D: Disk, I: Inbox, O: Outbox, G: Gate>(
     ensures cause { CountsEachFault result (D.faults disk.old) (D.faults disk.new)
         (I.faults inbox.old) (I.faults inbox.new) (O.faults outbox.old) (O.faults outbox.new) }
 {
+    engine.shows_its_state(disk);
+    turns_go_on();
     match engine.tend(alloc, disk, moment)? {
         Tended::Nothing => go_on(engine, alloc, disk, inbox, outbox, moment, gate),
         Tended::Expired | Tended::Checkpointed | Tended::Reclaimed(_) => Ok(None),
@@ -120,6 +122,7 @@ fn go_on<D: Disk, I: Inbox, O: Outbox, G: Gate>(
     choices_are_seen();
     sessions_are_steps();
     ends_are_machine_ends();
+    turns_go_on();
     run_goes_on::<D>();
     faults_end_a_run::<D>();
     match engine.checkout(alloc, moment)? {
@@ -150,7 +153,7 @@ fn run_session<D: Disk, I: Inbox, O: Outbox, G: Gate>(
 ) -> Result<(), EngineError>
     requires may { MayGoOn D.tells D.held D.moment D.images I.tells (I.left inbox.old) engine.old disk.old }
     requires chosen { session_in engine.old moment ≡ Some choice }
-    ensures run { DrivesRun result (λ done. IsRunning) D.tells I.tells O.tells D.held D.moment D.images
+    ensures run { DrivesRun result (λ done. RunsInTurn) D.tells I.tells O.tells D.held D.moment D.images
         engine.old engine.new moment moment disk.old disk.new (I.left inbox.old) (I.left inbox.new)
         (outgoing O.standing O.puts outbox.old) (outgoing O.standing O.puts outbox.new) }
     ensures leaves { LeavesRun result D.tells D.held D.moment D.images I.tells (I.left inbox.new) engine.old engine.new
@@ -160,6 +163,9 @@ fn run_session<D: Disk, I: Inbox, O: Outbox, G: Gate>(
     ensures cause { CountsEachFault result (D.faults disk.old) (D.faults disk.new)
         (I.faults inbox.old) (I.faults inbox.new) (O.faults outbox.old) (O.faults outbox.new) }
 {
+    engine.shows_its_state(disk);
+    choices_are_seen();
+    turns_go_on();
     run_goes_on::<D>();
     faults_end_a_run::<D>();
     let job = engine.read(alloc, disk, inbox, outbox, moment, choice)?;

@@ -1,13 +1,14 @@
 //! A flow runs over an opened store until nothing is left to do, and the store is closed.
-ghost use Rattle.std.specs.Prelude.{◌≡◌, ℕ, ◌-◌, ◌^◌, ◌<◌, List, [], None, OnOk, IfErr, IfSome, IsTrue, MatchOption};
+ghost use Rattle.std.specs.Prelude.{◌≡◌, ℕ, ◌-◌, ◌^◌, ◌<◌, List, [], None, Option, OnOk, IfErr, IfSome, IsTrue, MatchOption};
 ghost use Rattle.std.specs.Result.{result_ok};
 ghost use Rattle.machine_model.specs.Sound.{IsSound};
 ghost use Rattle.machine_model.specs.State.{State};
 ghost use Rattle.machine_model.specs.declared.journal.Entry.{Entry as TheEntry};
+ghost use Rattle.machine_model.specs.declared.journal.Step.{Step as TheStep};
 ghost use Rattle.run_law.specs.Going.{IsRunningAt};
 ghost use Rattle.run_law.specs.Run.{HasRun, machine_at};
 ghost use Rattle.run_law.specs.Ending.{EndsForCause, EndsShort, IsQuietOrBlocked, IsFault};
-ghost use Rattle.run_law.specs.Turns.{AreMadeAt};
+ghost use Rattle.run_law.specs.Turns.{AreMadeAt, IsInTurn};
 ghost use Rattle.engine_steps.specs.Closing.{Shows};
 ghost use Rattle.engine_steps.specs.Errors.{ended_by};
 ghost use Rattle.run_law.specs.Work.{IsAtWork, WritesLog};
@@ -50,17 +51,21 @@ pub fn run_flow<D: Disk, I: Inbox, O: Outbox, C: Clock, G: Gate>(
     requires sound { IsSound flow.now }
     requires most { most < 2 ^ 64 - 1 }
     requires work { IsAtWork flow.now D.tells D.held D.moment D.images store disk.old }
-    // Where the devices tell, a journal of the machine's steps tells what the run did.
+    // Where the devices tell, a journal of the machine's steps tells what the run did. Each step was made in its turn, at
+    // a moment that the clock gave.
     ensures headline { IsTrue D.tells → IsTrue I.tells → IsTrue O.tells → (state : State) (first : D) (start : Start)
         → IsRunningAt flow.now start (C.time clock.old) D.moment D.images store.lot
         (machine_at state (I.left inbox.old) (O.standing outbox.old)) first disk.old []
         (machine_at state (I.left inbox.old) (O.standing outbox.old)) (I.left inbox.old)
         (outgoing O.standing O.puts outbox.old)
-        → (journal : List TheEntry) × (ran : HasRun flow.now result.ended start (C.time clock.new) D.tells D.held
-        D.moment D.images store.lot (machine_at state (I.left inbox.old) (O.standing outbox.old)) first disk.new
-        (I.left inbox.new) (outgoing O.standing O.puts outbox.new) journal) × IfSome result.closed
-        (Shows flow.now ran.reached)
-        × AreMadeAt C.given journal }
+        → (journal : List TheEntry) × (next : Option TheStep) × (ran : HasRun flow.now result.ended start
+        (C.time clock.new) D.tells D.held D.moment D.images store.lot
+        (machine_at state (I.left inbox.old) (O.standing outbox.old)) first disk.new
+        (I.left inbox.new) (outgoing O.standing O.puts outbox.new) journal next)
+        × IsInTurn flow.now start.time (C.time clock.new)
+        (machine_at state (I.left inbox.old) (O.standing outbox.old)) journal next
+        × AreMadeAt C.given journal
+        × IfSome result.closed (Shows flow.now ran.reached) }
     // At rest the time is one that the clock gave.
     ensures given { IsQuietOrBlocked result.ended → C.given (C.time clock.new) }
     // The store was closed unless something failed.

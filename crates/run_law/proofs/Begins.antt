@@ -12,6 +12,8 @@ use Rattle.store_core.specs.State.{stands_for}
 use Rattle.engine_change.specs.Committing.{identity_of}
 use Rattle.run_law.specs.Laws.{FailedOpeningsEnd, OpenedRunsBegin, RunsBegin}
 use Rattle.run_law.specs.Run.{IsPrefix, Replays, StandsFor, machine_at}
+use Rattle.run_law.specs.declared.ended.Ended.TheVariants as ending
+use Rattle.run_law.proofs.Behind.{follows_all}
 use Rattle.run_law.proofs.Gone.{all_left, none_gone}
 use Rattle.run_law.proofs.Journals.{whole_prefix}
 use Rattle.run_law.proofs.Puts.{nothing_put}
@@ -30,7 +32,7 @@ module _ {D : Type 0} (moment : D → ℕ) (images : D → ℕ → Files → Typ
   begins flow start time lot old now state left standing valid le since = record {
     ran = begun flow lot old now (machine_at state left standing) since;
     all = tt;
-    turns = le;
+    within = le;
     gone = none_gone flow left;
     valid = valid;
     holds = λ c there. since.each (moment now) c since.begun (omega arith) there;
@@ -53,10 +55,12 @@ module _ {D : Type 0} (moment : D → ℕ) (images : D → ℕ → Files → Typ
   failed_opening tells held flow start time lot files old now state left standing cause le stands since = record {
     reached = machine_at state left standing;
     ran = begun flow lot old now (machine_at state left standing) (stands_same flow lot files old now state left standing stands since);
-    acked = inl refl;
-    turns = le;
+    acked = λ closed. absurd closed;
+    few_open = inl refl;
+    within = le;
     gone = none_gone flow left;
-    inbox = inl (sym (all_left left));
+    inbox = (follows_all flow (ending.Fault cause) (machine_at state left standing) (machine_at state left standing) [] left refl (sym (all_left left))).0;
+    few_left = (follows_all flow (ending.Fault cause) (machine_at state left standing) (machine_at state left standing) [] left refl (sym (all_left left))).1;
     outbox = inl (nothing_put flow start (machine_at state left standing) standing refl);
     ends = tt;
   }

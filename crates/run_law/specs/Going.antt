@@ -1,5 +1,5 @@
 -- What holds between two steps of a run, and what a step leaves.
-use Rattle.std.specs.Prelude.{◌≡◌, ◌⊎◌, ℕ, List, None}
+use Rattle.std.specs.Prelude.{◌≡◌, ◌⊎◌, ℕ, List}
 use Rattle.disk_trait.specs.Files.{Files}
 use Rattle.disk_trait.specs.Images.{Since}
 use Rattle.flowfile_record.specs.NamedFile.{NamedFile}
@@ -12,16 +12,16 @@ use Rattle.machine_model.specs.Acknowledged.{steps}
 use Rattle.run_law.specs.Journal.{inbox_left, AreAcknowledged}
 use Rattle.run_law.specs.Puts.{Outgoing, Start}
 use Rattle.run_law.specs.Run.{HasPut, IsGoneByEntry, Replays, StandsFor}
-use Rattle.run_law.specs.Turns.{ComeInTurn}
+use Rattle.run_law.specs.Turns.{AreWithin}
 
--- Each entry of the journal is acknowledged, each was made in its turn, from the start's time up to now, and store, inbox
+-- Each entry of the journal is acknowledged, each was made at a moment from the start's time up to now, and store, inbox
 -- and outbox are those of the whole journal, which leads to this machine.
 pub record IsRunningAt {D : Type 0} (flow : Flow) (start : Start) (time : ℕ) (moment : D → ℕ)
     (images : D → ℕ → Files → Type 0) (lot : ℕ) (opened : Machine) (old now : D) (journal : List Entry)
     (reached : Machine) (left : List NamedFile) (out : Outgoing) : Type 0 where
   pub ran : Replays flow moment images lot opened journal reached old now
   pub all : AreAcknowledged journal
-  pub turns : ComeInTurn flow None start.time time opened (steps journal)
+  pub within : AreWithin start.time time (steps journal)
   pub gone : IsGoneByEntry flow opened.world.inbox left journal
   pub valid : IsValid flow reached.state
   pub holds : InEach (images now (moment now)) (StandsFor flow lot reached)

@@ -12,13 +12,12 @@ use Rattle.machine_model.specs.declared.journal.Step.{Step}
 use Rattle.machine_model.specs.declared.journal.Step.TheVariants.{Session}
 use Rattle.machine_model.specs.declared.kind.Conflict.{Conflict}
 use Rattle.machine_model.specs.declared.kind.Kind.TheVariants.{PutFile}
-use Rattle.machine_model.specs.Acknowledged.{steps}
 use Rattle.machine_model.specs.Acting.{act, name_in}
 use Rattle.machine_model.specs.Laws.{names_of_step, received_name}
 use Rattle.machine_model.specs.Placing.{EndedSession, SettledFile, settled_files}
 use Rattle.machine_model.specs.Quiet.{quiet_but_for_swaps, blocked_but_for_swaps}
 use Rattle.machine_model.specs.State.{Machine, QueuedFile, State}
-use Rattle.machine_model.specs.Stepping.{as_taken, session_after, step}
+use Rattle.machine_model.specs.Stepping.{as_taken, replay, session_after, step}
 use Rattle.machine_model.specs.Valid.{IsValid}
 use Rattle.prov_store.specs.State.{counts_of}
 use Rattle.store_core.specs.Calls.{SinceSync}
@@ -31,7 +30,7 @@ use Rattle.run_law.specs.Going.{IsBetween, IsRunningAt, IsSpared, IsStepped}
 use Rattle.run_law.specs.Journal.{inbox_left, TakesFromInbox}
 use Rattle.run_law.specs.Puts.{IsPutBy, Outgoing, Start, files_sent, puts_of_step}
 use Rattle.run_law.specs.Run.{HasRun, IsAtLimit, IsPutStep, IsStateOf, IsTidied, StandsFor, machine_at}
-use Rattle.run_law.specs.Turns.{ComeInTurn, ComesNext, last_worker, step_moment}
+use Rattle.run_law.specs.Turns.{ComeInTurn, ComesNext, IsWithinRun, last_worker, step_moment}
 use Rattle.run_law.specs.declared.ended.Ended.TheVariants as ending
 use Rattle.run_law.specs.declared.ended.Fault.{Fault}
 use Rattle.run_law.specs.declared.ended.Fault.TheVariants as fault
@@ -66,21 +65,20 @@ FailedOpeningsEnd {D} tells held moment images = (flow : Flow) (start : Start) (
     → stands_for (identity_of flow) lot files ≡ Ok state
     → SinceSync moment images old now (SameMeaning (identity_of flow) lot files)
     → HasRun flow (ending.Fault cause) start time tells held moment images lot (machine_at state left standing) old now
-    left (record { standing = standing; puts = start.puts }) []
+    left (record { standing = standing; puts = start.puts }) [] None
 
 -- ---- a run goes on
 
--- by the step that comes next, which is acknowledged now, with inbox and outbox as the step leaves them
+-- by a step of any moment up to now, which is acknowledged now, with inbox and outbox as the step leaves them
 abbrev pub SteppedRunsGoOn : {D : Type 0} → (D → ℕ) → (D → ℕ → Files → Type 0) → Type 0
-SteppedRunsGoOn {D} moment images = (flow : Flow) (start : Start) (time lot : ℕ) (opened reached after : Machine)
+SteppedRunsGoOn {D} moment images = (flow : Flow) (start : Start) (time later lot : ℕ) (opened reached after : Machine)
     (first old new : D) (journal : List Entry) (one : Step) (left now_left : List NamedFile)
     (out now_out : Outgoing)
     → IsRunningAt flow start time moment images lot opened first old journal reached left out
-    → time ≤ step_moment one → ComesNext flow (last_worker None (steps journal)) reached one
-    → step flow reached one ≡ Some after
+    → time ≤ later → IsWithinRun start.time later one → step flow reached one ≡ Some after
     → IsStepped flow moment images lot reached after old new
     → now_left ≡ inbox_left after.world → IsPutBy flow reached one after out now_out
-    → IsRunningAt flow start (step_moment one) moment images lot opened first new
+    → IsRunningAt flow start later moment images lot opened first new
     (journal ++ record { step = one; acked = Some (moment new) } ∷ [])
     after now_left now_out
 
@@ -98,25 +96,24 @@ SparedRunsGoOn {D} moment images = (flow : Flow) (start : Start) (time later lot
 abbrev pub FaultsEnd : {D : Type 0} → (tells : Bool) → (D → Files) → (D → ℕ) → (D → ℕ → Files → Type 0) → Type 0
 FaultsEnd {D} tells held moment images = (flow : Flow) (start : Start) (time later lot : ℕ) (opened reached : Machine)
     (first old new : D) (journal : List Entry) (left : List NamedFile) (out : Outgoing)
-    (cause : Fault)
+    (next : Option Step) (cause : Fault)
     → IsRunningAt flow start time moment images lot opened first old journal reached left out
     → time ≤ later → IsSpared flow moment images lot reached old new
-    → HasRun flow (ending.Fault cause) start later tells held moment images lot opened first new left out journal
+    → HasRun flow (ending.Fault cause) start later tells held moment images lot opened first new left out journal next
 
--- of the disk within the step that comes next: its outbox may be done, and what it takes from the inbox is still there
+-- of the disk within a step: its outbox may be done, and what it takes from the inbox is still there
 abbrev pub DiskFaultsEnd : {D : Type 0} → (tells : Bool) → (D → Files) → (D → ℕ) → (D → ℕ → Files → Type 0) → Type 0
 DiskFaultsEnd {D} tells held moment images = (flow : Flow) (start : Start) (time later lot : ℕ)
     (opened reached after : Machine) (first old new : D) (journal : List Entry) (one : Step) (left : List NamedFile)
     (out now_out : Outgoing)
     → IsRunningAt flow start time moment images lot opened first old journal reached left out
-    → time ≤ step_moment one → step_moment one ≤ later
-    → ComesNext flow (last_worker None (steps journal)) reached one → step flow reached one ≡ Some after
+    → time ≤ later → IsWithinRun start.time later one → step flow reached one ≡ Some after
     → IsBetween flow moment images lot reached after old new
     → IsPutBy flow reached one after out now_out
     → HasRun flow (ending.Fault fault.Disk) start later tells held moment images lot opened first new left now_out
-    (journal ++ record { step = one; acked = None } ∷ [])
+    (journal ++ record { step = one; acked = None } ∷ []) None
 
--- of the outbox at the put of the step that comes next: what stands under that name may be anything
+-- of the outbox at the put of a step: what stands under that name may be anything
 abbrev pub OutboxFaultsEnd : {D : Type 0} → (tells : Bool) → (D → Files) → (D → ℕ) → (D → ℕ → Files → Type 0)
     → Type 0
 OutboxFaultsEnd {D} tells held moment images = (flow : Flow) (start : Start) (time later lot : ℕ)
@@ -124,13 +121,12 @@ OutboxFaultsEnd {D} tells held moment images = (flow : Flow) (start : Start) (ti
     (out now_out : Outgoing) (name bytes : List ℕ)
     → IsRunningAt flow start time moment images lot opened first old journal reached left out
     → IsSpared flow moment images lot reached old new
-    → time ≤ step_moment one → step_moment one ≤ later
-    → ComesNext flow (last_worker None (steps journal)) reached one → step flow reached one ≡ Some after
+    → time ≤ later → IsWithinRun start.time later one → step flow reached one ≡ Some after
     → IsPutStep flow reached one name → after.world.outbox ≡ with_file reached.world.outbox name bytes
     → ((other : List ℕ) → other ≢ name → now_out.standing other ≡ out.standing other)
     → now_out.puts ≡ out.puts ++ puts_of_step flow reached one
     → HasRun flow (ending.Fault fault.Outbox) start later tells held moment images lot opened first new left
-    now_out journal
+    now_out journal (Some one)
 
 -- of the inbox behind a step that took a file: it may be gone or not
 abbrev pub InboxFaultsEnd : {D : Type 0} → (tells : Bool) → (D → Files) → (D → ℕ) → (D → ℕ → Files → Type 0)
@@ -139,13 +135,12 @@ InboxFaultsEnd {D} tells held moment images = (flow : Flow) (start : Start) (tim
     (opened reached after : Machine) (first old new : D) (journal : List Entry) (one : Step) (name : List ℕ)
     (left now_left : List NamedFile) (out now_out : Outgoing)
     → IsRunningAt flow start time moment images lot opened first old journal reached left out
-    → time ≤ step_moment one → step_moment one ≤ later
-    → ComesNext flow (last_worker None (steps journal)) reached one → step flow reached one ≡ Some after
+    → time ≤ later → IsWithinRun start.time later one → step flow reached one ≡ Some after
     → IsStepped flow moment images lot reached after old new → TakesFromInbox flow one name
     → (now_left ≡ left) ⊎ (now_left ≡ without name left)
     → IsPutBy flow reached one after out now_out
     → HasRun flow (ending.Fault fault.Inbox) start later tells held moment images lot opened first new now_left
-    now_out (journal ++ record { step = one; acked = Some (moment new) } ∷ [])
+    now_out (journal ++ record { step = one; acked = Some (moment new) } ∷ []) None
 
 -- ---- a run ends: its store was closed
 
@@ -158,7 +153,7 @@ QuietRunsEnd {D} tells held moment images = (flow : Flow) (start : Start) (time 
     → time ≤ later → IsSpared flow moment images lot reached old new
     → images new (moment new) (held new) → IsTidied flow lot (held new)
     → quiet_but_for_swaps flow reached.state reached.world later ≡ true
-    → HasRun flow ending.Quiet start later tells held moment images lot opened first new left out journal
+    → HasRun flow ending.Quiet start later tells held moment images lot opened first new left out journal None
 
 -- all that there was to do, but for swaps, was held back
 abbrev pub BlockedRunsEnd : {D : Type 0} → (tells : Bool) → (D → Files) → (D → ℕ) → (D → ℕ → Files → Type 0)
@@ -171,6 +166,7 @@ BlockedRunsEnd {D} tells held moment images = (flow : Flow) (start : Start) (tim
     → images new (moment new) (held new) → IsTidied flow lot (held new)
     → blocked_but_for_swaps flow reached.state reached.world later ≡ Some place
     → HasRun flow (ending.Blocked place) start later tells held moment images lot opened first new left out journal
+    None
 
 -- a limit was met
 abbrev pub LimitedRunsEnd : {D : Type 0} → (tells : Bool) → (D → Files) → (D → ℕ) → (D → ℕ → Files → Type 0)
@@ -178,24 +174,27 @@ abbrev pub LimitedRunsEnd : {D : Type 0} → (tells : Bool) → (D → Files) �
 LimitedRunsEnd {D} tells held moment images = (flow : Flow) (start : Start) (time later lot : ℕ)
     (opened reached : Machine)
     (first old new : D) (journal : List Entry) (left : List NamedFile) (out : Outgoing)
-    (limit : Limit)
+    (next : Option Step) (limit : Limit)
     → IsRunningAt flow start time moment images lot opened first old journal reached left out
-    → time ≤ later → IsAtLimit flow start later tells held moment images lot opened journal reached limit old
+    → time ≤ later → IsAtLimit flow start later tells held moment images lot journal next reached limit old
     → IsSpared flow moment images lot reached old new
     → images new (moment new) (held new) → IsTidied flow lot (held new)
     → HasRun flow (ending.Limit limit) start later tells held moment images lot opened first new left out journal
+    next
 
--- ---- the journal with one step more
+-- ---- steps that come in turn
 
--- with the step that comes next it is in turn, up to any time behind that
-abbrev pub NextStepsAreInTurn : {D : Type 0} → (D → ℕ) → (D → ℕ → Files → Type 0) → Type 0
-NextStepsAreInTurn {D} moment images = (flow : Flow) (start : Start) (time later lot : ℕ) (opened reached : Machine)
-    (first now : D) (journal : List Entry) (one : Step) (left : List NamedFile)
-    (out : Outgoing)
-    → IsRunningAt flow start time moment images lot opened first now journal reached left out
-    → time ≤ step_moment one → step_moment one ≤ later
-    → ComesNext flow (last_worker None (steps journal)) reached one
-    → ComeInTurn flow None start.time later opened (steps journal ++ one ∷ [])
+-- .. do so with the step that comes next behind them, up to any time behind that
+abbrev pub NextStepsComeInTurn : Type 0
+NextStepsComeInTurn = (flow : Flow) (since until later : ℕ) (opened reached : Machine) (all : List Step) (one : Step)
+    → ComeInTurn flow None since until opened all → replay flow opened all ≡ Some reached
+    → until ≤ step_moment one → step_moment one ≤ later → ComesNext flow (last_worker None all) reached one
+    → ComeInTurn flow None since later opened (all ++ one ∷ [])
+
+-- .. and as time goes by
+abbrev pub StepsStayInTurn : Type 0
+StepsStayInTurn = (flow : Flow) (since until later : ℕ) (opened : Machine) (all : List Step)
+    → ComeInTurn flow None since until opened all → until ≤ later → ComeInTurn flow None since later opened all
 
 -- ---- what a store has in memory
 

@@ -1,6 +1,6 @@
 -- What a run of a flow promises.
 use Rattle.std.specs.Prelude.{◌≡◌, ◌≢◌, ◌⊎◌, ⊤, ℕ, ◌+◌, ◌≤◌, Bool, true, false, List, [], ◌∷◌, ◌++◌, length, map, slice_get}
-use Rattle.std.specs.Prelude.{Option, Some, None, Ok, IsSome, IsNone, MatchOption}
+use Rattle.std.specs.Prelude.{Option, Some, Ok, IsSome, IsNone, MatchOption}
 use Rattle.disk_trait.specs.Files.{Files}
 use Rattle.disk_trait.specs.Images.{SinceMoment, Since}
 use Rattle.flowfile_record.specs.NamedFile.{NamedFile, bytes_of, with_file}
@@ -22,6 +22,7 @@ use Rattle.machine_model.specs.Acknowledged.{steps, acknowledged, IsInOrder}
 use Rattle.machine_model.specs.Acting.{name_in}
 use Rattle.machine_model.specs.Changing.{state_after}
 use Rattle.machine_model.specs.Kinds.{take_rule_of}
+use Rattle.machine_model.specs.Laws.{names_taken}
 use Rattle.machine_model.specs.Quiet.{quiet_but_for_swaps, blocked_but_for_swaps}
 use Rattle.machine_model.specs.State.{Machine, QueuedFile, State}
 use Rattle.machine_model.specs.Stepping.{step, replay, taken_files}
@@ -30,9 +31,9 @@ use Rattle.store_core.specs.Kept.{kept_in}
 use Rattle.store_core.specs.State.{stands_for, state_with}
 use Rattle.store_core.specs.Store.{StoreState, kept_by, IsKeptOn, IsTidy}
 use Rattle.engine_change.specs.Committing.{AreEventsUpTo, BringsWritten, identity_of}
-use Rattle.run_law.specs.Journal.{inbox_left, TakesFromInbox, WasGot}
+use Rattle.run_law.specs.Journal.{inbox_left, WasGot}
 use Rattle.run_law.specs.Puts.{Outgoing, Start, outcome_of_step, puts_of, puts_of_step}
-use Rattle.run_law.specs.Turns.{ComeInTurn}
+use Rattle.run_law.specs.Turns.{AreWithin, IsWithinRun}
 use Rattle.run_law.specs.declared.ended.Ended.{Ended}
 use Rattle.run_law.specs.declared.ended.Ended.TheVariants as ending
 use Rattle.run_law.specs.declared.ended.Fault.TheVariants as fault
@@ -71,10 +72,19 @@ pub record Replays {D : Type 0} (flow : Flow) (moment : D → ℕ) (images : D �
   pub in_order : IsInOrder (moment old + 1) (moment new) journal
   pub prefixes : SinceMoment moment images (moment old + 1) old new (IsPrefix flow lot opened journal)
 
--- By now each entry is acknowledged. At a fault of the disk the last one may not be.
-abbrev pub IsAckedBy : (now : ℕ) → Ended → List Entry → Type 0
-IsAckedBy now ended journal =
-    (acknowledged journal now ≡ length journal)
+-- nothing failed
+abbrev pub IsClosedEnd : Ended → Type 0
+IsClosedEnd (ending.Fault cause) = ⊥
+IsClosedEnd _ = ⊤
+
+-- by now each entry is acknowledged
+abbrev pub AreAckedBy : (now : ℕ) → List Entry → Type 0
+AreAckedBy now journal = acknowledged journal now ≡ length journal
+
+-- or all but one, where the disk failed
+abbrev pub FewAreOpen : (now : ℕ) → Ended → List Entry → Type 0
+FewAreOpen now ended journal =
+    AreAckedBy now journal
     ⊎ ((ended ≡ ending.Fault fault.Disk) × (acknowledged journal now + 1 ≡ length journal))
 
 -- each name that is gone from the inbox is that of an acknowledged entry
@@ -90,18 +100,19 @@ pub record HasPut (flow : Flow) (start : Start) (opened : Machine) (journal : Li
 
 -- ---- where a device failed
 
--- The inbox is as before the journal's last step, which took a file: disk or inbox failed before the file was removed.
-pub record IsLeftOver (flow : Flow) (ended : Ended) (opened : Machine) (journal : List Entry) (left : List NamedFile)
-    : Type 0 where
-  pub failed : (ended ≡ ending.Fault fault.Disk) ⊎ (ended ≡ ending.Fault fault.Inbox)
-  pub before : List Entry
-  pub last : Entry
-  pub parts : before ++ last ∷ [] ≡ journal
-  pub name : List ℕ
-  pub took : TakesFromInbox flow last.step name
-  pub reached : Machine
-  pub replays : replay flow opened (steps before) ≡ Some reached
-  pub still : left ≡ inbox_left reached.world
+-- The inbox is that behind a front of the journal: what the steps behind that took is still there.
+pub record IsLeftBehind (flow : Flow) (opened : Machine) (journal : List Entry) (left : List NamedFile) : Type 0 where
+  pub front : List Entry
+  pub back : List Entry
+  pub parts : front ++ back ≡ journal
+  pub behind : Machine
+  pub replays : replay flow opened (steps front) ≡ Some behind
+  pub is : left ≡ inbox_left behind.world
+
+-- That is one step at most, and it took a file only where disk or inbox failed before the file was removed.
+pub record FewAreLeft (flow : Flow) (ended : Ended) (back : List Entry) : Type 0 where
+  pub most : length back ≤ 1
+  pub failed : names_taken flow (steps back) ≢ [] → (ended ≡ ending.Fault fault.Disk) ⊎ (ended ≡ ending.Fault fault.Inbox)
 
 -- The step is the session of a PutFile that takes one file, of this name.
 pub record IsPutStep (flow : Flow) (before : Machine) (one : Step) (name : List ℕ) : Type 0 where
@@ -118,22 +129,22 @@ pub record IsPutStep (flow : Flow) (before : Machine) (one : Step) (name : List 
   pub takes : taken_files flow before.state place (take_rule_of processor.kind) numbers moment ≡ Some (file ∷ [])
   pub named : name_in file.attributes ≡ Some name
 
--- The outbox failed at the put of the session that comes next, which isn't done: what it takes still waits. What stands
--- under the name of that may be anything. Behind the puts of the journal's steps its put was tried, once.
+-- The outbox failed at the put of this session, which isn't done: what it takes still waits. What stands under the name
+-- of that may be anything. Behind the puts of the journal's steps its put was tried, once.
 pub record IsStoppedAtPut (flow : Flow) (ended : Ended) (start : Start) (time : ℕ) (opened : Machine)
-    (journal : List Entry)
-    (reached : Machine) (out : Outgoing) : Type 0 where
+    (journal : List Entry) (next : Option Step) (reached : Machine) (out : Outgoing) : Type 0 where
   pub failed : ended ≡ ending.Fault fault.Outbox
-  pub next : Step
-  pub turn : ComeInTurn flow None start.time time opened (steps journal ++ next ∷ [])
+  pub one : Step
+  pub is : next ≡ Some one
+  pub within : IsWithinRun start.time time one
   pub after : Machine
-  pub goes : step flow reached next ≡ Some after
+  pub goes : step flow reached one ≡ Some after
   pub name : List ℕ
-  pub put : IsPutStep flow reached next name
+  pub put : IsPutStep flow reached one name
   pub bytes : List ℕ
   pub puts : after.world.outbox ≡ with_file reached.world.outbox name bytes
   pub others : (other : List ℕ) → other ≢ name → out.standing other ≡ reached.world.outbox other
-  pub tried : out.puts ≡ start.puts ++ puts_of flow opened (steps journal) ++ puts_of_step flow reached next
+  pub tried : out.puts ≡ start.puts ++ puts_of flow opened (steps journal) ++ puts_of_step flow reached one
 
 -- ---- limits
 
@@ -168,18 +179,19 @@ abbrev pub IsAtJournalLimit : Limit → List Entry → Type 0
 IsAtJournalLimit limit journal =
     limit ≡ record { which = Journal; number = length journal; wanted = length journal + 1 }
 
--- A limit was met on a disk as it was then, whose files stand for the state after the whole journal: the step that came
--- next would have passed it.
+-- A limit was met on a disk as it was then, whose files stand for the state after the whole journal: this step would have
+-- passed it.
 pub record IsAtLimit {D : Type 0} (flow : Flow) (start : Start) (time : ℕ) (tells : Bool) (held : D → Files)
     (moment : D → ℕ)
-    (images : D → ℕ → Files → Type 0) (lot : ℕ) (opened : Machine) (journal : List Entry) (reached : Machine)
+    (images : D → ℕ → Files → Type 0) (lot : ℕ) (journal : List Entry) (next : Option Step) (reached : Machine)
     (limit : Limit) (at : D) : Type 0 where
-  pub next : Step
-  pub turn : ComeInTurn flow None start.time time opened (steps journal ++ next ∷ [])
+  pub one : Step
+  pub is : next ≡ Some one
+  pub within : IsWithinRun start.time time one
   pub after : Machine
-  pub goes : step flow reached next ≡ Some after
+  pub goes : step flow reached one ≡ Some after
   pub stands : StandsFor flow lot reached (held at)
-  pub met : IsAtStoreLimit flow tells held moment images limit reached next after at
+  pub met : IsAtStoreLimit flow tells held moment images limit reached one after at
       ⊎ IsAtJournalLimit limit journal
 
 -- ---- how a run ends
@@ -209,37 +221,39 @@ pub record IsHeldBack (flow : Flow) (time place lot : ℕ) (reached : Machine) (
 
 -- A limit was met, and from then on whatever a stop may leave stands for the state after the whole journal.
 pub record IsStoppedByLimit {D : Type 0} (flow : Flow) (start : Start) (time : ℕ) (tells : Bool) (held : D → Files)
-    (moment : D → ℕ) (images : D → ℕ → Files → Type 0) (lot : ℕ) (opened : Machine) (journal : List Entry)
+    (moment : D → ℕ) (images : D → ℕ → Files → Type 0) (lot : ℕ) (journal : List Entry) (next : Option Step)
     (reached : Machine) (limit : Limit) (new : D) : Type 0 where
   pub closed : IsClosed flow lot reached (held new)
   pub at : D
-  pub met : IsAtLimit flow start time tells held moment images lot opened journal reached limit at
+  pub met : IsAtLimit flow start time tells held moment images lot journal next reached limit at
   pub since : Since moment images at new (StandsFor flow lot reached)
 
 -- What an end tells. A fault tells nothing more than that it came.
 abbrev pub EndsSo : {D : Type 0} → Flow → Ended → (start : Start) (time : ℕ) → (tells : Bool) → (D → Files) → (D → ℕ)
-    → (D → ℕ → Files → Type 0) → (lot : ℕ) → Machine → List Entry → Machine → (new : D) → Type 0
-EndsSo flow ending.Quiet start time tells held moment images lot opened journal reached new =
+    → (D → ℕ → Files → Type 0) → (lot : ℕ) → List Entry → (next : Option Step) → Machine → (new : D) → Type 0
+EndsSo flow ending.Quiet start time tells held moment images lot journal next reached new =
     RunIsDone flow time lot reached (held new)
-EndsSo flow (ending.Blocked place) start time tells held moment images lot opened journal reached new =
+EndsSo flow (ending.Blocked place) start time tells held moment images lot journal next reached new =
     IsHeldBack flow time place lot reached (held new)
-EndsSo flow (ending.Limit limit) start time tells held moment images lot opened journal reached new =
-    IsStoppedByLimit flow start time tells held moment images lot opened journal reached limit new
-EndsSo flow (ending.Fault cause) start time tells held moment images lot opened journal reached new = ⊤
+EndsSo flow (ending.Limit limit) start time tells held moment images lot journal next reached new =
+    IsStoppedByLimit flow start time tells held moment images lot journal next reached limit new
+EndsSo flow (ending.Fault cause) start time tells held moment images lot journal next reached new = ⊤
 
--- However it ended: the journal tells what the run did to disk, inbox and outbox. Each step was made in its turn, from
--- the clock's time at the start up to its time at the end. Inbox and outbox are those of the whole journal, but for the
--- one file at which a device failed.
+-- However it ended: the journal tells what the run did to disk, inbox and outbox. Each step was made at a moment from the
+-- clock's time at the start up to its time at the end. Inbox and outbox are those of the whole journal, but for the one
+-- file at which a device failed. Where a put failed or a limit was met, `next` is the step at which that was.
 pub record HasRun {D : Type 0} (flow : Flow) (ended : Ended) (start : Start) (time : ℕ) (tells : Bool) (held : D
     → Files)
     (moment : D → ℕ) (images : D → ℕ → Files → Type 0) (lot : ℕ) (opened : Machine) (old new : D)
-    (left : List NamedFile) (out : Outgoing) (journal : List Entry) : Type 0 where
+    (left : List NamedFile) (out : Outgoing) (journal : List Entry) (next : Option Step) : Type 0 where
   pub reached : Machine
   pub ran : Replays flow moment images lot opened journal reached old new
-  pub acked : IsAckedBy (moment new) ended journal
-  pub turns : ComeInTurn flow None start.time time opened (steps journal)
+  pub acked : IsClosedEnd ended → AreAckedBy (moment new) journal
+  pub few_open : FewAreOpen (moment new) ended journal
+  pub within : AreWithin start.time time (steps journal)
   pub gone : IsGoneByEntry flow opened.world.inbox left journal
-  pub inbox : (left ≡ inbox_left reached.world) ⊎ IsLeftOver flow ended opened journal left
+  pub inbox : IsLeftBehind flow opened journal left
+  pub few_left : FewAreLeft flow ended inbox.back
   pub outbox : HasPut flow start opened journal reached out
-      ⊎ IsStoppedAtPut flow ended start time opened journal reached out
-  pub ends : EndsSo flow ended start time tells held moment images lot opened journal reached new
+      ⊎ IsStoppedAtPut flow ended start time opened journal next reached out
+  pub ends : EndsSo flow ended start time tells held moment images lot journal next reached new

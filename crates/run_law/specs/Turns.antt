@@ -1,11 +1,12 @@
--- Which step of a run comes next, and when.
-use Rattle.std.specs.Prelude.{◌≡◌, ℕ, ◌≤◌, List, [], ◌∷◌, Option, Some, None}
+-- When the steps of a run are made, and which one comes next.
+use Rattle.std.specs.Prelude.{◌≡◌, ℕ, ◌≤◌, List, [], ◌∷◌, ◌++◌, Option, Some, None, IfSome}
 use Rattle.std.specs.List.{AllByRecursion}
 use Rattle.machine_model.specs.declared.flow.Flow.{Flow}
 use Rattle.machine_model.specs.declared.given.Given.{Given}
 use Rattle.machine_model.specs.declared.journal.Entry.{Entry}
 use Rattle.machine_model.specs.declared.journal.Step.{Step}
 use Rattle.machine_model.specs.declared.journal.Step.TheVariants.{Session, Expire}
+use Rattle.machine_model.specs.Acknowledged.{steps}
 use Rattle.machine_model.specs.Due.{due_expiry}
 use Rattle.machine_model.specs.Files.{queues_of}
 use Rattle.machine_model.specs.State.{Machine}
@@ -51,7 +52,22 @@ ComesNext flow last before (Expire connection numbers moment) =
     due_expiry flow (queues_of before.state) moment ≡ Some (connection, numbers)
 ComesNext flow last before _ = ⊥
 
--- ---- of a run
+-- ---- of a run whose sessions come in any order
+
+-- the step is made at a moment from one time on, up to another
+abbrev pub IsWithinRun : (since until : ℕ) → Step → Type 0
+IsWithinRun since until one = (since ≤ step_moment one) × (step_moment one ≤ until)
+
+-- so is each of these
+abbrev pub AreWithin : (since until : ℕ) → List Step → Type 0
+AreWithin since until [] = since ≤ until
+AreWithin since until (one ∷ later) = IsWithinRun since until one × AreWithin since until later
+
+-- each step of the journal was made at a moment of which this holds
+abbrev pub AreMadeAt : (given : ℕ → Type 0) → List Entry → Type 0
+AreMadeAt given journal = AllByRecursion (λ entry. given (step_moment entry.step)) journal
+
+-- ---- of a run whose sessions come one after the other
 
 -- Each of these steps comes next at its moment, one after the other; their moments don't fall, from one time on up to
 -- another.
@@ -62,6 +78,8 @@ ComeInTurn flow last since until before (one ∷ later) =
     × ((after : Machine) → step flow before one ≡ Some after
     → ComeInTurn flow (worker_behind last one) (step_moment one) until after later)
 
--- each step of the journal was made at a moment of which this holds
-abbrev pub AreMadeAt : (given : ℕ → Type 0) → List Entry → Type 0
-AreMadeAt given journal = AllByRecursion (λ entry. given (step_moment entry.step)) journal
+-- The steps of the journal come in turn, and so does the step at which the run stopped behind them, if at one.
+pub record IsInTurn (flow : Flow) (start time : ℕ) (opened : Machine) (journal : List Entry) (next : Option Step)
+    : Type 0 where
+  pub made : ComeInTurn flow None start time opened (steps journal)
+  pub stopped : IfSome next (λ one. ComeInTurn flow None start time opened (steps journal ++ one ∷ []))

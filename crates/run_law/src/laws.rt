@@ -1,5 +1,5 @@
 //! How a run of any flow begins, goes on and ends, each law as the contract of a function that does nothing.
-ghost use Rattle.run_law.specs.Laws.{RunsBegin, OpenedRunsBegin, FailedOpeningsEnd, SteppedRunsGoOn, SparedRunsGoOn, NextStepsAreInTurn, FaultsEnd, DiskFaultsEnd, OutboxFaultsEnd, InboxFaultsEnd, QuietRunsEnd, BlockedRunsEnd, LimitedRunsEnd, MemoryIsTheState, MemoryCountsEvents, TakingStepsLoseAFile, OtherStepsLoseNone, QueuesLeaveTheWorld, ReceivingSessionsLoseAFile, OtherSessionsLoseNone, SendingSessionsPutAFile, OtherSessionsPutNone, PutsSendTheTakenBytes};
+ghost use Rattle.run_law.specs.Laws.{RunsBegin, OpenedRunsBegin, FailedOpeningsEnd, SteppedRunsGoOn, SparedRunsGoOn, NextStepsComeInTurn, StepsStayInTurn, FaultsEnd, DiskFaultsEnd, OutboxFaultsEnd, InboxFaultsEnd, QuietRunsEnd, BlockedRunsEnd, LimitedRunsEnd, MemoryIsTheState, MemoryCountsEvents, TakingStepsLoseAFile, OtherStepsLoseNone, QueuesLeaveTheWorld, ReceivingSessionsLoseAFile, OtherSessionsLoseNone, SendingSessionsPutAFile, OtherSessionsPutNone, PutsSendTheTakenBytes};
 
 use disk_trait::Disk;
 use machine_model::{names_are_lost_by_taking, replay_goes_on, states_stay_valid};
@@ -17,17 +17,21 @@ pub fn failed_openings_end_a_run<D: Disk>()
     ensures { FailedOpeningsEnd D.tells D.held D.moment D.images }
 {}
 
-/// A run goes on by a step that is acknowledged, and by calls that leave what the disk stands for. With the step that comes
-/// next its journal is in turn.
+/// A run goes on by a step that is acknowledged, and by calls that leave what the disk stands for.
 pub fn run_goes_on<D: Disk>()
     ensures step { SteppedRunsGoOn D.moment D.images }
     ensures spared { SparedRunsGoOn D.moment D.images }
-    ensures turn { NextStepsAreInTurn D.moment D.images }
 {
     replay_goes_on();
     states_stay_valid();
     names_are_lost_by_taking();
 }
+
+/// Steps that come in turn do so with the step that comes next, and as time goes by.
+pub fn turns_go_on()
+    ensures next { NextStepsComeInTurn }
+    ensures later { StepsStayInTurn }
+{}
 
 /// Faults end a run: any between two steps, the disk's within a step, the outbox's at a put, the inbox's behind a step
 /// that took a file.

@@ -10,5 +10,5 @@ mod laws;
 pub use ended::{Ended, Fault};
 pub use laws::{
     failed_openings_end_a_run, faults_end_a_run, memory_is_the_state, run_begins, run_ends,
-    run_goes_on, worlds_follow_steps,
+    run_goes_on, turns_go_on, worlds_follow_steps,
 };

@@ -1,6 +1,6 @@
 -- A run over a store that was opened, or wasn't.
 use Rattle.std.proofs.Common.{◌≡◌, ◌⊎◌, inl, inr, ⊎_elim, ℕ, ◌+◌, ◌≤◌, Bool, List, refl, sym, ◌∙◌, ap, subst, arith, []}
-use Rattle.std.specs.Prelude.{Option, Err, Result, IfSome, IsErrOf}
+use Rattle.std.specs.Prelude.{Option, None, Err, Result, IfSome, IsErrOf}
 use Rattle.disk_trait.specs.Faults.{CountsFaults}
 use Rattle.disk_trait.specs.Files.{Files}
 use Rattle.disk_trait.specs.declared.damage.Damage.{Damage}
@@ -8,6 +8,7 @@ use Rattle.flowfile_record.specs.NamedFile.{NamedFile}
 use Rattle.kept_state.specs.declared.limit.Limit.{Limit}
 use Rattle.machine_model.specs.declared.flow.Flow.{Flow}
 use Rattle.machine_model.specs.declared.journal.Entry.{Entry}
+use Rattle.machine_model.specs.declared.journal.Step.{Step}
 use Rattle.machine_model.specs.State.{Machine, State}
 use Rattle.store_core.specs.Calls.{IsUnwritten, SinceSync}
 use Rattle.store_core.specs.Flow as store
@@ -17,7 +18,7 @@ use Rattle.run_law.specs.Ending.{EndsOnFaults, EndsShort, IsQuietOrBlocked, IsLi
 use Rattle.run_law.specs.Laws.{FailedOpeningsEnd}
 use Rattle.run_law.specs.Puts.{Outgoing, Start}
 use Rattle.run_law.specs.Run.{HasRun, machine_at}
-use Rattle.run_law.specs.Turns.{AreMadeAt}
+use Rattle.run_law.specs.Turns.{AreMadeAt, IsInTurn}
 use Rattle.run_law.specs.Work.{DoesNotTell, IsEndedByLimit}
 use Rattle.run_law.specs.declared.ended.Ended.{Ended}
 use Rattle.run_law.specs.declared.ended.Ended.TheVariants as ending
@@ -61,7 +62,9 @@ module _ {A D I O : Type 0} (tells : Bool) (held : D → Files) (moment : D → 
         told = cause.1;
         ends = record {
           journal = [];
+          next = None;
           ran = law flow start time lot (held old) old new state left standing cause.0 le of.stands since;
+          turns = record { made = le; stopped = tt };
           limited = λ limit is. absurd (cc);
           moments = tt;
           rest = λ rest. absurd (⊎_elim (λ is. cc) (λ is. cc (is.1)) rest);
@@ -136,19 +139,22 @@ module _ {D : Type 0} (tells : Bool) (held : D → Files) (moment : D → ℕ) (
 
   pub ran_ends : (ran : Ran) (given : ℕ → Type 0) (start : Start) (time most checkpoint : ℕ) (opened : Machine) (old mid new : D) (left : List NamedFile) (out : Outgoing) → moment old + 1 ≤ moment mid
       → ((limit : Limit) → ran.ended ≡ ending.Limit limit → IsLimitMet flow tells held moment images other (moment mid) most limit new)
-      → (journal : List Entry) × ((run : HasRun flow ran.ended start time tells held moment images other opened old new left out journal) × IfSome ran.closed (Shows flow run.reached) × AreMadeAt given journal)
+      → (journal : List Entry) (next : Option Step) (run : HasRun flow ran.ended start time tells held moment images other opened old new left out journal next) → IsInTurn flow start.time time opened journal next → AreMadeAt given journal
+      → IfSome ran.closed (Shows flow run.reached)
       → (IsQuietOrBlocked ran.ended → given time) → EndsShort moment images checkpoint ran.ended new
       → HasEnded flow ran given start time tells held moment images lot most checkpoint opened old new left out
-  ran_ends ran given start time most checkpoint opened old mid new left out begun met ends at_rest short =
+  ran_ends ran given start time most checkpoint opened old mid new left out begun met journal next run turns made shows at_rest short =
       let before : HasEnded flow ran given start time tells held moment images other most checkpoint opened old new left out = record {
         ends = record {
-          journal = ends.0;
-          ran = ends.1.0;
+          journal = journal;
+          next = next;
+          ran = run;
+          turns = turns;
           limited = λ limit is. met_since most old mid new begun limit (met limit is);
-          moments = ends.1.2;
+          moments = made;
           rest = λ rest. (at_rest rest, short rest);
         };
-        shows = ends.1.1;
+        shows = shows;
       } in
       subst (λ (l : ℕ). HasEnded flow ran given start time tells held moment images l most checkpoint opened old new left out) same before
 

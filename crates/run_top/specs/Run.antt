@@ -10,6 +10,7 @@ use Rattle.flowfile_wal.specs.Current.{current_number}
 use Rattle.kept_state.specs.declared.limit.Limit.{Limit}
 use Rattle.machine_model.specs.declared.flow.Flow.{Flow}
 use Rattle.machine_model.specs.declared.journal.Entry.{Entry}
+use Rattle.machine_model.specs.declared.journal.Step.{Step}
 use Rattle.machine_model.specs.State.{Machine, State}
 use Rattle.store_core.specs.Calls.{SinceSync, IsUnwritten}
 use Rattle.store_core.specs.Flow as store
@@ -22,7 +23,7 @@ use Rattle.flow_words.specs.declared.command.RunOptions.{RunOptions}
 use Rattle.run_law.specs.Ending.{IsQuietOrBlocked, IsFault, IsLimitMet}
 use Rattle.run_law.specs.Puts.{Outgoing, Start, outgoing}
 use Rattle.run_law.specs.Run.{HasRun, machine_at}
-use Rattle.run_law.specs.Turns.{AreMadeAt}
+use Rattle.run_law.specs.Turns.{AreMadeAt, IsInTurn}
 use Rattle.run_law.specs.Work.{DoesNotTell, IsShortOn, MayWriteFrom}
 use Rattle.run_law.specs.declared.ended.Ended.{Ended}
 use Rattle.run_law.specs.declared.ended.Ended.TheVariants as ending
@@ -39,14 +40,17 @@ use Rattle.run_top.specs.declared.answer.Answer.TheVariants.{Limit as Limited}
 
 -- ---- a flow has run
 
--- The flow has run from one time of the clock to another, with this journal, and ended so. Where the journal's limit
--- ended it, that is `most`. Of each step's moment holds what holds of each moment that the clock gave; and where nothing
--- was left to do, or all of it was held back, of the time too, and the log is short.
+-- The flow has run from one time of the clock to another, with this journal, and ended so, at this step, if at one. Each
+-- step came in its turn. Where the journal's limit ended it, that is `most`. Of each step's moment holds what holds of each
+-- moment that the clock gave; and where nothing was left to do, or all of it was held back, of the time too, and the log is
+-- short.
 pub record RunEndsWith {D : Type 0} (flow : Flow) (ended : Ended) (given : ℕ → Type 0) (start : Start) (time : ℕ)
     (tells : Bool) (held : D → Files) (moment : D → ℕ) (images : D → ℕ → Files → Type 0) (lot most checkpoint : ℕ)
     (opened : Machine) (old new : D) (left : List NamedFile) (out : Outgoing) : Type 0 where
   pub journal : List Entry
-  pub ran : HasRun flow ended start time tells held moment images lot opened old new left out journal
+  pub next : Option Step
+  pub ran : HasRun flow ended start time tells held moment images lot opened old new left out journal next
+  pub turns : IsInTurn flow start.time time opened journal next
   pub limited : (limit : Limit) → ended ≡ ending.Limit limit
       → IsLimitMet flow tells held moment images lot (moment old + 1) most limit new
   pub moments : AreMadeAt given journal

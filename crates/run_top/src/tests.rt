@@ -127,11 +127,11 @@ fn summary_of(alloc: Global, times: u64) -> Result<String, Fail> {
 // The events of the disk, as many as there are from 3 to 7.
 fn events_on(alloc: Global, disk: &mut MemoryDisk) -> Result<Events, Fail> {
     for end in [7, 6, 5, 4] {
-        if let Ok(events) = Events::load(alloc, disk, 0, end) {
+        if let Ok(events) = Events::load(alloc, disk, end, 0) {
             return Ok(events);
         }
     }
-    Ok(Events::load(alloc, disk, 0, 3)?)
+    Ok(Events::load(alloc, disk, 3, 0)?)
 }
 
 // How often the disk's events tell that the file came, was sent and left the flow, where they tell nothing else.
@@ -459,7 +459,7 @@ fn wherever_a_run_stops_the_next_one_delivers_the_file(rt: HostRuntime) -> Resul
     };
     assert_eq!(rt; printed.as_slice(), PRINTED.as_bytes());
     let mut left = disk.stopped(disk.moment(), Pick::New)?;
-    let events = Events::load(alloc, &mut left, 0, 3)?.scan(alloc, &mut left, 1, 3)?;
+    let events = Events::load(alloc, &mut left, 3, 0)?.scan(alloc, &mut left, 1, 3)?;
     assert_eq!(rt; events.len(), 3);
     assert!(rt; tells(&events[0], EventKind::Receive, "get", "a.txt"));
     assert!(rt; tells(&events[1], EventKind::Send, "put", "a.txt"));

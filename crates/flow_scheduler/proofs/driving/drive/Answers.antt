@@ -1,11 +1,11 @@
 use Rattle.std.proofs.Common.{◌≤◌, refl, ◌∙◌, ap, subst, arith, rules}
-use Rattle.std.specs.Prelude.{Some}
+use Rattle.std.specs.Prelude.{None, Some}
 use Rattle.std.proofs.lemmas.Result.{err_from_is_err_and}
 use Rattle.engine_choice.specs.declared.choice.Ending.{Ending}
 use Rattle.engine_choice.specs.declared.choice.Ending.TheVariants.{Blocked, Quiet}
 use Rattle.run_law.proofs.Writing.{later_log, writes_on}
 use Rattle.engine_steps.specs.Engine.{EngineState}
-use Rattle.engine_steps.specs.Running.{Stops}
+use Rattle.flow_scheduler.specs.Driving.{StopsInTurn}
 use Rattle.engine_steps.specs.declared.error.EngineError.{EngineError}
 use Rattle.engine_steps.proofs.Goes.{stops_unmoved}
 use Rattle.engine_steps.proofs.RunsOn.{spared_by_none}
@@ -13,6 +13,8 @@ use Rattle.flow_scheduler.proofs.Ending.{ends_blocked, ends_quiet, rests, went_o
 use Rattle.flow_scheduler.proofs.Turning.{same_run_on, stopped_at}
 use Rattle.flow_scheduler.proofs.driving.drive.Goals.{in-None, in-Some-Rest}
 use Rattle.flow_scheduler.proofs.Growing.{made_on}
+use Rattle.flow_scheduler.proofs.InTurn.{none_stopped}
+use Rattle.machine_model.specs.Acknowledged.{steps}
 use Rattle.run_law.specs.Puts.{outgoing}
 use Rattle.flow_scheduler.proofs.driving.drive.Goals as goal
 
@@ -22,7 +24,7 @@ returns-in_err-turn-clause-run g c telling in_telling out_telling opened first s
     let p = err_from_is_err_and c.from_residual.result c.from_residual.ensures.1 in
     let on = c.loop-turn.invariant.runs telling in_telling out_telling opened first start time le run in
     stopped_at c.from_residual.result _ _ c.in_err-turn.field-0.0 (cc (p.1, p.2))
-    (subst (λ t. Stops c.in_err-turn.field-0.0 D.tells D.held D.moment D.images c.turn.new.engine opened first start t c.turn.new.disk (g.I.Inbox.left c.turn.new.inbox) (outgoing g.O.Outbox.standing g.O.Outbox.puts c.turn.new.outbox)) c.now-moment.ensures.moment
+    (subst (λ t. StopsInTurn c.in_err-turn.field-0.0 D.tells D.held D.moment D.images c.turn.new.engine opened first start t c.turn.new.disk (g.I.Inbox.left c.turn.new.inbox) (outgoing g.O.Outbox.standing g.O.Outbox.puts c.turn.new.outbox)) c.now-moment.ensures.moment
     (c.in_err-turn.ensures.run telling in_telling out_telling opened first start on.0 (omega (arith, on.1, c.now-moment.ensures.later, c.now-moment.ensures.moment)) on.2))
 
 pub returns-in_err-turn-clause-leaves : goal.returns-in_err-turn-clause-leaves
@@ -76,9 +78,14 @@ returns-clause-run g c telling in_telling out_telling opened first start time le
     let left = g.I.Inbox.left c.loop-turn.inbox in
     let out = outgoing g.O.Outbox.standing g.O.Outbox.puts c.loop-turn.outbox in
     let on = c.loop-turn.invariant.runs telling in_telling out_telling opened first start time le run in
-    stops_unmoved D.tells D.held D.moment D.images e e opened first start on.0 c.loop-turn.disk c.loop-turn.disk left out on.2 refl refl
-    c.faults_end_a_run.ensures.between refl (spared_by_none D.tells D.held D.moment D.images e.flow e.store.lot on.2.reached c.loop-turn.disk on.2.to.run.holds)
-    EngineError.Memory (λ limit limited. cc) (g.C.Clock.time c.loop-turn.clock) on.1 left out refl refl
+    let time_now = g.C.Clock.time c.loop-turn.clock in
+    record {
+      next = None;
+      stops = stops_unmoved D.tells D.held D.moment D.images e e opened first start on.0 c.loop-turn.disk c.loop-turn.disk left out on.2.run refl refl
+          c.faults_end_a_run.ensures.between refl (spared_by_none D.tells D.held D.moment D.images e.flow e.store.lot on.2.run.reached c.loop-turn.disk on.2.run.to.run.holds)
+          EngineError.Memory (λ limit limited. cc) time_now on.1 left out refl refl None;
+      turns = none_stopped e.flow start.time time_now opened e.journal (c.turns_go_on.ensures.later e.flow start.time on.0 time_now opened (steps e.journal) on.2.turns on.1);
+    }
 
 pub returns-in-Some-Blocked-clause-run : goal.returns-in-Some-Blocked-clause-run
 returns-in-Some-Blocked-clause-run g c telling in_telling out_telling opened first start time le run =

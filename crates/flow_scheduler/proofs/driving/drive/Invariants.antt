@@ -3,7 +3,7 @@ use Rattle.machine_model.specs.State.{Machine}
 use Rattle.run_law.specs.Turns.{AreMadeAt}
 use Rattle.run_law.specs.Work.{IsNoEarlier, WritesLog}
 use Rattle.engine_steps.specs.Engine.{IsOfSameRun}
-use Rattle.engine_steps.specs.Running.{IsRunning}
+use Rattle.flow_scheduler.specs.Driving.{RunsInTurn}
 use Rattle.engine_steps.specs.Leaving.{MayGoOn}
 use Rattle.run_law.specs.Puts.{Start, outgoing}
 use Rattle.flow_scheduler.proofs.driving.drive.Given as goal
@@ -16,8 +16,8 @@ invariant-loop-turn g l = record {
   alone : WritesLog g.D.Disk.moment g.D.Disk.images l.fn.engine.store.log.number l.fn.disk l.disk;
   later : g.C.Clock.time l.fn.clock ≤ g.C.Clock.time l.clock;
   runs : IsTrue g.D.Disk.tells → IsTrue g.I.Inbox.tells → IsTrue g.O.Outbox.tells → (opened : Machine) (first : g.row.D.Denot) (start : Start) (time : ℕ) → time ≤ g.C.Clock.time l.fn.clock
-      → IsRunning g.D.Disk.moment g.D.Disk.images l.fn.engine opened first start time l.fn.disk (g.I.Inbox.left l.fn.inbox) (outgoing g.O.Outbox.standing g.O.Outbox.puts l.fn.outbox)
-      → (at : ℕ) × (at ≤ g.C.Clock.time l.clock) × IsRunning g.D.Disk.moment g.D.Disk.images l.engine opened first start at l.disk (g.I.Inbox.left l.inbox) (outgoing g.O.Outbox.standing g.O.Outbox.puts l.outbox);
+      → RunsInTurn g.D.Disk.moment g.D.Disk.images l.fn.engine opened first start time l.fn.disk (g.I.Inbox.left l.fn.inbox) (outgoing g.O.Outbox.standing g.O.Outbox.puts l.fn.outbox)
+      → (at : ℕ) × (at ≤ g.C.Clock.time l.clock) × RunsInTurn g.D.Disk.moment g.D.Disk.images l.engine opened first start at l.disk (g.I.Inbox.left l.inbox) (outgoing g.O.Outbox.standing g.O.Outbox.puts l.outbox);
   moments : AreMadeAt g.C.Clock.given l.fn.engine.journal → AreMadeAt g.C.Clock.given l.engine.journal;
   disk_faults : g.D.Disk.faults l.fn.disk ≤ g.D.Disk.faults l.disk;
   inbox_faults : g.I.Inbox.faults l.fn.inbox ≤ g.I.Inbox.faults l.inbox;

@@ -1,7 +1,9 @@
-use Rattle.std.proofs.Common.{◌≡◌, inr, length, refl, sym, ◌∙◌, ap, subst, arith, rules}
+use Rattle.std.proofs.Common.{◌≡◌, inr, ℕ, length, refl, sym, ◌∙◌, ap, subst, arith, rules}
+use Rattle.std.specs.Prelude.{None, Option, Some}
 use Rattle.std.proofs.lemmas.Bool.{true≢false}
 use Rattle.std.proofs.lemmas.Result.{err_from_is_err_and}
 use Rattle.kept_state.specs.declared.limit.Limit.{Limit as TheLimit}
+use Rattle.machine_model.specs.Acknowledged.{steps}
 use Rattle.engine_choice.specs.declared.choice.Ending.TheVariants.{Blocked, Quiet}
 use Rattle.engine_steps.specs.Checkout.{choice_in, ending_in}
 use Rattle.engine_steps.specs.Engine.{EngineState}
@@ -15,8 +17,10 @@ use Rattle.flow_scheduler.proofs.Ending.{turned_at_end}
 use Rattle.engine_steps.proofs.Expired.{are_of}
 use Rattle.engine_steps.proofs.Goes.{stops_unmoved}
 use Rattle.engine_steps.proofs.RunsOn.{runs_idle, spared_by_none}
+use Rattle.flow_scheduler.proofs.InTurn.{none_stopped}
 use Rattle.flow_scheduler.proofs.Turning.{limited, no_limit, stopped_at}
 use Rattle.run_law.specs.Puts.{outgoing}
+use Rattle.run_law.specs.Turns.{ComesNext}
 use Rattle.flow_scheduler.proofs.driving.go_on.Goals as goal
 
 pub checkout-requires : goal.checkout-requires
@@ -46,10 +50,13 @@ returns-in_err-checkout-clause-run g c telling in_telling out_telling opened fir
     let out = outgoing g.O.Outbox.standing g.O.Outbox.puts c.args.outbox.now in
     let p = err_from_is_err_and c.from_residual.result c.from_residual.ensures.1 in
     let error = c.in_err-checkout.field-0.0 in
-    stopped_at c.from_residual.result _ _ error (cc (p.1, p.2))
-    (stops_unmoved D.tells D.held D.moment D.images e e opened first start time disk disk left out run refl refl c.faults_end_a_run.ensures.between refl
-    (spared_by_none D.tells D.held D.moment D.images e.flow e.store.lot run.reached disk run.to.run.holds)
-    error (no_limit error error refl c.in_err-checkout.ensures.kinds) c.args.moment le left out refl refl)
+    stopped_at c.from_residual.result _ _ error (cc (p.1, p.2)) (record {
+      next = None;
+      stops = stops_unmoved D.tells D.held D.moment D.images e e opened first start time disk disk left out run.run refl refl c.faults_end_a_run.ensures.between refl
+          (spared_by_none D.tells D.held D.moment D.images e.flow e.store.lot run.run.reached disk run.run.to.run.holds)
+          error (no_limit error error refl c.in_err-checkout.ensures.kinds) c.args.moment le left out refl refl None;
+      turns = none_stopped e.flow start.time c.args.moment opened e.journal (c.turns_go_on.ensures.later e.flow start.time time c.args.moment opened (steps e.journal) run.turns le);
+    })
 
 pub returns-in_err-run_session-in-Session-clause-run : goal.returns-in_err-run_session-in-Session-clause-run
 returns-in_err-run_session-in-Session-clause-run g c telling in_telling out_telling opened first start time le run =
@@ -66,13 +73,21 @@ returns-in-Limit-clause-run g c telling in_telling out_telling opened first star
     let left = g.I.Inbox.left c.args.inbox.now in
     let out = outgoing g.O.Outbox.standing g.O.Outbox.puts c.args.outbox.now in
     let laws = g.met.D.Disk g.world.𝓛 g.world.𝓜 g.world.𝓡 ((λ s x. x), (λ x. x), (λ x. x), λ x. x) in
-    let shown = c.shows_its_state.ensures telling run.reached run.to.run.holds in
+    let shown = c.shows_its_state.ensures telling run.run.reached run.run.to.run.holds in
     let it = full_as (length e.journal) e.most (choice_in e moment) (ending_in e moment) c.in-Limit.limit (comes_next e moment (next.Limit c.in-Limit.limit) c.requires.tended (sym c.in-Limit.is ∙ c.in_ok-checkout.ensures.next)) in
     let full : length e.journal ≡ e.most = omega (arith, it.3, c.requires.may.ready.entries) in
-    let step = goes_on c.choices_are_sessions.ensures c.choices_are_seen.ensures c.sessions_are_steps.ensures.steps e run.reached moment it.0 run.to.run.valid shown.seen shown.counts run.to.coming
+    let step = goes_on c.choices_are_sessions.ensures c.choices_are_seen.ensures c.sessions_are_steps.ensures.steps e run.run.reached moment it.0 run.run.to.run.valid shown.seen shown.counts run.run.to.coming
     (none_expired e moment c.requires.tended) it.1 in
-    subst (λ (l : TheLimit). IsLimited D.tells D.held D.moment D.images e l opened first start moment disk left out) (sym it.2)
-    (limited D.tells D.held D.moment D.images e opened first start time disk left out c.run_goes_on.ensures.spared moment le c.run_goes_on.ensures.turn run full (laws.held_is_left disk telling) step)
+    let comes = subst (λ (last : Option ℕ). ComesNext e.flow last run.run.reached step.next) run.run.to.last step.comes in
+    record {
+      next = Some step.next;
+      stops = subst (λ (l : TheLimit). IsLimited D.tells D.held D.moment D.images e l opened first start moment disk left out (Some step.next)) (sym it.2)
+          (limited D.tells D.held D.moment D.images e opened first start time disk left out c.run_goes_on.ensures.spared moment le run.run full (laws.held_is_left disk telling) step);
+      turns = record {
+        made = c.turns_go_on.ensures.later e.flow start.time time moment opened (steps e.journal) run.turns le;
+        stopped = c.turns_go_on.ensures.next e.flow start.time time moment opened run.run.reached (steps e.journal) step.next run.turns run.run.to.run.ran.replays (omega (arith, le, step.at)) (omega (arith, step.at)) comes;
+      };
+    }
 
 pub returns-in-Limit-clause-leaves : goal.returns-in-Limit-clause-leaves
 returns-in-Limit-clause-leaves g c =
@@ -94,7 +109,11 @@ returns-in-Limit-clause-leaves g c =
 pub returns-in-Rest-clause-run : goal.returns-in-Rest-clause-run
 returns-in-Rest-clause-run g c telling in_telling out_telling opened first start time le run =
     let D = g.D.Disk in
-    runs_idle D.tells D.held D.moment D.images c.args.engine.now opened first c.args.disk.now start time c.args.moment le (g.I.Inbox.left c.args.inbox.now) (outgoing g.O.Outbox.standing g.O.Outbox.puts c.args.outbox.now) run c.run_goes_on.ensures.spared
+    let e : EngineState = c.args.engine.now in
+    record {
+      run = runs_idle D.tells D.held D.moment D.images e opened first c.args.disk.now start time c.args.moment le (g.I.Inbox.left c.args.inbox.now) (outgoing g.O.Outbox.standing g.O.Outbox.puts c.args.outbox.now) run.run c.run_goes_on.ensures.spared;
+      turns = c.turns_go_on.ensures.later e.flow start.time time c.args.moment opened (steps e.journal) run.turns le;
+    }
 
 pub returns-in-Blocked-clause-run : goal.returns-in-Blocked-clause-run
 returns-in-Blocked-clause-run g c telling in_telling out_telling opened first start time le run =
@@ -105,9 +124,9 @@ returns-in-Blocked-clause-run g c telling in_telling out_telling opened first st
     let out = outgoing g.O.Outbox.standing g.O.Outbox.puts c.args.outbox.now in
     let it = ends_as (length e.journal) e.most (choice_in e moment) (ending_in e moment) (Blocked c.in-Blocked.connection)
     (comes_next e moment (next.Blocked c.in-Blocked.connection) c.requires.tended (sym c.in-Blocked.is ∙ c.in_ok-checkout.ensures.next)) in
-    let on = runs_idle D.tells D.held D.moment D.images e opened first c.args.disk.now start time moment le left out run c.run_goes_on.ensures.spared in
+    let on = runs_idle D.tells D.held D.moment D.images e opened first c.args.disk.now start time moment le left out run.run c.run_goes_on.ensures.spared in
     let shown = c.shows_its_state.ensures telling on.reached on.to.run.holds in
-    turned_at_end c.ends_are_machine_ends.ensures D.moment D.images e opened first c.args.disk.now left out start moment on shown.seen shown.counts c.requires.tended c.requires.may.ready.sound (Blocked c.in-Blocked.connection) it.1 it.0
+    turned_at_end c.ends_are_machine_ends.ensures D.moment D.images e opened first c.args.disk.now left out start moment on (c.turns_go_on.ensures.later e.flow start.time time moment opened (steps e.journal) run.turns le) shown.seen shown.counts c.requires.tended c.requires.may.ready.sound (Blocked c.in-Blocked.connection) it.1 it.0
 
 pub returns-in-Quiet-clause-run : goal.returns-in-Quiet-clause-run
 returns-in-Quiet-clause-run g c telling in_telling out_telling opened first start time le run =
@@ -117,9 +136,9 @@ returns-in-Quiet-clause-run g c telling in_telling out_telling opened first star
     let left = g.I.Inbox.left c.args.inbox.now in
     let out = outgoing g.O.Outbox.standing g.O.Outbox.puts c.args.outbox.now in
     let it = ends_as (length e.journal) e.most (choice_in e moment) (ending_in e moment) Quiet (comes_next e moment next.Quiet c.requires.tended (sym c.in-Quiet.is ∙ c.in_ok-checkout.ensures.next)) in
-    let on = runs_idle D.tells D.held D.moment D.images e opened first c.args.disk.now start time moment le left out run c.run_goes_on.ensures.spared in
+    let on = runs_idle D.tells D.held D.moment D.images e opened first c.args.disk.now start time moment le left out run.run c.run_goes_on.ensures.spared in
     let shown = c.shows_its_state.ensures telling on.reached on.to.run.holds in
-    turned_at_end c.ends_are_machine_ends.ensures D.moment D.images e opened first c.args.disk.now left out start moment on shown.seen shown.counts c.requires.tended c.requires.may.ready.sound Quiet it.1 it.0
+    turned_at_end c.ends_are_machine_ends.ensures D.moment D.images e opened first c.args.disk.now left out start moment on (c.turns_go_on.ensures.later e.flow start.time time moment opened (steps e.journal) run.turns le) shown.seen shown.counts c.requires.tended c.requires.may.ready.sound Quiet it.1 it.0
 
 pub returns-in-Rest-clause-leaves : goal.returns-in-Rest-clause-leaves
 returns-in-Rest-clause-leaves g c = record {

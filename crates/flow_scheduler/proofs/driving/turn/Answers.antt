@@ -3,21 +3,37 @@ use Rattle.std.specs.Prelude.{Ok, None, Result}
 use Rattle.std.proofs.lemmas.Result.{err_from_is_err_and}
 use Rattle.engine_queues.specs.Listing.{Left, names_left}
 use Rattle.run_law.specs.Work.{IsShortOn}
+use Rattle.machine_model.specs.Acknowledged.{steps}
 use Rattle.engine_steps.specs.Engine.{AreTakeable, EngineState}
+use Rattle.engine_steps.specs.Ready.{expiry_in}
+use Rattle.engine_steps.specs.Running.{undone_step}
 use Rattle.engine_steps.specs.Tending.{HasTended}
 use Rattle.engine_steps.specs.declared.error.EngineError.{EngineError}
 use Rattle.engine_steps.specs.declared.tending.Tended.{Tended}
 use Rattle.engine_steps.specs.declared.tending.Tended.TheVariants.{Nothing}
 use Rattle.flow_scheduler.proofs.Turning.{no_fault, still_works, stopped_at}
 use Rattle.flow_scheduler.proofs.Growing.{grows_behind, tended_grows}
+use Rattle.flow_scheduler.proofs.InTurn.{expiry_turns, in_turn_of, tend_stops, tended_turns, turns_of}
 use Rattle.run_law.specs.Puts.{outgoing}
 use Rattle.flow_scheduler.proofs.driving.turn.Goals as goal
 
 pub returns-in_err-tend-clause-run : goal.returns-in_err-tend-clause-run
 returns-in_err-tend-clause-run g c telling in_telling out_telling opened first start time le run =
+    let e : EngineState = c.args.engine.now in
+    let f : EngineState = c.tend.new.self in
+    let moment = c.args.moment in
+    let m = run.run.reached in
+    let waited = c.turns_go_on.ensures.later e.flow start.time time moment opened (steps e.journal) run.turns le in
+    let next = expiry_turns c.turns_go_on.ensures.next e m opened start.time time moment (c.shows_its_state.ensures telling m run.run.to.run.holds) le run.turns run.run.to.run.ran.replays in
     let p = err_from_is_err_and c.from_residual.result c.from_residual.ensures.1 in
-    stopped_at c.from_residual.result _ _ c.in_err-tend.field-0.0 (cc (p.1, p.2))
-    ((c.in_err-tend.ensures.run telling).stopped c.in_err-tend.field-0.0 refl c.requires.may.works opened first start time (g.I.Inbox.left c.args.inbox.now) (outgoing g.O.Outbox.standing g.O.Outbox.puts c.args.outbox.now) le run)
+    let error = c.in_err-tend.field-0.0 in
+    let tended = subst (λ (r : Result Tended EngineError). HasTended r moment (g.D.Disk.moment c.tend.new.disk) e f) c.in_err-tend.was c.tend.ensures.tended.done in
+    stopped_at c.from_residual.result _ _ error (cc (p.1, p.2)) (record {
+      next = undone_step error (expiry_in e moment);
+      stops = (c.in_err-tend.ensures.run telling).stopped error refl c.requires.may.works opened first start time (g.I.Inbox.left c.args.inbox.now) (outgoing g.O.Outbox.standing g.O.Outbox.puts c.args.outbox.now) le run.run;
+      turns = in_turn_of e.flow f.flow start.time moment opened f.journal (undone_step error (expiry_in e moment)) c.tend.ensures.alone.same.flow
+          (tend_stops e.flow start.time moment opened moment (g.D.Disk.moment c.tend.new.disk) e f waited next error tended);
+    })
 
 pub go_on-requires-clause-short : goal.go_on-requires-clause-short
 go_on-requires-clause-short g c κs within =
@@ -40,8 +56,17 @@ go_on-requires-clause-may g c κs within =
 pub returns-in-Nothing-clause-run : goal.returns-in-Nothing-clause-run
 returns-in-Nothing-clause-run g c telling in_telling out_telling opened first start time le run =
     let well : c.tend.new.self.failed ≡ false = still_works c.in_ok-tend.field-0 c.args.engine.now c.tend.new.self _ _ c.requires.may.works c.in_ok-tend.ensures.refusal.reopen in
-    c.go_on.ensures.run telling in_telling out_telling opened first start c.args.moment (omega arith)
-    ((c.in_ok-tend.ensures.run telling).goes_on well opened first start time (g.I.Inbox.left c.args.inbox.now) (outgoing g.O.Outbox.standing g.O.Outbox.puts c.args.outbox.now) le run)
+    let e : EngineState = c.args.engine.now in
+    let f : EngineState = c.tend.new.self in
+    let moment = c.args.moment in
+    let m = run.run.reached in
+    let waited = c.turns_go_on.ensures.later e.flow start.time time moment opened (steps e.journal) run.turns le in
+    let next = expiry_turns c.turns_go_on.ensures.next e m opened start.time time moment (c.shows_its_state.ensures telling m run.run.to.run.holds) le run.turns run.run.to.run.ran.replays in
+    c.go_on.ensures.run telling in_telling out_telling opened first start moment (omega arith) (record {
+      run = (c.in_ok-tend.ensures.run telling).goes_on well opened first start time (g.I.Inbox.left c.args.inbox.now) (outgoing g.O.Outbox.standing g.O.Outbox.puts c.args.outbox.now) le run.run;
+      turns = turns_of e.flow f.flow start.time moment opened (steps f.journal) c.tend.ensures.alone.same.flow
+          (tended_turns e.flow start.time moment opened moment (g.D.Disk.moment c.tend.new.disk) e f waited next c.tend.result c.tend.ensures.tended.done);
+    })
 
 pub returns-in-Expired : goal.returns-in-Expired
 returns-in-Expired g c =
@@ -49,7 +74,17 @@ returns-in-Expired g c =
     let well : c.tend.new.self.failed ≡ false = still_works c.in_ok-tend.field-0 c.args.engine.now c.tend.new.self _ _ c.requires.may.works c.in_ok-tend.ensures.refusal.reopen in
     record {
       run = λ telling in_telling out_telling opened first start time le run.
-          (c.in_ok-tend.ensures.run telling).goes_on well opened first start time (g.I.Inbox.left c.args.inbox.now) (outgoing g.O.Outbox.standing g.O.Outbox.puts c.args.outbox.now) le run;
+          let e : EngineState = c.args.engine.now in
+          let f : EngineState = c.tend.new.self in
+          let moment = c.args.moment in
+          let m = run.run.reached in
+          let waited = c.turns_go_on.ensures.later e.flow start.time time moment opened (steps e.journal) run.turns le in
+          let next = expiry_turns c.turns_go_on.ensures.next e m opened start.time time moment (c.shows_its_state.ensures telling m run.run.to.run.holds) le run.turns run.run.to.run.ran.replays in
+          record {
+            run = (c.in_ok-tend.ensures.run telling).goes_on well opened first start time (g.I.Inbox.left c.args.inbox.now) (outgoing g.O.Outbox.standing g.O.Outbox.puts c.args.outbox.now) le run.run;
+            turns = turns_of e.flow f.flow start.time moment opened (steps f.journal) c.tend.ensures.alone.same.flow
+                (tended_turns e.flow start.time moment opened moment (g.D.Disk.moment c.tend.new.disk) e f waited next c.tend.result c.tend.ensures.tended.done);
+          };
       short = λ end is. absurd cc;
       leaves = record {
         may = record {

@@ -1,5 +1,5 @@
 use Rattle.std.proofs.Common.{arith, rules, ◌≡◌, false, IsTrue, List, [], sym, ◌∙◌, ap, subst}
-use Rattle.std.specs.Prelude.{Err}
+use Rattle.std.specs.Prelude.{Err, None}
 use Rattle.std.proofs.lemmas.Result.{IfOk-weaker}
 use Rattle.flowfile_record.specs.NamedFile.{NamedFile}
 use Rattle.machine_model.specs.declared.flow.Flow.{Flow}
@@ -10,13 +10,14 @@ use Rattle.run_law.specs.Run.{HasRun, IsTidied, machine_at}
 use Rattle.run_law.specs.Work.{IsAtWork}
 use Rattle.run_law.specs.declared.ended.Ended.{Ended}
 use Rattle.run_law.specs.declared.ended.Ended.TheVariants as ended
-use Rattle.flow_scheduler.specs.Driving.{IsEnded}
+use Rattle.flow_scheduler.specs.Driving.{IsEnded, StopsInTurn}
 use Rattle.engine_steps.specs.Engine.{EngineState}
 use Rattle.engine_steps.specs.Errors.{ended_by}
-use Rattle.engine_steps.specs.Running.{Stops}
 use Rattle.engine_steps.specs.declared.error.EngineError.{EngineError}
 use Rattle.flow_scheduler.proofs.Closing.{IsNoLimit, begun, by_damage, closes_blocked, closes_limited, closes_quiet, closes_so, ends_on_faults, has_ended, limit_met, limit_of, no_limit_faults, not_opened, run_of, wanted_or_disk, works_at_limit, works_on}
 use Rattle.flow_scheduler.proofs.Growing.{none_made}
+use Rattle.flow_scheduler.proofs.InTurn.{in_turn_of, none_stopped, turns_of}
+use Rattle.machine_model.specs.Acknowledged.{steps}
 use Rattle.flow_scheduler.proofs.Turning.{each_counts_after}
 use Rattle.engine_steps.proofs.Short.{ends_by_error, ends_short, no_rest}
 use Rattle.run_law.proofs.Writing.{same_log, writes_in_turn, writes_none, writes_on}
@@ -32,10 +33,12 @@ returns-in-Err-clause-headline g c telling in_telling out_telling state first st
     let standing = g.O.Outbox.standing c.args.outbox.now in
     let out = outgoing g.O.Outbox.standing g.O.Outbox.puts c.args.outbox.now in (
       [],
+      None,
       not_opened D.tells D.held D.moment D.images c.faults_end_a_run.ensures.between c.args.flow.now c.args.store.lot start (g.C.Clock.time c.args.clock.now) (machine_at state left standing) first c.args.disk.now left
           (g.I.Inbox.left c.new.new.inbox) out c.in-Err.error c.fail.result.ended c.in-Err.ensures.kinds c.fail.ensures.ended c.new.ensures.left run,
-      none_shown c.args.flow.now c.fail.result.closed _ c.fail.ensures.closed,
+      none_stopped c.args.flow.now start.time (g.C.Clock.time c.args.clock.now) (machine_at state left standing) [] run.within,
       tt,
+      none_shown c.args.flow.now c.fail.result.closed _ c.fail.ensures.closed,
     )
 
 pub returns-in-Err-clause-closed : goal.returns-in-Err-clause-closed
@@ -67,11 +70,13 @@ returns-in-Ok-Blocked-clause-headline g c telling in_telling out_telling state f
     c.in-Ok-Blocked.ensures.leaves.may.ready.work.flow_is opened first c.drive.new.disk c.close.new.disk now_left now_out start time c.leave.result.ended (c.close.ensures.states works)
     (laws.held_is_left c.close.new.disk telling) c.close.result c.run_ends.ensures.blocked c.in-Ok-Blocked.connection end closes telling in (
       e.journal,
+      None,
       ran,
+      none_stopped flow start.time time opened e.journal (turns_of e.flow flow start.time time opened (steps e.journal) (sym (c.drive.ensures.leaves.same.flow ∙ is.flow_is)) end.turns),
+      c.drive.ensures.clock.moments (none_made g.C.Clock.given c.in-Ok.engine.journal c.in-Ok.ensures.opened.journal),
       run_shows c.names_are_lost_by_taking.ensures.one_step D.tells D.held D.moment D.images flow c.in-Ok.engine e state left now_left standing now_out first c.drive.new.disk c.close.new.disk start time end.reached ran.reached
           c.close.result c.leave.result.closed (c.drive.ensures.leaves.same.flow ∙ is.flow_is) c.drive.ensures.leaves.same.too_large (c.in-Ok.ensures.listed.coming in_telling state standing) (c.in-Ok.ensures.listed.counted in_telling) end.to ran.ran.replays
           c.leave.ensures.closed c.close.ensures.closed c.close.ensures.shows telling,
-      c.drive.ensures.clock.moments (none_made g.C.Clock.given c.in-Ok.engine.journal c.in-Ok.ensures.opened.journal),
     )
 
 pub returns-in-Ok-Blocked-clause-closed : goal.returns-in-Ok-Blocked-clause-closed
@@ -118,11 +123,13 @@ returns-in-Ok-Quiet-clause-headline g c telling in_telling out_telling state fir
     c.in-Ok-Quiet.ensures.leaves.may.ready.work.flow_is opened first c.drive.new.disk c.close-in-Ok-Quiet.new.disk now_left now_out start time c.leave-in-Ok-Quiet.result.ended (c.close-in-Ok-Quiet.ensures.states works)
     (laws.held_is_left c.close-in-Ok-Quiet.new.disk telling) c.close-in-Ok-Quiet.result c.run_ends.ensures.quiet end closes telling in (
       e.journal,
+      None,
       ran,
+      none_stopped flow start.time time opened e.journal (turns_of e.flow flow start.time time opened (steps e.journal) (sym (c.drive.ensures.leaves.same.flow ∙ is.flow_is)) end.turns),
+      c.drive.ensures.clock.moments (none_made g.C.Clock.given c.in-Ok.engine.journal c.in-Ok.ensures.opened.journal),
       run_shows c.names_are_lost_by_taking.ensures.one_step D.tells D.held D.moment D.images flow c.in-Ok.engine e state left now_left standing now_out first c.drive.new.disk c.close-in-Ok-Quiet.new.disk start time end.reached ran.reached
           c.close-in-Ok-Quiet.result c.leave-in-Ok-Quiet.result.closed (c.drive.ensures.leaves.same.flow ∙ is.flow_is) c.drive.ensures.leaves.same.too_large (c.in-Ok.ensures.listed.coming in_telling state standing) (c.in-Ok.ensures.listed.counted in_telling) end.to ran.ran.replays
           c.leave-in-Ok-Quiet.ensures.closed c.close-in-Ok-Quiet.ensures.closed c.close-in-Ok-Quiet.ensures.shows telling,
-      c.drive.ensures.clock.moments (none_made g.C.Clock.given c.in-Ok.engine.journal c.in-Ok.ensures.opened.journal),
     )
 
 pub returns-in-Ok-Quiet-clause-closed : goal.returns-in-Ok-Quiet-clause-closed
@@ -171,20 +178,23 @@ returns-in-Limit-clause-headline g c telling in_telling out_telling state first 
     (c.in-Ok.ensures.listed.coming in_telling state standing) run in
     let e0 : EngineState = c.in-Ok.engine in
     let work = works_on D.tells D.held D.moment D.images e0.flow e0.most e.journal limit e.store c.drive.new.disk (c.drive.ensures.leaves.why.limited limit was) in
-    let stop = subst (λ (x : EngineError). Stops x D.tells D.held D.moment D.images e opened first start time c.drive.new.disk now_left now_out) c.in-Limit.is
+    let stopped = subst (λ (x : EngineError). StopsInTurn x D.tells D.held D.moment D.images e opened first start time c.drive.new.disk now_left now_out) c.in-Limit.is
     (c.in-Err-drive.ensures.run telling in_telling out_telling opened first start (g.C.Clock.time c.args.clock.now) (omega arith) begins) in
+    let stop = stopped.stops in
     let closes = closes_so c.close-in-Err-drive.result e.failed c.leave-in-Err-drive.result.ended (ended.Limit limit) (IsTrue D.tells → IsTidied e.flow e.store.lot (D.held c.close-in-Err-drive.new.disk)) works c.leave-in-Err-drive.ensures.ok c.leave-in-Err-drive.ensures.err (IfOk-weaker c.close-in-Err-drive.result _ _ (λ closed is_closed. is_closed.tidied) c.close-in-Err-drive.ensures.closed)
     c.close-in-Err-drive.ensures.refusal.reopen c.close-in-Err-drive.ensures.refusal.kinds in
     let ran =
     closes_limited D.tells D.held D.moment D.images c.faults_end_a_run.ensures.between e flow c.args.store.lot (c.drive.ensures.leaves.same.flow ∙ is.flow_is) (c.drive.ensures.leaves.same.lot ∙ ap (λ (t : StoreState). t.lot) is.store_is)
     (work.flow_is ∙ ap identity_of (sym c.drive.ensures.leaves.same.flow)) opened first c.drive.new.disk c.close-in-Err-drive.new.disk now_left now_out start time c.leave-in-Err-drive.result.ended (c.close-in-Err-drive.ensures.states works)
-    (laws.held_is_left c.close-in-Err-drive.new.disk telling) c.close-in-Err-drive.result c.run_ends.ensures.limited limit stop closes telling in (
+    (laws.held_is_left c.close-in-Err-drive.new.disk telling) c.close-in-Err-drive.result c.run_ends.ensures.limited limit stopped.next stop closes telling in (
       e.journal,
+      stopped.next,
       ran,
+      in_turn_of e.flow flow start.time time opened e.journal stopped.next (sym (c.drive.ensures.leaves.same.flow ∙ is.flow_is)) stopped.turns,
+      c.drive.ensures.clock.moments (none_made g.C.Clock.given c.in-Ok.engine.journal c.in-Ok.ensures.opened.journal),
       run_shows c.names_are_lost_by_taking.ensures.one_step D.tells D.held D.moment D.images flow c.in-Ok.engine e state left now_left standing now_out first c.drive.new.disk c.close-in-Err-drive.new.disk start time stop.reached ran.reached
           c.close-in-Err-drive.result c.leave-in-Err-drive.result.closed (c.drive.ensures.leaves.same.flow ∙ is.flow_is) c.drive.ensures.leaves.same.too_large (c.in-Ok.ensures.listed.coming in_telling state standing) (c.in-Ok.ensures.listed.counted in_telling) stop.to ran.ran.replays
           c.leave-in-Err-drive.ensures.closed c.close-in-Err-drive.ensures.closed c.close-in-Err-drive.ensures.shows telling,
-      c.drive.ensures.clock.moments (none_made g.C.Clock.given c.in-Ok.engine.journal c.in-Ok.ensures.opened.journal),
     )
 
 pub returns-in-Limit-clause-closed : goal.returns-in-Limit-clause-closed
@@ -240,12 +250,14 @@ returns-in_default g c =
           (c.in-Ok.ensures.listed.coming in_telling state standing) run in
           let stop = c.in-Err-drive.ensures.run telling in_telling out_telling opened first start (g.C.Clock.time c.args.clock.now) (omega arith) begins in (
             e.journal,
-            subst (λ (r : Ended). HasRun c.args.flow.now r start time D.tells D.held D.moment D.images c.args.store.lot opened first c.drive.new.disk now_left now_out e.journal) (sym so)
-                (run_of c.args.flow.now e.flow (ended_by error) start time D.tells D.held D.moment D.images c.args.store.lot e.store.lot opened first c.drive.new.disk now_left now_out e.journal
+            stop.next,
+            subst (λ (r : Ended). HasRun c.args.flow.now r start time D.tells D.held D.moment D.images c.args.store.lot opened first c.drive.new.disk now_left now_out e.journal stop.next) (sym so)
+                (run_of c.args.flow.now e.flow (ended_by error) start time D.tells D.held D.moment D.images c.args.store.lot e.store.lot opened first c.drive.new.disk now_left now_out e.journal stop.next
                 (c.drive.ensures.leaves.same.flow ∙ is.flow_is) (c.drive.ensures.leaves.same.lot ∙ ap (λ (t : StoreState). t.lot) is.store_is)
-                (has_ended D.tells D.held D.moment D.images e opened first c.drive.new.disk now_left now_out start time error none stop)),
-            none_shown c.args.flow.now c.fail-in_default.result.closed _ c.fail-in_default.ensures.closed,
+                (has_ended D.tells D.held D.moment D.images e opened first c.drive.new.disk now_left now_out start time error stop.next none stop.stops)),
+            in_turn_of e.flow c.args.flow.now start.time time opened e.journal stop.next (sym (c.drive.ensures.leaves.same.flow ∙ is.flow_is)) stop.turns,
             c.drive.ensures.clock.moments (none_made g.C.Clock.given c.in-Ok.engine.journal c.in-Ok.ensures.opened.journal),
+            none_shown c.args.flow.now c.fail-in_default.result.closed _ c.fail-in_default.ensures.closed,
           );
       given = λ rest. absurd (no_rest error end so rest);
       closed = fails_to_run c.fail-in_default.result.closed end error c.fail-in_default.ensures.closed so none;

@@ -1,4 +1,4 @@
-use Rattle.run_law.proofs.Steps.{next_in_turn, spared, steps_go_on}
+use Rattle.run_law.proofs.Steps.{spared, steps_go_on}
 use Rattle.run_law.proofs.laws.run_goes_on.Goals as goal
 
 pub returns : goal.returns
@@ -9,5 +9,4 @@ returns g c =
     record {
       step = steps_go_on law stays loses g.D.Disk.moment g.D.Disk.images;
       spared = spared law stays loses g.D.Disk.moment g.D.Disk.images;
-      turn = next_in_turn law stays loses g.D.Disk.moment g.D.Disk.images;
     }

@@ -62,7 +62,7 @@ returns-clause-ran g c =
           c.state-stored.ensures.consistent c.state-stored.ensures.no_batches (c.state-stored.ensures.last_event opened.work.works) (disk_laws.held_is_left c.open.new.disk disk_told) since of.stands) in
           ran_ends D.tells D.held D.moment D.images c.args.flow.now c.args.lot s.lot opened.lot_is c.run_flow.result g.C.Clock.given (record { time = g.C.Clock.time c.args.clock.now; puts = g.O.Outbox.puts c.args.outbox.now }) (g.C.Clock.time c.run_flow.new.clock) c.args.most c.args.checkpoint (machine_at state left standing) c.args.disk.now
           c.open.new.disk c.run_flow.new.disk (g.I.Inbox.left c.run_flow.new.inbox) (outgoing g.O.Outbox.standing g.O.Outbox.puts c.run_flow.new.outbox) since.begun c.run_flow.ensures.why.limited
-          (ends.0, (ends.1, ends.2, ends.3)) c.run_flow.ensures.given c.run_flow.ensures.checkpointed)
+          ends.0 ends.1 ends.2 ends.3 ends.4 ends.5 c.run_flow.ensures.given c.run_flow.ensures.checkpointed)
           (λ failed. absurd (⊎_elim (λ disk. cc (disk, c.in-Ok.is)) (λ memory. cc (memory.0, c.in-Ok.is)) failed.told))
           c.open.ensures.images;
       closed = c.run_flow.ensures.closed;

@@ -46,12 +46,12 @@ returns-in_err-checkpoint-clause-run g c =
           runs_spared tells held moment images e f same opened first old new start time left out c.run_goes_on.ensures.spared time (omega arith) refl refl refl
           (λ m stands. c.checkpoint.ensures.spares.spared i.flow.now m work stands)
           (subst (λ (u : EngineState). IsRunning moment images u opened first start time old left out) (sym c.self.view_is) run);
-      stopped = λ error is opened first start time left out run.
+      stopped = λ error is opened first start time left out next run.
           let told : c.in_err-checkpoint.field-0.0 ≡ error = cc (p.1, p.2, is) in
           stops_by tells held moment images e f same opened first old new start time left out c.faults_end_a_run.ensures.between error
           (subst (λ (er : EngineError). (er ≡ EngineError.Disk) ⊎ (er ≡ EngineError.Memory)) told c.in_err-checkpoint.ensures.kinds) time (omega arith) refl
           (λ m stands. c.checkpoint.ensures.spares.spared i.flow.now m work stands)
-          (subst (λ (u : EngineState). IsRunning moment images u opened first start time old left out) (sym c.self.view_is) run);
+          (subst (λ (u : EngineState). IsRunning moment images u opened first start time old left out) (sym c.self.view_is) run) next;
     }
 
 pub returns-in_err-checkpoint-clause-leaves : goal.returns-in_err-checkpoint-clause-leaves
@@ -94,7 +94,7 @@ returns-clause-run g c =
           runs_spared tells held moment images e f same opened first old new start time left out c.run_goes_on.ensures.spared time (omega arith) refl refl refl
           (λ m stands. c.checkpoint.ensures.spares.spared i.flow.now m work stands)
           (subst (λ (u : EngineState). IsRunning moment images u opened first start time old left out) (sym c.self.view_is) run);
-      stopped = λ error is opened first start time left out run. absurd cc;
+      stopped = λ error is opened first start time left out next run. absurd cc;
     }
 
 pub returns-clause-leaves : goal.returns-clause-leaves

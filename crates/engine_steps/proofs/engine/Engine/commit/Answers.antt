@@ -1,7 +1,8 @@
 use Rattle.std.proofs.Common.{◌≡◌, ◌∙◌, ap, rules, subst, sym, true}
-use Rattle.std.specs.Prelude.{Err}
+use Rattle.std.specs.Prelude.{Err, None, Some}
 use Rattle.engine_steps.specs.Engine.{EngineState}
-use Rattle.engine_steps.specs.Running.{Stops}
+use Rattle.engine_session.specs.Done.{step_done}
+use Rattle.engine_steps.specs.Running.{Stops, undone_step}
 use Rattle.engine_steps.specs.declared.error.EngineError.{EngineError}
 use Rattle.run_law.specs.Puts.{outgoing}
 use Rattle.engine_steps.proofs.engine.Engine.commit.Goals as goal
@@ -16,11 +17,11 @@ returns-in-Err-Disk-clause-run g c telling in_telling out_telling =
     let e : EngineState = record { flow = i.flow.now; store = i.store; queues = i.queues; listing = i.listing; last = i.last; journal = i.journal.items; most = i.most; checkpoint = i.checkpoint; since_reclaim = i.since_reclaim; failed = i.has_failed; tended = i.tended } in
     record {
       goes_on = λ works. absurd cc;
-      stopped = λ error is works opened first start time le run.
+      stopped = λ error is works opened first start time within run.
           let told : error ≡ EngineError.Disk = cc (is, c.in-Err-Disk.field-0-is) in
-          subst (λ (er : EngineError). Stops er D.tells D.held D.moment D.images (record e { failed = true }) opened first start c.args.done.given.moment new left out) (sym told)
-          (subst (λ (u : EngineState). Stops EngineError.Disk D.tells D.held D.moment D.images u opened first start c.args.done.given.moment new left out) (sym c.self-2.view_is)
-          ((c.commit_job-committed.ensures.run telling in_telling out_telling).stopped EngineError.Disk (is ∙ ap Err told) opened first start time le run));
+          subst (λ (er : EngineError). Stops er D.tells D.held D.moment D.images (record e { failed = true }) opened first start time new left out (undone_step er (Some (step_done c.args.done)))) (sym told)
+          (subst (λ (u : EngineState). Stops EngineError.Disk D.tells D.held D.moment D.images u opened first start time new left out None) (sym c.self-2.view_is)
+          ((c.commit_job-committed.ensures.run telling in_telling out_telling).stopped EngineError.Disk (is ∙ ap Err told) opened first start time within run));
     }
 
 pub returns-else-self-clause-run : goal.returns-else-self-clause-run

@@ -1,8 +1,10 @@
-use Rattle.std.proofs.Common.{◌≡◌, true, ap, sym, ◌∙◌, arith, rules}
-use Rattle.std.specs.Prelude.{Err, IsErrOf, Ok}
+use Rattle.std.proofs.Common.{◌≡◌, true, false, inl, ap, sym, ◌∙◌, arith, rules}
+use Rattle.std.specs.Prelude.{Err, IsErrOf, Ok, Some}
 use Rattle.std.proofs.lemmas.Result.{err_from_is_err_and}
 use Rattle.run_law.proofs.Writing.{reads_only}
+use Rattle.engine_session.specs.Done.{step_done}
 use Rattle.engine_steps.specs.Engine.{EngineState}
+use Rattle.engine_steps.specs.Running.{undone_step}
 use Rattle.engine_steps.specs.declared.error.EngineError.{EngineError}
 use Rattle.engine_steps.proofs.Goes.{spared_by_read, stops_unmoved}
 use Rattle.engine_steps.proofs.AsRead.{as_read, lot_read, read_well, same_error}
@@ -18,17 +20,17 @@ returns-in_err-stands-clause-run g c telling in_telling out_telling =
     let out = outgoing g.O.Outbox.standing g.O.Outbox.puts c.args.outbox.now in
     let p = err_from_is_err_and c.from_residual.result c.from_residual.ensures.1 in
     record {
-      goes_on = λ other works unmoved opened first start time le run.
+      goes_on = λ other works unmoved opened first start time within run.
           let same = as_read c.stands.result e c.stands.new.self c.stands.ensures.reread.store c.stands.ensures.reread.rest (λ disk. other (p.1 ∙ ap Err (p.2 ∙ same_error c.in_err-stands.field-0.0 EngineError.Disk (sym c.in_err-stands.was ∙ disk)))) in
-          still_runs D.tells D.held D.moment D.images c.args.disk.now c.stands.new.disk c.stands.ensures.reread.disk c.run_goes_on.ensures.spared e c.stands.new.self same opened first start time c.args.done.given.moment le
+          still_runs D.tells D.held D.moment D.images c.args.disk.now c.stands.new.disk c.stands.ensures.reread.disk c.run_goes_on.ensures.spared e c.stands.new.self same opened first start time time (omega arith)
           left (g.I.Inbox.left c.stands.new.inbox) out (outgoing g.O.Outbox.standing g.O.Outbox.puts c.stands.new.outbox) c.stands.ensures.reread.inbox c.stands.ensures.reread.outbox run;
-      stopped = λ error is opened first start time le run.
+      stopped = λ error is opened first start time within run.
           let same : c.in_err-stands.field-0.0 ≡ error = cc (p.1, p.2, is) in
           stops_unmoved D.tells D.held D.moment D.images e c.stands.new.self opened first start time c.args.disk.now c.stands.new.disk left out run
           (ap (λ (x : EngineState). x.flow) c.stands.ensures.reread.rest) (lot_read c.stands.result e.store c.stands.new.self.store c.stands.ensures.reread.store) c.faults_end_a_run.ensures.between (ap (λ (x : EngineState). x.journal) c.stands.ensures.reread.rest)
           (spared_by_read D.tells D.held D.moment D.images e.flow e.store.lot run.reached c.args.disk.now c.stands.new.disk c.stands.ensures.reread.disk run.to.run.holds)
-          error (λ limit limited. c.in_err-stands.ensures.refusal.unlimited limit (ap Err (same ∙ limited))) c.args.done.given.moment le
-          (g.I.Inbox.left c.stands.new.inbox) (outgoing g.O.Outbox.standing g.O.Outbox.puts c.stands.new.outbox) c.stands.ensures.reread.inbox c.stands.ensures.reread.outbox;
+          error (λ limit limited. c.in_err-stands.ensures.refusal.unlimited limit (ap Err (same ∙ limited))) time (omega arith)
+          (g.I.Inbox.left c.stands.new.inbox) (outgoing g.O.Outbox.standing g.O.Outbox.puts c.stands.new.outbox) c.stands.ensures.reread.inbox c.stands.ensures.reread.outbox (undone_step error (Some (step_done c.args.done)));
     }
 
 pub returns-in_err-stands-clause-leaves : goal.returns-in_err-stands-clause-leaves
@@ -61,8 +63,8 @@ returns-then-not-branch-clause-run g c telling in_telling out_telling =
     let out = outgoing g.O.Outbox.standing g.O.Outbox.puts c.args.outbox.now in
     let same = as_read c.stands.result e c.stands.new.self c.stands.ensures.reread.store c.stands.ensures.reread.rest (λ disk. read_well c.in_ok-stands.field-0 EngineError.Disk (sym c.in_ok-stands.was ∙ disk)) in
     record {
-      goes_on = λ other works unmoved opened first start time le run.
-          still_runs D.tells D.held D.moment D.images c.args.disk.now c.stands.new.disk c.stands.ensures.reread.disk c.run_goes_on.ensures.spared e c.stands.new.self same opened first start time c.args.done.given.moment le
+      goes_on = λ other works unmoved opened first start time within run.
+          still_runs D.tells D.held D.moment D.images c.args.disk.now c.stands.new.disk c.stands.ensures.reread.disk c.run_goes_on.ensures.spared e c.stands.new.self same opened first start time time (omega arith)
           left (g.I.Inbox.left c.stands.new.inbox) out (outgoing g.O.Outbox.standing g.O.Outbox.puts c.stands.new.outbox) c.stands.ensures.reread.inbox c.stands.ensures.reread.outbox run;
       stopped = λ error is. absurd cc;
     }
@@ -97,14 +99,14 @@ returns-in_err-moment-clause-run g c telling in_telling out_telling =
     let p = err_from_is_err_and c.from_residual-in_err-moment.result c.from_residual-in_err-moment.ensures.1 in
     let same = as_read c.stands.result e c.stands.new.self c.stands.ensures.reread.store c.stands.ensures.reread.rest (λ disk. read_well c.in_ok-stands.field-0 EngineError.Disk (sym c.in_ok-stands.was ∙ disk)) in
     record {
-      goes_on = λ other works unmoved opened first start time le run.
+      goes_on = λ other works unmoved opened first start time within run.
           let told : (a : EngineError) → IsErrOf c.enter.result a → IsErrOf c.from_residual-in_err-moment.result a = λ a is. p.1 ∙ ap Err (p.2 ∙ same_error c.in_err-moment.field-0.0 a (sym c.in_err-moment.was ∙ is)) in
-          (c.enter.ensures.run telling in_telling out_telling).goes_on (λ disk. other (told EngineError.Disk disk)) works (λ inbox. unmoved (told EngineError.Inbox inbox) ∙ sym (ap (λ (x : EngineState). x.journal) same)) opened first start time le
+          (c.enter.ensures.run telling in_telling out_telling).goes_on (λ disk. other (told EngineError.Disk disk)) works (λ inbox. unmoved (told EngineError.Inbox inbox) ∙ sym (ap (λ (x : EngineState). x.journal) same)) opened first start time within
           (still_runs D.tells D.held D.moment D.images c.args.disk.now c.stands.new.disk c.stands.ensures.reread.disk c.run_goes_on.ensures.spared e c.stands.new.self same opened first start time time (omega arith)
           left (g.I.Inbox.left c.stands.new.inbox) out (outgoing g.O.Outbox.standing g.O.Outbox.puts c.stands.new.outbox) c.stands.ensures.reread.inbox c.stands.ensures.reread.outbox run);
-      stopped = λ error is opened first start time le run.
+      stopped = λ error is opened first start time within run.
           let told : c.in_err-moment.field-0.0 ≡ error = cc (p.1, p.2, is) in
-          (c.enter.ensures.run telling in_telling out_telling).stopped error (c.in_err-moment.was ∙ ap Err told) opened first start time le
+          (c.enter.ensures.run telling in_telling out_telling).stopped error (c.in_err-moment.was ∙ ap Err told) opened first start time within
           (still_runs D.tells D.held D.moment D.images c.args.disk.now c.stands.new.disk c.stands.ensures.reread.disk c.run_goes_on.ensures.spared e c.stands.new.self same opened first start time time (omega arith)
           left (g.I.Inbox.left c.stands.new.inbox) out (outgoing g.O.Outbox.standing g.O.Outbox.puts c.stands.new.outbox) c.stands.ensures.reread.inbox c.stands.ensures.reread.outbox run);
     }
@@ -117,9 +119,26 @@ returns-clause-run g c telling in_telling out_telling =
     let out = outgoing g.O.Outbox.standing g.O.Outbox.puts c.args.outbox.now in
     let same = as_read c.stands.result e c.stands.new.self c.stands.ensures.reread.store c.stands.ensures.reread.rest (λ disk. read_well c.in_ok-stands.field-0 EngineError.Disk (sym c.in_ok-stands.was ∙ disk)) in
     record {
-      goes_on = λ other works unmoved opened first start time le run.
-          (c.enter.ensures.run telling in_telling out_telling).goes_on (λ disk. read_well c.in_ok-moment.moment EngineError.Disk (sym c.in_ok-moment.was ∙ disk)) works (λ inbox. read_well c.in_ok-moment.moment EngineError.Inbox (sym c.in_ok-moment.was ∙ inbox)) opened first start time le
+      goes_on = λ other works unmoved opened first start time within run.
+          (c.enter.ensures.run telling in_telling out_telling).goes_on (λ disk. read_well c.in_ok-moment.moment EngineError.Disk (sym c.in_ok-moment.was ∙ disk)) works (λ inbox. read_well c.in_ok-moment.moment EngineError.Inbox (sym c.in_ok-moment.was ∙ inbox)) opened first start time within
           (still_runs D.tells D.held D.moment D.images c.args.disk.now c.stands.new.disk c.stands.ensures.reread.disk c.run_goes_on.ensures.spared e c.stands.new.self same opened first start time time (omega arith)
           left (g.I.Inbox.left c.stands.new.inbox) out (outgoing g.O.Outbox.standing g.O.Outbox.puts c.stands.new.outbox) c.stands.ensures.reread.inbox c.stands.ensures.reread.outbox run);
       stopped = λ error is. absurd cc;
+    }
+
+pub returns-then-not-branch-clause-stands : goal.returns-then-not-branch-clause-stands
+returns-then-not-branch-clause-stands g c =
+    let e : EngineState = c.args.self.now in
+    let was = c.in_ok-stands.was in
+    let there = c.in_ok-stands.is in
+    let no = c.if-not-branch.true in
+    let so : c.stands.result ≡ Ok false = cc in
+    let same = as_read c.stands.result e c.stands.new.self c.stands.ensures.reread.store c.stands.ensures.reread.rest (λ disk. read_well c.in_ok-stands.field-0 EngineError.Disk (sym c.in_ok-stands.was ∙ disk)) in
+    record {
+      stands = inl (record {
+        journal = ap (λ (x : EngineState). x.journal) same;
+        limit = λ limit is. absurd cc;
+        failed = λ failed. inl (sym (ap (λ (x : EngineState). x.failed) same) ∙ failed);
+      });
+      changed = λ is. (c.stands.ensures.otherwise so, same, c.stands.ensures.reread.disk, c.stands.ensures.reread.outbox);
     }

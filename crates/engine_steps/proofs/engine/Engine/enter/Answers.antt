@@ -18,11 +18,11 @@ use Rattle.engine_session.specs.Done.{step_done}
 use Rattle.engine_steps.specs.Engine.{AreTakeable, EngineState}
 use Rattle.engine_steps.specs.Journal.{journaled}
 use Rattle.engine_steps.specs.Ready.{KnowsDue}
-use Rattle.engine_steps.specs.Running.{Stops}
+use Rattle.engine_steps.specs.Running.{Stops, undone_step}
 use Rattle.engine_steps.specs.declared.error.EngineError.{EngineError}
 use Rattle.engine_steps.proofs.AsRead.{longer}
 use Rattle.engine_steps.proofs.Entering.{file_in, first_in, job_in, left_in, may_in, read_in, step_in, steps_in, takes_in, within_in, work_in}
-use Rattle.engine_steps.proofs.Goes.{enters_written, goes_on_unwritten, named_so, stops_at_limit, stops_unmoved, stops_unremoved, stops_written, waits}
+use Rattle.engine_steps.proofs.Goes.{enters_written, goes_on_unwritten, named_so, stops_at_limit, stops_unmoved, stops_unremoved, stops_written}
 use Rattle.engine_steps.proofs.Left.{distinct_without, takeable_fewer, takeable_without}
 use Rattle.engine_steps.proofs.Readied.{as_many, knows_none, not_both, one_more, ready_by, the_error}
 use Rattle.engine_steps.proofs.RunsOn.{spared_by_none}
@@ -90,16 +90,14 @@ returns-in_err-received-clause-run g c telling in_telling out_telling =
     let out = outgoing g.O.Outbox.standing g.O.Outbox.puts c.args.outbox.now in
     let p = err_from_is_err_and c.from_residual.result c.from_residual.ensures.1 in
     record {
-      goes_on = λ other works unmoved opened first start time le run.
-          waits g.D.Disk.tells g.D.Disk.held g.D.Disk.moment g.D.Disk.images c.run_goes_on.ensures.spared c.args.self.now opened first start time c.args.done.given.moment c.args.disk.now (g.I.Inbox.left c.args.inbox.now)
-          (outgoing g.O.Outbox.standing g.O.Outbox.puts c.args.outbox.now) le run;
-      stopped = λ error is opened first start time le run.
+      goes_on = λ other works unmoved opened first start time within run. run;
+      stopped = λ error is opened first start time within run.
           let memory : error ≡ EngineError.Memory = cc (p.1, p.2, is) in
           let still = spared_by_none D.tells D.held D.moment D.images e.flow e.store.lot run.reached c.args.disk.now run.to.run.holds in
           stops_unmoved D.tells D.held D.moment D.images e e opened first start time c.args.disk.now c.args.disk.now left out run refl refl
           c.faults_end_a_run.ensures.between refl still
           error (λ limit limited. let both : EngineError.Memory ≡ EngineError.Limit limit = sym memory ∙ limited in cc)
-          c.args.done.given.moment le left out refl refl;
+          time (omega arith) left out refl refl (undone_step error (Some (step_done c.args.done)));
     }
 
 pub returns-in_err-step-clause-run : goal.returns-in_err-step-clause-run
@@ -110,16 +108,14 @@ returns-in_err-step-clause-run g c telling in_telling out_telling =
     let out = outgoing g.O.Outbox.standing g.O.Outbox.puts c.args.outbox.now in
     let p = err_from_is_err_and c.from_residual-in_err-step.result c.from_residual-in_err-step.ensures.1 in
     record {
-      goes_on = λ other works unmoved opened first start time le run.
-          waits g.D.Disk.tells g.D.Disk.held g.D.Disk.moment g.D.Disk.images c.run_goes_on.ensures.spared c.args.self.now opened first start time c.args.done.given.moment c.args.disk.now (g.I.Inbox.left c.args.inbox.now)
-          (outgoing g.O.Outbox.standing g.O.Outbox.puts c.args.outbox.now) le run;
-      stopped = λ error is opened first start time le run.
+      goes_on = λ other works unmoved opened first start time within run. run;
+      stopped = λ error is opened first start time within run.
           let memory : error ≡ EngineError.Memory = cc (p.1, p.2, is) in
           let still = spared_by_none D.tells D.held D.moment D.images e.flow e.store.lot run.reached c.args.disk.now run.to.run.holds in
           stops_unmoved D.tells D.held D.moment D.images e e opened first start time c.args.disk.now c.args.disk.now left out run refl refl
           c.faults_end_a_run.ensures.between refl still
           error (λ limit limited. let both : EngineError.Memory ≡ EngineError.Limit limit = sym memory ∙ limited in cc)
-          c.args.done.given.moment le left out refl refl;
+          time (omega arith) left out refl refl (undone_step error (Some (step_done c.args.done)));
     }
 
 pub returns-in_err-changed-clause-run : goal.returns-in_err-changed-clause-run
@@ -130,16 +126,14 @@ returns-in_err-changed-clause-run g c telling in_telling out_telling =
     let out = outgoing g.O.Outbox.standing g.O.Outbox.puts c.args.outbox.now in
     let p = err_from_is_err_and c.from_residual-in_err-changed.result c.from_residual-in_err-changed.ensures.1 in
     record {
-      goes_on = λ other works unmoved opened first start time le run.
-          waits g.D.Disk.tells g.D.Disk.held g.D.Disk.moment g.D.Disk.images c.run_goes_on.ensures.spared c.args.self.now opened first start time c.args.done.given.moment c.args.disk.now (g.I.Inbox.left c.args.inbox.now)
-          (outgoing g.O.Outbox.standing g.O.Outbox.puts c.args.outbox.now) le run;
-      stopped = λ error is opened first start time le run.
+      goes_on = λ other works unmoved opened first start time within run. run;
+      stopped = λ error is opened first start time within run.
           let memory : error ≡ EngineError.Memory = cc (p.1, p.2, is) in
           let still = spared_by_none D.tells D.held D.moment D.images e.flow e.store.lot run.reached c.args.disk.now run.to.run.holds in
           stops_unmoved D.tells D.held D.moment D.images e e opened first start time c.args.disk.now c.args.disk.now left out run refl refl
           c.faults_end_a_run.ensures.between refl still
           error (λ limit limited. let both : EngineError.Memory ≡ EngineError.Limit limit = sym memory ∙ limited in cc)
-          c.args.done.given.moment le left out refl refl;
+          time (omega arith) left out refl refl (undone_step error (Some (step_done c.args.done)));
     }
 
 pub returns-then-entries-self-clause-run : goal.returns-then-entries-self-clause-run
@@ -151,20 +145,18 @@ returns-then-entries-self-clause-run g c telling in_telling out_telling =
     let old = c.args.disk.now in
     let laws = g.met.D.Disk g.world.𝓛 g.world.𝓜 g.world.𝓡 ((λ s x. x), (λ x. x), (λ x. x), λ x. x) in
     record {
-      goes_on = λ other works unmoved opened first start time le run.
-          waits g.D.Disk.tells g.D.Disk.held g.D.Disk.moment g.D.Disk.images c.run_goes_on.ensures.spared c.args.self.now opened first start time c.args.done.given.moment c.args.disk.now (g.I.Inbox.left c.args.inbox.now)
-          (outgoing g.O.Outbox.standing g.O.Outbox.puts c.args.outbox.now) le run;
-      stopped = λ error is opened first start time le run.
+      goes_on = λ other works unmoved opened first start time within run. run;
+      stopped = λ error is opened first start time within run.
           let at = steps_in D.tells D.held D.moment D.images _ e c.self.view_is old c.requires.may.ready c.holds_its_state.ensures.kept.0 g.I.Inbox.tells g.O.Outbox.tells left out c.args.done c.requires.stands
-          c.what_is_kept_is_seen.ensures.shown c.what_is_kept_is_seen.ensures.queues c.what_is_kept_is_seen.ensures.sizes c.choices_are_sessions.ensures c.choices_are_seen.ensures c.taken_files_are_live.ensures c.holds_its_state.ensures.kept.1
+          c.what_is_kept_is_seen.ensures.shown c.what_is_kept_is_seen.ensures.queues c.what_is_kept_is_seen.ensures.sizes c.takings_are_sessions.ensures c.taken_files_are_live.ensures c.holds_its_state.ensures.kept.1
           (c.holds_its_state.ensures.held telling) (c.holds_its_state.ensures.tied telling) telling in_telling out_telling opened first start time run c.in_ok-changed.changed c.in_ok-changed.ensures.step in
-          let job = c.requires.stands.0 in
+          let job = c.requires.stands.1 in
           let one = step_in D.tells D.held D.moment D.images _ e c.self.view_is old c.requires.may.ready c.holds_its_state.ensures.kept.0 g.I.Inbox.tells g.O.Outbox.tells left out c.args.done c.requires.stands in
           let full : length e.journal ≡ e.most = omega (arith, c.if-entries-self.true, c.entries.ensures, c.requires.may.ready.entries, ap (λ (x : EngineState). x.most) c.self.view_is) in
           let told : EngineError.Limit (journal_full e.most) ≡ error = cc (is, c.journal_limit.ensures) in
-          subst (λ (x : EngineError). Stops x D.tells D.held D.moment D.images e opened first start c.args.done.given.moment old left out) told
-          (stops_at_limit D.tells D.held D.moment D.images e e opened first start time old old left out run refl refl (content_in (D.held old)) job c.in_ok-changed.changed at.0 (step_done c.args.done) one le
-          c.run_goes_on.ensures.spared c.run_goes_on.ensures.turn (journal_full e.most) (spared_by_none D.tells D.held D.moment D.images e.flow e.store.lot run.reached old run.to.run.holds) refl refl refl
+          subst (λ (x : EngineError). Stops x D.tells D.held D.moment D.images e opened first start time old left out (undone_step x (Some (step_done c.args.done)))) told
+          (stops_at_limit D.tells D.held D.moment D.images e e opened first start time old old left out run refl refl (content_in (D.held old)) job c.in_ok-changed.changed at.0 (step_done c.args.done) one within
+          c.run_goes_on.ensures.spared (journal_full e.most) (spared_by_none D.tells D.held D.moment D.images e.flow e.store.lot run.reached old run.to.run.holds) refl refl refl
           (laws.held_is_left old telling) (inr (ap journal_full (sym full))));
     }
 
@@ -177,35 +169,35 @@ returns-in_err-moment-clause-run g c telling in_telling out_telling =
     let old = c.args.disk.now in
     let laws = g.met.D.Disk g.world.𝓛 g.world.𝓜 g.world.𝓡 ((λ s x. x), (λ x. x), (λ x. x), λ x. x) in
     record {
-      goes_on = λ other works unmoved opened first start time le run.
+      goes_on = λ other works unmoved opened first start time within run.
           let at = steps_in D.tells D.held D.moment D.images _ e c.self.view_is old c.requires.may.ready c.holds_its_state.ensures.kept.0 g.I.Inbox.tells g.O.Outbox.tells left out c.args.done c.requires.stands
-          c.what_is_kept_is_seen.ensures.shown c.what_is_kept_is_seen.ensures.queues c.what_is_kept_is_seen.ensures.sizes c.choices_are_sessions.ensures c.choices_are_seen.ensures c.taken_files_are_live.ensures c.holds_its_state.ensures.kept.1
+          c.what_is_kept_is_seen.ensures.shown c.what_is_kept_is_seen.ensures.queues c.what_is_kept_is_seen.ensures.sizes c.takings_are_sessions.ensures c.taken_files_are_live.ensures c.holds_its_state.ensures.kept.1
           (c.holds_its_state.ensures.held telling) (c.holds_its_state.ensures.tied telling) telling in_telling out_telling opened first start time run c.in_ok-changed.changed c.in_ok-changed.ensures.step in
-          let job = c.requires.stands.0 in
+          let job = c.requires.stands.1 in
           let one = step_in D.tells D.held D.moment D.images _ e c.self.view_is old c.requires.may.ready c.holds_its_state.ensures.kept.0 g.I.Inbox.tells g.O.Outbox.tells left out c.args.done c.requires.stands in
           let p = err_from_is_err_and c.from_residual-in_err-moment.result c.from_residual-in_err-moment.ensures.1 in
           let was : c.write.result ≡ Err c.in_err-moment.field-0.0 = c.in_err-moment.was in
           let rest = c.write.ensures.noted.rest in
           let no_put : c.in_err-moment.field-0.0 ≡ EngineError.Put → ⊥ = λ put. true≢false (sym (c.write.ensures.noted.failed.1 (inr (was ∙ ap Err put))) ∙ works) in
           goes_on_unwritten D.tells D.held D.moment D.images e opened first start time old c.write.new.disk left out (outgoing g.O.Outbox.standing g.O.Outbox.puts c.write.new.outbox) run
-          job c.in_ok-changed.changed at.0 (step_done c.args.done) one le e.store c.write.new.self.store e.queues c.write.new.self.queues refl c.requires.may.ready.work
+          job c.in_ok-changed.changed at.0 (step_done c.args.done) one within e.store c.write.new.self.store e.queues c.write.new.self.queues refl c.requires.may.ready.work
           (subst (λ (u : StoreState). IsStateOf run.reached (content_in (D.held old)) (kept_by u)) (ap (λ (x : EngineState). x.store) c.self.view_is) at.1) g.O.Outbox.tells out_telling c.write.result c.write.ensures.written
           c.in_err-moment.field-0.0 was c.write.new.self (ap (λ (x : EngineState). x.flow) rest) refl (c.write.ensures.noted.journal ∙ ap (λ (x : Step). journaled c.write.result x e.journal) c.in_ok-step.ensures)
           c.run_goes_on.ensures.spared (ap (λ (x : EngineState). (names_left x.listing)) rest) (ap (λ (x : EngineState). x.last) rest)
           (λ disk. other (p.1 ∙ ap Err (p.2 ∙ disk))) no_put;
-      stopped = λ error is opened first start time le run.
+      stopped = λ error is opened first start time within run.
           let at = steps_in D.tells D.held D.moment D.images _ e c.self.view_is old c.requires.may.ready c.holds_its_state.ensures.kept.0 g.I.Inbox.tells g.O.Outbox.tells left out c.args.done c.requires.stands
-          c.what_is_kept_is_seen.ensures.shown c.what_is_kept_is_seen.ensures.queues c.what_is_kept_is_seen.ensures.sizes c.choices_are_sessions.ensures c.choices_are_seen.ensures c.taken_files_are_live.ensures c.holds_its_state.ensures.kept.1
+          c.what_is_kept_is_seen.ensures.shown c.what_is_kept_is_seen.ensures.queues c.what_is_kept_is_seen.ensures.sizes c.takings_are_sessions.ensures c.taken_files_are_live.ensures c.holds_its_state.ensures.kept.1
           (c.holds_its_state.ensures.held telling) (c.holds_its_state.ensures.tied telling) telling in_telling out_telling opened first start time run c.in_ok-changed.changed c.in_ok-changed.ensures.step in
-          let job = c.requires.stands.0 in
+          let job = c.requires.stands.1 in
           let one = step_in D.tells D.held D.moment D.images _ e c.self.view_is old c.requires.may.ready c.holds_its_state.ensures.kept.0 g.I.Inbox.tells g.O.Outbox.tells left out c.args.done c.requires.stands in
           let p = err_from_is_err_and c.from_residual-in_err-moment.result c.from_residual-in_err-moment.ensures.1 in
           let same : c.in_err-moment.field-0.0 ≡ error = cc (p.1, p.2, is) in
           let rest = c.write.ensures.noted.rest in
           stops_written D.tells D.held D.moment D.images e opened first start time old c.write.new.disk left out (outgoing g.O.Outbox.standing g.O.Outbox.puts c.write.new.outbox) run
-          job c.in_ok-changed.changed at.0 (step_done c.args.done) one le e.store c.write.new.self.store e.queues c.write.new.self.queues refl c.requires.may.ready.work
+          job c.in_ok-changed.changed at.0 (step_done c.args.done) one within e.store c.write.new.self.store e.queues c.write.new.self.queues refl c.requires.may.ready.work
           (subst (λ (u : StoreState). IsStateOf run.reached (content_in (D.held old)) (kept_by u)) (ap (λ (x : EngineState). x.store) c.self.view_is) at.1) g.O.Outbox.tells out_telling c.write.result c.write.ensures.written
-          c.faults_end_a_run.ensures.between c.faults_end_a_run.ensures.disk c.faults_end_a_run.ensures.outbox c.run_goes_on.ensures.turn c.run_goes_on.ensures.spared (laws.held_is_left old telling)
+          c.faults_end_a_run.ensures.between c.faults_end_a_run.ensures.disk c.faults_end_a_run.ensures.outbox c.run_goes_on.ensures.spared (laws.held_is_left old telling)
           (subst (λ (u : StoreState). MayChange (kept_by u) c.in_ok-changed.changed.settled) (ap (λ (x : EngineState). x.store) c.self.view_is) c.in_ok-changed.ensures.may)
           error (c.in_err-moment.was ∙ ap Err same) c.write.new.self (ap (λ (x : EngineState). x.flow) rest) refl (c.write.ensures.noted.journal ∙ ap (λ (x : Step). journaled c.write.result x e.journal) c.in_ok-step.ensures)
           (ap (λ (x : EngineState). (names_left x.listing)) rest) (ap (λ (x : EngineState). x.last) rest);
@@ -250,11 +242,11 @@ returns-in_err-remove-clause-run g c telling in_telling out_telling =
     record {
       goes_on = λ other works unmoved.
           absurd (longer c.args.done e.journal c.self-2.inside.journal.items e.journal c.in_ok-moment.moment refl (unmoved (p.1 ∙ ap Err (p.2 ∙ failed.0))) entered);
-      stopped = λ error is opened first start time le run.
+      stopped = λ error is opened first start time within run.
           let at = steps_in D.tells D.held D.moment D.images _ e c.self.view_is old c.requires.may.ready c.holds_its_state.ensures.kept.0 g.I.Inbox.tells g.O.Outbox.tells left out c.args.done c.requires.stands
-          c.what_is_kept_is_seen.ensures.shown c.what_is_kept_is_seen.ensures.queues c.what_is_kept_is_seen.ensures.sizes c.choices_are_sessions.ensures c.choices_are_seen.ensures c.taken_files_are_live.ensures c.holds_its_state.ensures.kept.1
+          c.what_is_kept_is_seen.ensures.shown c.what_is_kept_is_seen.ensures.queues c.what_is_kept_is_seen.ensures.sizes c.takings_are_sessions.ensures c.taken_files_are_live.ensures c.holds_its_state.ensures.kept.1
           (c.holds_its_state.ensures.held telling) (c.holds_its_state.ensures.tied telling) telling in_telling out_telling opened first start time run c.in_ok-changed.changed c.in_ok-changed.ensures.step in
-          let job = c.requires.stands.0 in
+          let job = c.requires.stands.1 in
           let one = step_in D.tells D.held D.moment D.images _ e c.self.view_is old c.requires.may.ready c.holds_its_state.ensures.kept.0 g.I.Inbox.tells g.O.Outbox.tells left out c.args.done c.requires.stands in
           let f : EngineState = record {
             flow = c.self-2.inside.flow.now;
@@ -277,9 +269,9 @@ returns-in_err-remove-clause-run g c telling in_telling out_telling =
           let either = ⊎_elim (λ (same : g.I.Inbox.left c.remove.new.inbox ≡ left). inl same)
           (λ (gone : g.I.Inbox.left c.remove.new.inbox ≡ without_received c.in_ok-received.received left). inr (gone ∙ ap (λ (o : Option (List ℕ)). without_received o left) named.1))
           (failed.2 in_telling) in
-          subst (λ (x : EngineError). Stops x D.tells D.held D.moment D.images f opened first start c.args.done.given.moment c.write.new.disk (g.I.Inbox.left c.remove.new.inbox) (outgoing g.O.Outbox.standing g.O.Outbox.puts c.write.new.outbox)) told
+          subst (λ (x : EngineError). Stops x D.tells D.held D.moment D.images f opened first start time c.write.new.disk (g.I.Inbox.left c.remove.new.inbox) (outgoing g.O.Outbox.standing g.O.Outbox.puts c.write.new.outbox) (undone_step x (Some (step_done c.args.done)))) told
           (stops_unremoved D.tells D.held D.moment D.images e opened first start time old c.write.new.disk left out (outgoing g.O.Outbox.standing g.O.Outbox.puts c.write.new.outbox) run
-          job c.in_ok-changed.changed at.0 (step_done c.args.done) one le e.store c.write.new.self.store e.queues c.write.new.self.queues refl c.requires.may.ready.work
+          job c.in_ok-changed.changed at.0 (step_done c.args.done) one within e.store c.write.new.self.store e.queues c.write.new.self.queues refl c.requires.may.ready.work
           (subst (λ (u : StoreState). IsStateOf run.reached (content_in (D.held old)) (kept_by u)) (ap (λ (x : EngineState). x.store) c.self.view_is) at.1) g.O.Outbox.tells out_telling c.write.result c.write.ensures.written
           c.in_ok-moment.moment c.in_ok-moment.was f flow_is (ap (λ (x : EngineState). x.store.lot) v) journal_is
           c.faults_end_a_run.ensures.inbox named.0 takes (g.I.Inbox.left c.remove.new.inbox) either);
@@ -293,11 +285,11 @@ returns-clause-run g c telling in_telling out_telling =
     let out = outgoing g.O.Outbox.standing g.O.Outbox.puts c.args.outbox.now in
     let old = c.args.disk.now in
     record {
-      goes_on = λ other works unmoved opened first start time le run.
+      goes_on = λ other works unmoved opened first start time within run.
           let at = steps_in D.tells D.held D.moment D.images _ e c.self.view_is old c.requires.may.ready c.holds_its_state.ensures.kept.0 g.I.Inbox.tells g.O.Outbox.tells left out c.args.done c.requires.stands
-          c.what_is_kept_is_seen.ensures.shown c.what_is_kept_is_seen.ensures.queues c.what_is_kept_is_seen.ensures.sizes c.choices_are_sessions.ensures c.choices_are_seen.ensures c.taken_files_are_live.ensures c.holds_its_state.ensures.kept.1
+          c.what_is_kept_is_seen.ensures.shown c.what_is_kept_is_seen.ensures.queues c.what_is_kept_is_seen.ensures.sizes c.takings_are_sessions.ensures c.taken_files_are_live.ensures c.holds_its_state.ensures.kept.1
           (c.holds_its_state.ensures.held telling) (c.holds_its_state.ensures.tied telling) telling in_telling out_telling opened first start time run c.in_ok-changed.changed c.in_ok-changed.ensures.step in
-          let job = c.requires.stands.0 in
+          let job = c.requires.stands.1 in
           let one = step_in D.tells D.held D.moment D.images _ e c.self.view_is old c.requires.may.ready c.holds_its_state.ensures.kept.0 g.I.Inbox.tells g.O.Outbox.tells left out c.args.done c.requires.stands in
           let f : EngineState = record {
             flow = c.self-2.inside.flow.now;
@@ -320,7 +312,7 @@ returns-clause-run g c telling in_telling out_telling =
           c.in_ok-received.ensures ∙ file_in D.tells D.held D.moment D.images _ e c.self.view_is old c.requires.may.ready c.holds_its_state.ensures.kept.0 g.I.Inbox.tells g.O.Outbox.tells left out c.args.done c.requires.stands in
           let names : (names_left c.self-2.inside.listing) ≡ (names_left e.listing) = ap (λ (x : EngineState). (names_left x.listing)) v ∙ ap (λ (x : EngineState). (names_left x.listing)) c.write.ensures.noted.rest in
           enters_written D.tells D.held D.moment D.images e opened first start time old c.write.new.disk left out (outgoing g.O.Outbox.standing g.O.Outbox.puts c.write.new.outbox) run
-          job c.in_ok-changed.changed at.0 (step_done c.args.done) one le e.store c.write.new.self.store e.queues c.write.new.self.queues refl c.requires.may.ready.work
+          job c.in_ok-changed.changed at.0 (step_done c.args.done) one within e.store c.write.new.self.store e.queues c.write.new.self.queues refl c.requires.may.ready.work
           (subst (λ (u : StoreState). IsStateOf run.reached (content_in (D.held old)) (kept_by u)) (ap (λ (x : EngineState). x.store) c.self.view_is) at.1) g.O.Outbox.tells out_telling c.write.result c.write.ensures.written
           c.in_ok-moment.moment c.in_ok-moment.was f flow_is (ap (λ (x : EngineState). x.store.lot) v) journal_is
           c.run_goes_on.ensures.step (g.I.Inbox.left c.remove.new.inbox) (c.in_ok-remove.ensures.removed in_telling ∙ ap (λ (o : Option (List ℕ)). without_received o left) file)

@@ -1,28 +1,25 @@
 use Rattle.std.proofs.Common.{◌≡◌, ◌⊎◌, ℕ, ◌≤◌, List, [], ◌∷◌, ◌++◌, length, refl, rules, sym, ap, subst, ◌∙◌, inl, inr, arith, length-append}
-use Rattle.std.specs.Prelude.{Err, IfErr, IfOk, None, Ok, OnOk, Result, Some, false, true, is_some, option_map}
+use Rattle.std.specs.Prelude.{Err, IfErr, IfOk, None, Ok, OnOk, Option, Result, Some, true, is_some, option_map}
 use Rattle.std.proofs.lemmas.Result.{err_from_is_err_and}
 use Rattle.content_repo.specs.Claims.{content_in}
-use Rattle.flowfile_wal.specs.Calls.{InEach}
 use Rattle.kept_state.specs.declared.limit.Limit.{Limit}
 use Rattle.machine_model.specs.declared.journal.Entry.{Entry}
 use Rattle.machine_model.specs.declared.journal.Step.{Step}
 use Rattle.machine_model.specs.declared.journal.Step.TheVariants.{Expire}
 use Rattle.machine_model.specs.Due.{due_expiry}
-use Rattle.machine_model.specs.State.{Machine}
 use Rattle.store_core.specs.Store.{kept_by}
-use Rattle.engine_queues.specs.Queues.{AreQueuesOf, queue_seen}
+use Rattle.engine_queues.specs.Queues.{queue_seen}
 use Rattle.run_law.specs.Ending.{journal_full}
-use Rattle.run_law.specs.Run.{StandsFor}
-use Rattle.run_law.specs.Work.{IsAtWork, IsRefused}
+use Rattle.run_law.specs.Work.{IsRefused}
 use Rattle.engine_steps.specs.Engine.{EngineState, IsOfSameRun}
 use Rattle.engine_steps.specs.Journal.{journaled}
-use Rattle.engine_steps.specs.Ready.{EngineIsReady}
-use Rattle.engine_steps.specs.Running.{IsLimited, IsRunning, Stops}
+use Rattle.engine_steps.specs.Ready.{EngineIsReady, expiry_in}
+use Rattle.engine_steps.specs.Running.{IsLimited, IsRunning, Stops, undone_step}
 use Rattle.engine_steps.specs.Committing.{IsAtWorkWithQueues}
 use Rattle.engine_steps.specs.Tending.{HasExpired, StepIsDone, counted_on}
 use Rattle.engine_steps.specs.TendingParts.{RunsOnTended}
 use Rattle.engine_steps.specs.declared.error.EngineError.{EngineError}
-use Rattle.engine_steps.proofs.Expired.{are_of, due_comes, due_goes, due_kept}
+use Rattle.engine_steps.proofs.Expired.{are_of, due_goes, due_kept}
 use Rattle.engine_steps.proofs.RunsBehind.{tended_idle}
 use Rattle.engine_steps.proofs.RunsOn.{runs_idle, runs_stepped, runs_unwritten, stops_failed, stops_limited}
 use Rattle.engine_steps.proofs.Tends.{journaled_kept}
@@ -61,17 +58,17 @@ returns-then-entries-self-clause-run g c telling =
       stopped = λ error is opened first start time left out by run.
           let limited = stops_limited tells held moment images e e (record { flow = refl; most = refl; checkpoint = refl; too_large = refl; lot = refl }) opened first disk disk start time left out
           (Expire expiry.connection expiry.numbers c.args.moment) (journal_full i.most) by
-          (λ m stands. due_comes c.what_is_kept_is_seen.ensures.seen c.due_expiries_may_expire.ensures i.flow.now (kept_by i.store) expiry.connection expiry.numbers c.args.moment c.holds_its_state.ensures.kept.0 c.holds_its_state.ensures.kept.1
-          ready.work.flow_is kept (content_in (held disk)) m sizes (c.holds_its_state.ensures.tied telling i.flow.now ready.work m stands))
-          c.run_goes_on.ensures.spared c.run_goes_on.ensures.turn refl refl refl refl
+          c.run_goes_on.ensures.spared refl refl refl refl
           (λ m stands.
           let goes = due_goes c.what_is_kept_is_seen.ensures.seen c.due_expiries_may_expire.ensures i.flow.now (kept_by i.store) expiry.connection expiry.numbers c.args.moment c.holds_its_state.ensures.kept.0 c.holds_its_state.ensures.kept.1
           ready.work.flow_is kept (content_in (held disk)) m sizes (c.holds_its_state.ensures.tied telling i.flow.now ready.work m stands) in
           record { after = goes.after; goes = goes.goes; is_so = (stands (held disk) (laws.held_is_left disk telling), inr (ap journal_full (sym full))) })
           (subst (λ (u : EngineState). IsRunning moment images u opened first start time disk left out) (sym c.self.view_is) run) in
           let told : EngineError.Limit (journal_full c.args.self.now.most) ≡ error = cc (is, c.journal_limit.ensures) in
-          subst (λ (er : EngineError). Stops er tells held moment images c.args.self.now opened first start c.args.moment disk left out) told
-          (subst (λ (u : EngineState). IsLimited tells held moment images u (journal_full u.most) opened first start c.args.moment disk left out) c.self.view_is limited);
+          subst (λ (er : EngineError). Stops er tells held moment images c.args.self.now opened first start c.args.moment disk left out (undone_step er (expiry_in c.args.self.now c.args.moment))) told
+          (subst (λ (u : EngineState). IsLimited tells held moment images u (journal_full u.most) opened first start c.args.moment disk left out (expiry_in u c.args.moment)) c.self.view_is
+          (subst (λ (next : Option Step). IsLimited tells held moment images e (journal_full e.most) opened first start c.args.moment disk left out next)
+          (sym (ap (option_map (λ (due : ℕ × List ℕ). Expire due.0 due.1 c.args.moment)) due)) limited));
     }
 
 pub returns-in_err-step-clause-run : goal.returns-in_err-step-clause-run
@@ -134,15 +131,15 @@ returns-in_err-expired-clause-run g c telling =
           let was : c.expire-expired.result ≡ Err error = c.in_err-expired.was ∙ ap Err told in
           let grew : c.note.new.journal.items ≡ journaled (Err error) one i.journal.items = grown ∙ ap (λ (r : Result ℕ EngineError). journaled r one i.journal.items) was in
           let kinds = subst (λ (r : Result ℕ EngineError). IfErr r (λ er. (er ≡ EngineError.Disk) ⊎ (er ≡ EngineError.Memory) ⊎ ((limit : Limit) × (er ≡ EngineError.Limit limit)))) was c.expire-expired.ensures.refusal.kinds in
-          stops_failed tells held moment images e f same opened first old new start time left out c.worlds_follow_steps.ensures.queues one tt by
-          (λ m stands. due_comes c.what_is_kept_is_seen.ensures.seen c.due_expiries_may_expire.ensures i.flow.now (kept_by i.store) expiry.connection expiry.numbers c.args.moment c.holds_its_state.ensures.kept.0 c.holds_its_state.ensures.kept.1
-          ready.work.flow_is kept (content_in (held old)) m sizes (c.holds_its_state.ensures.tied telling i.flow.now ready.work m stands))
-          c.run_goes_on.ensures.spared c.run_goes_on.ensures.turn c.faults_end_a_run.ensures.between c.faults_end_a_run.ensures.disk error refl refl
+          subst (λ (next : Option Step). Stops error tells held moment images f opened first start c.args.moment new left out (undone_step error next))
+          (sym (ap (option_map (λ (due : ℕ × List ℕ). Expire due.0 due.1 c.args.moment)) due) ∙ ap (λ (u : EngineState). expiry_in u c.args.moment) c.self.view_is)
+          (stops_failed tells held moment images e f same opened first old new start time left out c.worlds_follow_steps.ensures.queues one tt by
+          c.run_goes_on.ensures.spared c.faults_end_a_run.ensures.between c.faults_end_a_run.ensures.disk error refl refl
           (λ disk. grew ∙ ap (λ (er : EngineError). journaled (Err er) one i.journal.items) disk)
           (λ disk m stands. (c.expire-expired.ensures.step telling m stands).cut_off (was ∙ ap Err disk))
           (λ apart. ((c.expire-expired.ensures.commits.unwritten error was apart).0, kept_journal error was apart))
           (λ limit at m stands. (c.expire-expired.ensures.step telling m stands).limited limit (was ∙ ap Err at))
-          (subst (λ (u : EngineState). IsRunning moment images u opened first start time old left out) (sym c.self.view_is) run) kinds;
+          (subst (λ (u : EngineState). IsRunning moment images u opened first start time old left out) (sym c.self.view_is) run) kinds);
     }
 
 pub returns-in_err-expired-clause-lets_go : goal.returns-in_err-expired-clause-lets_go
@@ -236,8 +233,6 @@ returns-clause-run g c telling =
     record {
       goes_on = λ well opened first start time left out by run.
           runs_stepped tells held moment images e f same opened first old new start time left out c.worlds_follow_steps.ensures.queues one tt by
-          (λ m stands. due_comes c.what_is_kept_is_seen.ensures.seen c.due_expiries_may_expire.ensures i.flow.now (kept_by i.store) expiry.connection expiry.numbers c.args.moment c.holds_its_state.ensures.kept.0 c.holds_its_state.ensures.kept.1
-          ready.work.flow_is kept (content_in (held old)) m sizes (c.holds_its_state.ensures.tied telling i.flow.now ready.work m stands))
           c.run_goes_on.ensures.step journal refl refl
           (λ m stands. subst (λ (r : Result ℕ EngineError). OnOk r (StepIsDone i.flow.now moment images i.store.lot m one old new)) made (c.expire-expired.ensures.step telling m stands).done)
           (subst (λ (u : EngineState). IsRunning moment images u opened first start time old left out) (sym c.self.view_is) run);

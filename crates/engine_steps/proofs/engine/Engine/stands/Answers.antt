@@ -1,16 +1,16 @@
-use Rattle.std.proofs.Common.{rules, ◌≡◌, sym, ◌∙◌, subst, List}
-use Rattle.std.specs.Prelude.{Some}
+use Rattle.std.proofs.Common.{rules, sym, ◌∙◌, subst, List, inl}
 use Rattle.disk_trait.specs.Files.{Files}
 use Rattle.flowfile_record.specs.NamedFile.{NamedFile}
 use Rattle.content_repo.specs.Claims.{content_in}
 use Rattle.store_core.specs.Store.{kept_by}
 use Rattle.run_law.specs.Puts.{Outgoing, outgoing}
 use Rattle.engine_session.specs.Done.{WorkIsDone}
-use Rattle.engine_steps.specs.Checkout.{session_in}
+use Rattle.engine_steps.specs.Checkout.{ChoiceStands}
 use Rattle.engine_steps.specs.Commit.{StandsOtherwise, StandsSo}
 use Rattle.engine_steps.specs.Engine.{AreTakeable, EngineState}
 use Rattle.engine_steps.specs.declared.error.EngineError.{EngineError}
 use Rattle.engine_steps.proofs.AsRead.{as_read, read_well}
+use Rattle.engine_steps.proofs.OwnChoice.{none_of}
 use Rattle.engine_steps.proofs.Reread.{counts_behind, of_others, reread_behind, still_ready}
 use Rattle.engine_queues.specs.Listing.{names_left}
 use Rattle.engine_steps.proofs.engine.Engine.stands.Goals as goal
@@ -30,11 +30,11 @@ stands_read_again-requires-clause-ready g c κs within =
     let same = as_read c.shows_to_stand.result e c.shows_to_stand.new.self c.shows_to_stand.ensures.reread.store c.shows_to_stand.ensures.reread.rest (λ disk. read_well c.in_ok-shows_to_stand.field-0 EngineError.Disk (sym c.in_ok-shows_to_stand.was ∙ disk)) in
     still_ready D.tells D.held D.moment D.images c.args.disk.now c.shows_to_stand.new.disk c.shows_to_stand.ensures.reread.disk e c.shows_to_stand.new.self same c.requires.ready
 
-pub stands_read_again-requires-clause-chosen : goal.stands_read_again-requires-clause-chosen
-stands_read_again-requires-clause-chosen g c κs within =
+pub stands_read_again-requires-clause-stands : goal.stands_read_again-requires-clause-stands
+stands_read_again-requires-clause-stands g c κs within =
     let e : EngineState = c.args.self.now in
     let same = as_read c.shows_to_stand.result e c.shows_to_stand.new.self c.shows_to_stand.ensures.reread.store c.shows_to_stand.ensures.reread.rest (λ disk. read_well c.in_ok-shows_to_stand.field-0 EngineError.Disk (sym c.in_ok-shows_to_stand.was ∙ disk)) in
-    subst (λ (x : EngineState). session_in x c.args.done.now.given.moment ≡ Some c.in-Some.choice) (sym same) (search rules)
+    subst (λ (x : EngineState). ChoiceStands x c.args.done.now.given.moment c.in-Some.choice) (sym same) (search rules)
 
 pub stands_read_again-requires-clause-left : goal.stands_read_again-requires-clause-left
 stands_read_again-requires-clause-left g c κs within telling =
@@ -92,3 +92,9 @@ returns-clause-cause g c =
     let first = c.shows_to_stand.ensures.cause in
     counts_behind c.stands_read_again.result (D.faults c.args.disk.now) (D.faults mid.disk) (D.faults new.disk) (g.I.Inbox.faults c.args.inbox.now) (g.I.Inbox.faults mid.inbox) (g.I.Inbox.faults new.inbox)
     (g.O.Outbox.faults c.args.outbox.now) (g.O.Outbox.faults mid.outbox) (g.O.Outbox.faults new.outbox) first.disk.never_falls first.inbox.never_falls first.outbox.never_falls c.stands_read_again.ensures.cause
+
+pub returns-in_default-clause-otherwise : goal.returns-in_default-clause-otherwise
+returns-in_default-clause-otherwise g c is = inl (c.in_ok-choice.ensures.none (none_of c.in_ok-choice.field-0 c.in_default.not-Some))
+
+pub stands_read_again-requires-clause-own : goal.stands_read_again-requires-clause-own
+stands_read_again-requires-clause-own g c κs within = (c.in_ok-choice.ensures.stands c.in-Some.choice c.in-Some.is).0

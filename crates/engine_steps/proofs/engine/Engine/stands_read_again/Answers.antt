@@ -9,15 +9,16 @@ returns-clause-so g c is =
     let job = c.in_ok-job.job in
     let next = c.in_ok-job.ensures.job in
     let same = c.is_work_on.ensures.0 (cc) in (
+      c.args.choice,
       job,
       next,
-      same_work e.flow (kept_by e.store).store (kept_by e.store) g.I.Inbox.tells (g.I.Inbox.left c.args.inbox.now) c.args.done.now job c.requires.done same next.may (none_given (kept_by e.store) c.args.done.now.given.moment next.choice job next.handed),
+      same_work e.flow (kept_by e.store).store (kept_by e.store) g.I.Inbox.tells (g.I.Inbox.left c.args.inbox.now) c.args.done.now job c.requires.done same next.may (none_given (kept_by e.store) c.args.done.now.given.moment c.args.choice job next.handed),
     )
 
 pub returns-clause-otherwise : goal.returns-clause-otherwise
 returns-clause-otherwise g c is =
     let not : c.is_work_on.result ≡ false = cc in
-    inr (c.in_ok-job.job, c.in_ok-job.ensures.job, λ same. let told : c.is_work_on.result ≡ true = c.is_work_on.ensures.1 same in true≢false (sym told ∙ not))
+    inr (c.args.choice, c.in_ok-job.job, c.requires.own, c.in_ok-job.ensures.job, λ same. let told : c.is_work_on.result ≡ true = c.is_work_on.ensures.1 same in true≢false (sym told ∙ not))
 
 pub returns-in_err-job-clause-refusal : goal.returns-in_err-job-clause-refusal
 returns-in_err-job-clause-refusal g c = record {

@@ -1,7 +1,8 @@
 use Rattle.std.proofs.Common.{◌≡◌, ◌∙◌, ap, rules, subst, sym, true}
-use Rattle.std.specs.Prelude.{Err}
+use Rattle.std.specs.Prelude.{Err, None}
 use Rattle.engine_steps.specs.Engine.{EngineState}
-use Rattle.engine_steps.specs.Running.{Stops}
+use Rattle.engine_steps.specs.Ready.{expiry_in}
+use Rattle.engine_steps.specs.Running.{Stops, undone_step}
 use Rattle.engine_steps.specs.declared.error.EngineError.{EngineError}
 use Rattle.engine_steps.proofs.engine.Engine.tend.Goals as goal
 
@@ -19,8 +20,8 @@ returns-in-Err-Disk-clause-run g c telling =
       idle = λ works. absurd cc;
       stopped = λ error is works opened first start time left out by run.
           let told : error ≡ EngineError.Disk = cc (is, c.in-Err-Disk.field-0-is) in
-          subst (λ (er : EngineError). Stops er tells held moment images (record e { failed = true }) opened first start c.args.moment new left out) (sym told)
-          (subst (λ (u : EngineState). Stops EngineError.Disk tells held moment images u opened first start c.args.moment new left out) (sym c.self-2.view_is)
+          subst (λ (er : EngineError). Stops er tells held moment images (record e { failed = true }) opened first start c.args.moment new left out (undone_step er (expiry_in c.args.self.now c.args.moment))) (sym told)
+          (subst (λ (u : EngineState). Stops EngineError.Disk tells held moment images u opened first start c.args.moment new left out None) (sym c.self-2.view_is)
           ((c.tend_first-tended.ensures.run telling).stopped EngineError.Disk (is ∙ ap Err told) opened first start time left out by run));
     }
 
