@@ -1,7 +1,8 @@
 #!/usr/bin/env python3
 """What parts of the store cost, measured by the program `bench_parts` with less and with more of what each works on.
 
-It prints how long the processor worked for both, the second as a ratio to the first, and the peaks of memory. How many
+It prints how long the processor worked for both, the second as a ratio to the first, and the peaks of memory. The
+program does each until it took a tenth of a second, and prints the mean, so that a coarse clock is enough. How many
 claims are live should change nothing; twice the entries, files or forgotten events should take twice the time. Then it
 prints what it costs to open stores of several sizes: for each number of live files the time and the peak by the entries
 of the log.
@@ -26,13 +27,13 @@ CRATE = ROOT / "crates" / "bench_parts"
 
 # The word, what it measures, the two counts, and the ratio of their times that is wanted.
 PARTS = [
-    ("appends", "1,000 contents appended, by live claims", 10, 60_000, 1),
+    ("appends", "1,000,000 contents appended, by live claims", 10, 60_000, 1),
     ("loads", "a log loaded, by its entries", 50_000, 100_000, 2),
     ("groups", "a log of groups loaded, by its entries", 50_000, 100_000, 2),
     ("reads", "a snapshot read, by its files", 100_000, 200_000, 2),
     ("writes", "a snapshot written, by its files", 100_000, 200_000, 2),
-    ("swaps_in", "a batch read, by its files", 100_000, 200_000, 2),
-    ("swaps_out", "a batch written, by its files", 100_000, 200_000, 2),
+    ("swaps_in", "a batch read, by its files", 10_000, 20_000, 2),
+    ("swaps_out", "a batch written, by its files", 10_000, 20_000, 2),
     ("ages", "all events but 10,000 forgotten, by the files of 10,000", 51, 101, 2),
 ]
 

@@ -2,7 +2,7 @@
 ghost use Rattle.std.specs.Prelude.{◌^◌, ◌<◌};
 
 use crate::disk::{BenchDisk, KeptFile};
-use crate::measured::{Measured, processor_time};
+use crate::measured::{Measured, ROUNDS_MAX, Rounds, Watch};
 use crate::records::{RECORDED, digest_of_contents, put_block, put_event};
 use anyhow::{Result, bail};
 use disk_trait::{FileKind, FileName};
@@ -18,21 +18,26 @@ pub fn measure<R: Files + Alloc<A = Global>>(
     rt: &R,
     alloc: Global,
     files: u32,
+    rounds: Rounds,
 ) -> Result<Measured> {
     if files < 2 {
         bail!("an aging forgets a file of two at least");
     }
     let line = u64::from(files - 1) * EVENTS_PER_FILE;
     let mut disk = BenchDisk::new(Vec::new(alloc), files_of_events(alloc, files)?);
-    let mut events = Events::load(alloc, &mut disk, 0, line + EVENTS_PER_FILE)?;
-    let before = recorded(&events);
-    let start = processor_time(rt);
-    events.age(&mut disk, line)?;
-    let took = processor_time(rt).saturating_sub(start);
-    Ok(Measured {
-        count: before.saturating_sub(recorded(&events)),
-        took,
-    })
+    let mut watch = Watch::start(rt, rounds);
+    for _ in 0..ROUNDS_MAX {
+        watch.pause(rt);
+        let mut events = Events::load(alloc, &mut disk, line + EVENTS_PER_FILE, 0)?;
+        let before = recorded(&events);
+        watch.go_on(rt);
+        events.age(&mut disk, line)?;
+        if let Some(took) = watch.round(rt) {
+            let count = before.saturating_sub(recorded(&events));
+            return Ok(Measured { count, took });
+        }
+    }
+    bail!("the clock stands still")
 }
 
 // How many events there are: each is of one kind.

@@ -3,7 +3,7 @@ ghost use Rattle.std.specs.Prelude.{◌≡◌, ◌+◌, ◌<◌, ◌≤◌, leng
 ghost use Rattle.content_repo.specs.Slots.{held_in, IsNamed};
 
 use crate::disk::BenchDisk;
-use crate::measured::{Measured, processor_time};
+use crate::measured::{Measured, ROUNDS_MAX, Rounds, Watch};
 use anyhow::{Result, bail};
 use content_repo::{Content, ContentError, OPEN_SIZE, SLOTS};
 use flowfile_record::{ContentRef, DIGEST_SIZE};
@@ -12,26 +12,35 @@ use std::alloc::{Alloc, AllocError, Global};
 use std::fs::Files;
 
 /// How many contents are appended.
-const APPENDS: u32 = 1_000;
+const APPENDS: u32 = 1_000_000;
 
-/// The size of a content, in bytes.
-const CONTENT_SIZE: usize = 100;
+/// The size of a content, in bytes. All of them fit into the last claim, so that no other becomes live.
+const CONTENT_SIZE: usize = 1;
 
 /// The time that the appends take where so many claims are live.
-pub fn measure<R: Files + Alloc<A = Global>>(rt: &R, alloc: Global, live: u32) -> Result<Measured> {
+pub fn measure<R: Files + Alloc<A = Global>>(
+    rt: &R,
+    alloc: Global,
+    live: u32,
+    rounds: Rounds,
+) -> Result<Measured> {
     if live == 0 || live > SLOTS {
         bail!("there are 1 to {SLOTS} claims");
     }
     let references = references(alloc, live)?;
     let mut disk = BenchDisk::new(sizes(alloc, references.as_slice())?, Vec::new(alloc));
-    let mut content = Content::load(alloc, &mut disk, references.as_slice())?;
-    let start = processor_time(rt);
-    append_all(&mut content, &mut disk)?;
-    let took = processor_time(rt).saturating_sub(start);
-    Ok(Measured {
-        count: u64::from(APPENDS),
-        took,
-    })
+    let mut watch = Watch::start(rt, rounds);
+    for _ in 0..ROUNDS_MAX {
+        watch.pause(rt);
+        let mut content = Content::load(alloc, &mut disk, references.as_slice())?;
+        watch.go_on(rt);
+        append_all(&mut content, &mut disk)?;
+        if let Some(took) = watch.round(rt) {
+            let count = u64::from(APPENDS);
+            return Ok(Measured { count, took });
+        }
+    }
+    bail!("the clock stands still")
 }
 
 // One content in each claim, which fills it but in the last one.

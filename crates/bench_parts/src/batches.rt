@@ -1,8 +1,8 @@
 //! Batches of files: one is read, and one is written.
 use crate::disk::BenchDisk;
-use crate::measured::{Measured, processor_time};
+use crate::measured::{Measured, ROUNDS_MAX, Rounds, Watch};
 use crate::records::{put_end, put_files};
-use anyhow::Result;
+use anyhow::{Result, bail};
 use disk_trait::{FileKind, FileName};
 use std::alloc::{Alloc, Global};
 use std::fs::Files;
@@ -18,15 +18,18 @@ pub fn measure_reading<R: Files + Alloc<A = Global>>(
     rt: &R,
     alloc: Global,
     files: u32,
+    rounds: Rounds,
 ) -> Result<Measured> {
     let mut disk = BenchDisk::of_file(alloc, BATCH, batch(alloc, files)?)?;
-    let start = processor_time(rt);
-    let read = read_batch(alloc, &mut disk, BATCH.number)?;
-    let took = processor_time(rt).saturating_sub(start);
-    Ok(Measured {
-        count: read.len() as u64,
-        took,
-    })
+    let mut watch = Watch::start(rt, rounds);
+    for _ in 0..ROUNDS_MAX {
+        let read = read_batch(alloc, &mut disk, BATCH.number)?;
+        if let Some(took) = watch.round(rt) {
+            let count = read.len() as u64;
+            return Ok(Measured { count, took });
+        }
+    }
+    bail!("the clock stands still")
 }
 
 /// The time that it takes to encode and write one, which is kept nowhere.
@@ -34,17 +37,20 @@ pub fn measure_writing<R: Files + Alloc<A = Global>>(
     rt: &R,
     alloc: Global,
     files: u32,
+    rounds: Rounds,
 ) -> Result<Measured> {
     let mut disk = BenchDisk::of_file(alloc, BATCH, batch(alloc, files)?)?;
     let read = read_batch(alloc, &mut disk, BATCH.number)?;
-    let start = processor_time(rt);
-    let blocks = FileBlocks::new(alloc, read.as_slice())?;
-    write_batch(&mut disk, BATCH.number, &blocks)?;
-    let took = processor_time(rt).saturating_sub(start);
-    Ok(Measured {
-        count: read.len() as u64,
-        took,
-    })
+    let count = read.len() as u64;
+    let mut watch = Watch::start(rt, rounds);
+    for _ in 0..ROUNDS_MAX {
+        let blocks = FileBlocks::new(alloc, read.as_slice())?;
+        write_batch(&mut disk, BATCH.number, &blocks)?;
+        if let Some(took) = watch.round(rt) {
+            return Ok(Measured { count, took });
+        }
+    }
+    bail!("the clock stands still")
 }
 
 // A batch of so many files.

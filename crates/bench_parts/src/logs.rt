@@ -1,8 +1,8 @@
 //! Loading of a log.
 use crate::disk::BenchDisk;
-use crate::measured::{Measured, processor_time};
+use crate::measured::{Measured, ROUNDS_MAX, Rounds, Watch};
 use crate::records::{digest_of_contents, put_block, put_file, put_numbers};
-use anyhow::Result;
+use anyhow::{Result, bail};
 use disk_trait::{FileKind, FileName};
 use flowfile_record::DIGEST_SIZE;
 use flowfile_wal::Log;
@@ -29,8 +29,9 @@ pub fn measure<R: Files + Alloc<A = Global>>(
     rt: &R,
     alloc: Global,
     entries: u32,
+    rounds: Rounds,
 ) -> Result<Measured> {
-    measure_loading(rt, alloc, log(alloc, 1, entries)?)
+    measure_loading(rt, alloc, log(alloc, 1, entries)?, rounds)
 }
 
 /// The time that it takes to load a log of so many entries in groups.
@@ -38,23 +39,27 @@ pub fn measure_groups<R: Files + Alloc<A = Global>>(
     rt: &R,
     alloc: Global,
     entries: u32,
+    rounds: Rounds,
 ) -> Result<Measured> {
-    measure_loading(rt, alloc, log_of_groups(alloc, entries)?)
+    measure_loading(rt, alloc, log_of_groups(alloc, entries)?, rounds)
 }
 
 fn measure_loading<R: Files + Alloc<A = Global>>(
     rt: &R,
     alloc: Global,
     log: Vec<u8>,
+    rounds: Rounds,
 ) -> Result<Measured> {
     let mut disk = BenchDisk::of_file(alloc, LOG, log)?;
-    let start = processor_time(rt);
-    let (_log, read) = Log::load(alloc, &mut disk)?;
-    let took = processor_time(rt).saturating_sub(start);
-    Ok(Measured {
-        count: read.len() as u64,
-        took,
-    })
+    let mut watch = Watch::start(rt, rounds);
+    for _ in 0..ROUNDS_MAX {
+        let (_log, read) = Log::load(alloc, &mut disk)?;
+        if let Some(took) = watch.round(rt) {
+            let count = read.len() as u64;
+            return Ok(Measured { count, took });
+        }
+    }
+    bail!("the clock stands still")
 }
 
 /// A log of so many sessions. Each takes the file of the greatest number, which is this one at first, and places one

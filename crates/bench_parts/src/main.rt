@@ -12,7 +12,7 @@ mod snapshots;
 mod stores;
 
 use anyhow::{Result, bail};
-use measured::Measured;
+use measured::{Measured, Rounds};
 use std::alloc::{Alloc, AllocError, Global};
 use std::env;
 use std::fs::Files;
@@ -42,7 +42,7 @@ fn main(rt: HostRuntime) -> Result<()> {
     };
     if word.as_str() == "check" {
         for part in PARTS {
-            let measured = measure(&rt, alloc, part, FEW, FEW)?;
+            let measured = measure(&rt, alloc, part, FEW, FEW, Rounds::One)?;
             println!(rt; "{part} {FEW}: {}", measured.count)?;
         }
         return Ok(());
@@ -53,7 +53,7 @@ fn main(rt: HostRuntime) -> Result<()> {
         Some(count) => read_count(part, Some(count))?,
         None => 0,
     };
-    let measured = measure(&rt, alloc, part, much, live)?;
+    let measured = measure(&rt, alloc, part, much, live, Rounds::Enough)?;
     println!(rt; "{part} {much}: {}", told(alloc, measured)?)?;
     Ok(())
 }
@@ -70,17 +70,18 @@ fn measure<R: Files + Alloc<A = Global>>(
     part: &str,
     much: u32,
     live: u32,
+    rounds: Rounds,
 ) -> Result<Measured> {
     match part {
-        "appends" => appends::measure(rt, alloc, much),
-        "loads" => logs::measure(rt, alloc, much),
-        "groups" => logs::measure_groups(rt, alloc, much),
-        "opens" => stores::measure(rt, alloc, much, live),
-        "reads" => snapshots::measure_reading(rt, alloc, much),
-        "writes" => snapshots::measure_writing(rt, alloc, much),
-        "swaps_in" => batches::measure_reading(rt, alloc, much),
-        "swaps_out" => batches::measure_writing(rt, alloc, much),
-        "ages" => agings::measure(rt, alloc, much),
+        "appends" => appends::measure(rt, alloc, much, rounds),
+        "loads" => logs::measure(rt, alloc, much, rounds),
+        "groups" => logs::measure_groups(rt, alloc, much, rounds),
+        "opens" => stores::measure(rt, alloc, much, live, rounds),
+        "reads" => snapshots::measure_reading(rt, alloc, much, rounds),
+        "writes" => snapshots::measure_writing(rt, alloc, much, rounds),
+        "swaps_in" => batches::measure_reading(rt, alloc, much, rounds),
+        "swaps_out" => batches::measure_writing(rt, alloc, much, rounds),
+        "ages" => agings::measure(rt, alloc, much, rounds),
         _ => bail!("`{part}` measures nothing"),
     }
 }

@@ -4,7 +4,7 @@ ghost use Rattle.flowfile_record.specs.Stored.{kept_of};
 ghost use Rattle.checkpoint_store.specs.Consistent.{IsConsistent};
 
 use crate::disk::BenchDisk;
-use crate::measured::{Measured, processor_time};
+use crate::measured::{Measured, ROUNDS_MAX, Rounds, Watch};
 use crate::records::{put_block, put_end, put_files, put_numbers};
 use anyhow::{Result, bail};
 use checkpoint_store::{read, write};
@@ -24,15 +24,18 @@ pub fn measure_reading<R: Files + Alloc<A = Global>>(
     rt: &R,
     alloc: Global,
     files: u32,
+    rounds: Rounds,
 ) -> Result<Measured> {
     let mut disk = BenchDisk::of_file(alloc, SNAPSHOT, snapshot(alloc, files)?)?;
-    let start = processor_time(rt);
-    let found = read(alloc, &mut disk, SNAPSHOT.number, FORMAT_VERSION)?;
-    let took = processor_time(rt).saturating_sub(start);
-    Ok(Measured {
-        count: found.stored.files.len(),
-        took,
-    })
+    let mut watch = Watch::start(rt, rounds);
+    for _ in 0..ROUNDS_MAX {
+        let found = read(alloc, &mut disk, SNAPSHOT.number, FORMAT_VERSION)?;
+        if let Some(took) = watch.round(rt) {
+            let count = found.stored.files.len();
+            return Ok(Measured { count, took });
+        }
+    }
+    bail!("the clock stands still")
 }
 
 /// The time that it takes to write one, which is kept nowhere.
@@ -40,19 +43,22 @@ pub fn measure_writing<R: Files + Alloc<A = Global>>(
     rt: &R,
     alloc: Global,
     files: u32,
+    rounds: Rounds,
 ) -> Result<Measured> {
     let state = state(alloc, files)?;
     if !state.batches.is_empty() {
         bail!("a snapshot without batches has some");
     }
     let mut disk = BenchDisk::of_file(alloc, SNAPSHOT, Vec::new(alloc))?;
-    let start = processor_time(rt);
-    write(alloc, &mut disk, SNAPSHOT.number, FORMAT_VERSION, &state)?;
-    let took = processor_time(rt).saturating_sub(start);
-    Ok(Measured {
-        count: state.files.len(),
-        took,
-    })
+    let count = state.files.len();
+    let mut watch = Watch::start(rt, rounds);
+    for _ in 0..ROUNDS_MAX {
+        write(alloc, &mut disk, SNAPSHOT.number, FORMAT_VERSION, &state)?;
+        if let Some(took) = watch.round(rt) {
+            return Ok(Measured { count, took });
+        }
+    }
+    bail!("the clock stands still")
 }
 
 // What a snapshot of so many files says.

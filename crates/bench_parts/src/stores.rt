@@ -3,10 +3,10 @@ ghost use Rattle.std.specs.Prelude.{◌≡◌, [], ◌∷◌, IfOk};
 
 use crate::disk::{BenchDisk, KeptFile};
 use crate::logs::{LOG, log};
-use crate::measured::{Measured, processor_time};
+use crate::measured::{Measured, ROUNDS_MAX, Rounds, Watch};
 use crate::records::claims;
 use crate::snapshots::{SNAPSHOT, snapshot};
-use anyhow::Result;
+use anyhow::{Result, bail};
 use flowfile_record::{DIGEST_SIZE, Text, TextList};
 use std::alloc::{Alloc, AllocError, Global};
 use std::fs::Files;
@@ -18,6 +18,7 @@ pub fn measure<R: Files + Alloc<A = Global>>(
     alloc: Global,
     sessions: u32,
     files: u32,
+    rounds: Rounds,
 ) -> Result<Measured> {
     let log = KeptFile {
         name: LOG,
@@ -30,13 +31,15 @@ pub fn measure<R: Files + Alloc<A = Global>>(
     let claims = claims(alloc, files.saturating_add(sessions))?;
     let mut disk = BenchDisk::new(claims, vec![in alloc; log, snapshot]?);
     let connections = connections(alloc)?;
-    let start = processor_time(rt);
-    let store = open(alloc, &mut disk, &connections)?;
-    let took = processor_time(rt).saturating_sub(start);
-    Ok(Measured {
-        count: store.state().files.len(),
-        took,
-    })
+    let mut watch = Watch::start(rt, rounds);
+    for _ in 0..ROUNDS_MAX {
+        let store = open(alloc, &mut disk, &connections)?;
+        if let Some(took) = watch.round(rt) {
+            let count = store.state().files.len();
+            return Ok(Measured { count, took });
+        }
+    }
+    bail!("the clock stands still")
 }
 
 // Opens the store of the flow that the snapshot names, which has this one connection and no processors.

@@ -40,6 +40,14 @@ pub fn put_digits(out: &mut String, alloc: Global, bytes: &[u8]) -> Result<(), A
     out.push_str(hex::encode(alloc, bytes)?.as_str())
 }
 
+/// The bytes of a file.
+pub fn contents_of(alloc: Global, disk: &mut MemoryDisk, file: FileName) -> Result<Vec<u8>> {
+    let size = disk.size(file)?;
+    let mut bytes = vec![in alloc; 0u8; size as usize]?;
+    disk.read(file, 0, bytes.as_mut_slice())?;
+    Ok(bytes)
+}
+
 /// The bytes of a file, in hexadecimal.
 pub fn put_bytes(
     out: &mut String,
@@ -47,9 +55,7 @@ pub fn put_bytes(
     disk: &mut MemoryDisk,
     file: FileName,
 ) -> Result<()> {
-    let size = disk.size(file)?;
-    let mut bytes = vec![in alloc; 0u8; size as usize]?;
-    disk.read(file, 0, bytes.as_mut_slice())?;
+    let bytes = contents_of(alloc, disk, file)?;
     Ok(put_digits(out, alloc, bytes.as_slice())?)
 }
 

@@ -1,8 +1,9 @@
 //! Cases of a log's bytes: how it is loaded, and what mending leaves of it.
 use crate::disks::{bytes, failing_calls, put_bytes, put_damage};
 use anyhow::Result;
+use block_file::BlockError;
 use disk_trait::{Disk, FileKind, FileName, MemoryDisk};
-use flowfile_wal::{Log, LogEntries, LogError};
+use flowfile_wal::{LoadError, Log, LogEntries};
 use serde_json::Value;
 use std::alloc::Global;
 
@@ -23,7 +24,7 @@ pub fn put_loads(out: &mut String, alloc: Global, value: &Value, case: &Value) -
     let mut disk = disk_of(alloc, value, case)?;
     match load_and_mend(alloc, &mut disk) {
         Ok((number, entries)) => put_mended(out, alloc, &mut disk, number, &entries)?,
-        Err(LogError::Damaged(damage)) => put_damage(out, alloc, &damage)?,
+        Err(LoadError::Block(BlockError::Damaged(damage))) => put_damage(out, alloc, &damage)?,
         Err(error) => write!(out, "{error}")?,
     }
     Ok(())
@@ -41,7 +42,7 @@ fn disk_of(alloc: Global, value: &Value, case: &Value) -> Result<MemoryDisk> {
 fn load_and_mend<D: Disk>(
     alloc: Global,
     disk: &mut D,
-) -> Result<(Option<u64>, LogEntries), LogError> {
+) -> Result<(Option<u64>, LogEntries), LoadError> {
     disk.sync()?;
     let (mut log, entries) = Log::load(alloc, disk)?;
     if log.number().is_some() {

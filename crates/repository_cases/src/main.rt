@@ -5,9 +5,11 @@
 mod batches;
 mod contents;
 mod disks;
+mod events;
 mod json;
 mod loads;
 mod logs;
+mod made;
 mod snapshots;
 
 use anyhow::{Result, bail};
@@ -37,6 +39,12 @@ fn put_answer(out: &mut String, alloc: Global, case: &Value) -> Result<()> {
     }
     if let Some(bytes) = case.get("batch") {
         return batches::put_batch(out, alloc, bytes, case);
+    }
+    if let Some(count) = case.get("made_batch") {
+        return batches::put_made(out, alloc, count);
+    }
+    if let Some(files) = case.get("events") {
+        return events::put_aged(out, alloc, files, case);
     }
     if let Some(batch) = case.get("log") {
         return logs::put_log(out, alloc, batch, case);

@@ -2,7 +2,8 @@
 use crate::disks::{bytes, failing_calls, put_damage};
 use crate::json::number;
 use anyhow::Result;
-use checkpoint_store::{CheckError, Snapshot, read};
+use block_file::BlockError;
+use checkpoint_store::{Snapshot, read};
 use disk_trait::{Disk, FileKind, FileName, MemoryDisk};
 use record_codec::FORMAT_VERSION;
 use serde_json::Value;
@@ -19,7 +20,7 @@ pub fn put_snapshot(out: &mut String, alloc: Global, value: &Value, case: &Value
     let version = version_of(case)?;
     match read(alloc, &mut disk, SNAPSHOT.number, version) {
         Ok(found) => put_counts(out, &found)?,
-        Err(CheckError::Damaged(damage)) => put_damage(out, alloc, &damage)?,
+        Err(BlockError::Damaged(damage)) => put_damage(out, alloc, &damage)?,
         Err(error) => write!(out, "{error}")?,
     }
     Ok(())
