@@ -39,4 +39,8 @@ pub enum Change {
         batch: u64,
         files: FileList,
     },
+    /// The events up to this number are forgotten, with the kin that they name.
+    Age {
+        line: u64,
+    },
 }

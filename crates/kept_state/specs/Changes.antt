@@ -56,6 +56,7 @@ entry_of_change k (change.Expire connection moment numbers events) =
 entry_of_change k (change.SwapOut connection batch numbers) =
     SwapOut (record { connection = connection; batch = batch; numbers = numbers })
 entry_of_change k (change.SwapIn connection batch files) = SwapIn connection batch
+entry_of_change k (change.Age line) = Age line
 
 -- the files that an entry places
 abbrev pub placed_in : LogEntry → List ActiveFile
