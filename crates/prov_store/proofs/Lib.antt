@@ -12,5 +12,6 @@ pub mod Loaded
 pub mod Loads
 pub mod Parting
 pub mod Scans
+pub mod Standing
 pub mod Wholes
 pub mod Writing

@@ -1,12 +1,14 @@
 -- Files of events that are read as far as some file.
-use Rattle.std.specs.Prelude.{◌≡◌, ℕ, ◌+◌, ◌-◌, ◌*◌, ◌/◌, ◌<◌, ◌≤◌, Bool, IsTrue, min, List, [], length, drop, map, filter, All, Contains, Ok, nat_lt}
+use Rattle.std.specs.Prelude.{◌≡◌, ◌⊎◌, ℕ, ◌+◌, ◌-◌, ◌*◌, ◌/◌, ◌<◌, ◌≤◌, Bool, IsTrue, min, List, [], length, drop, map, filter, All, Contains, Ok, nat_lt}
 use Rattle.std.specs.List.{range_with_len}
 use Rattle.std.specs.List.Sorted.{IsStrictlyIncreasing}
 use Rattle.disk_trait.specs.Files.{Files}
 use Rattle.flowfile_record.specs.Encoding.{IsNumber}
 use Rattle.flowfile_record.specs.declared.event.Event.{Event}
-use Rattle.prov_store.specs.Events.{events_file, events_from, events_of_files, blocks_size, covered_bytes, covered_size}
-use Rattle.prov_store.specs.State.{EventsState, counts_of, uncovered, AreCounted, AreLonger, IsEventLine}
+use Rattle.prov_store.specs.Events.{events_file, events_from, events_in, events_of_files, blocks_size, covered_bytes, covered_size}
+use Rattle.prov_store.specs.Reading.{HasWhole}
+use Rattle.record_codec.specs.Block.{reading_of}
+use Rattle.prov_store.specs.State.{EventsState, counts_of, next_file, uncovered, AreCounted, AreLonger, IsEventLine}
 use Rattle.flowfile_record.specs.declared.limits.TheConstants.{EVENTS_PER_FILE}
 use Rattle.prov_store.specs.declared.events.Stale.{Stale}
 use Rattle.prov_store.specs.declared.load.Loading.{Loading}
@@ -15,6 +17,28 @@ use Rattle.prov_store.specs.declared.read.Cursor.{Cursor}
 -- the bytes of the file from a place on
 abbrev pub bytes_there : Files → Cursor → List ℕ
 bytes_there files cursor = drop cursor.at (files cursor.file)
+
+-- fewer events than so many stand from a place on, and a whole block behind them
+pub record HasWholeBehind (files : Files) (start : Cursor) (many : ℕ) : Type 0 where
+  pub count : ℕ
+  pub fewer : count < many
+  pub events : List Event
+  pub says : events_from count start.file start.at start.number (bytes_there files start) ≡ Ok events
+  pub whole : HasWhole (reading_of (drop (blocks_size count (bytes_there files start)) (bytes_there files start)))
+
+-- Loading events past a line may want memory: those up to some number stand in the files, and then a whole block where
+-- the next one is wanted. Or they end a file that is longer than what is covered. Or no more are wanted.
+pub record LoadWantsMemory (files : Files) (line last : ℕ) : Type 0 where
+  pub reached : ℕ
+  pub from : line ≤ reached
+  pub to : reached ≤ last
+  pub events : List Event
+  pub says : events_in files line reached ≡ Ok events
+  pub wants : HasWhole (reading_of
+      (drop (covered_size line reached (next_file reached) files) (files (events_file (next_file reached)))))
+      ⊎ ((k : ℕ) × ((line ≤ EVENTS_PER_FILE * k) × ((reached ≡ EVENTS_PER_FILE * k + EVENTS_PER_FILE)
+      × (covered_size line reached k files < length (files (events_file k))))))
+      ⊎ (reached ≡ last)
 
 -- so many events were read from a place on, up to this offset
 pub record AreReadEvents (tells : Bool) (files : Files) (start : Cursor) (many : ℕ) (events : List Event)

@@ -1,10 +1,14 @@
 -- Some of the events of files are found.
-use Rattle.std.specs.Prelude.{◌≡◌, ℕ, ◌+◌, ◌-◌, ◌<◌, ◌≤◌, ◌^◌, ◌%◌, ◌&&◌, nat_le, min, max, Bool, IsTrue, List, ◌++◌, map, Ok}
+use Rattle.std.specs.Prelude.{◌≡◌, ℕ, ◌+◌, ◌-◌, ◌/◌, ◌<◌, ◌≤◌, ◌^◌, ◌%◌, ◌&&◌, nat_le, min, max, Bool, IsTrue, List, ◌++◌, drop, map, Ok}
 use Rattle.std.specs.List.{range_with_len}
 use Rattle.disk_trait.specs.Files.{Files}
 use Rattle.flowfile_record.specs.declared.event.Event.{Event}
 use Rattle.flowfile_record.specs.declared.limits.TheConstants.{EVENTS_PER_FILE}
-use Rattle.prov_store.specs.Events.{events_from, blocks_size}
+use Rattle.flowfile_record.specs.Reading.{whole}
+use Rattle.prov_event.specs.EventReading.{event_at}
+use Rattle.prov_event.specs.declared.TheConstants.{EVENT_KIND}
+use Rattle.record_codec.specs.Block.{Whole, reading_of}
+use Rattle.prov_store.specs.Events.{events_file, events_from, blocks_size}
 use Rattle.prov_store.specs.Loading.{bytes_there}
 use Rattle.prov_store.specs.declared.read.Cursor.{Cursor}
 use Rattle.prov_store.specs.declared.scan.Scan.{Scan}
@@ -34,6 +38,13 @@ pub record SameScan (old new : Scan) : Type 0 where
   pub end : new.end ≡ old.end
   pub first : new.first ≡ old.first
   pub last : new.last ≡ old.last
+
+-- some block of its file, with the right digest, is the event's
+pub record StandsInItsFile (files : Files) (e : Event) : Type 0 where
+  pub at : ℕ
+  pub payload : List ℕ
+  pub block : reading_of (drop at (files (events_file ((e.number - 1) / EVENTS_PER_FILE)))) ≡ Whole EVENT_KIND payload
+  pub says : whole event_at payload ≡ Ok e
 
 -- so many events were read from a place on
 pub record HasRead (tells : Bool) (files : Files) (start : Cursor) (many : ℕ) (old new : List Event) : Type 0 where

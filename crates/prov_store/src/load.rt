@@ -4,10 +4,9 @@ ghost use Rattle.disk_trait.specs.Images.{Stays};
 ghost use Rattle.disk_trait.specs.Faults.{CountsFaults};
 ghost use Rattle.disk_trait.specs.declared.damage.Damage.{Damage as TheDamage};
 ghost use Rattle.flowfile_record.specs.Encoding.{IsNumber};
-ghost use Rattle.prov_store.specs.Events.{events_file, events_from, events_of_files, events_in};
-ghost use Rattle.prov_store.specs.Loading.{bytes_there, files_before, files_later, loaded_state, FilesAreRead, HaveCounted, MayReadFile};
-ghost use Rattle.prov_store.specs.Reading.{HasWhole, IsThere};
-ghost use Rattle.record_codec.specs.Block.{reading_of};
+ghost use Rattle.prov_store.specs.Events.{events_from, events_of_files, events_in};
+ghost use Rattle.prov_store.specs.Loading.{bytes_there, files_before, files_later, loaded_state, FilesAreRead, HasWholeBehind, HaveCounted, LoadWantsMemory, MayReadFile};
+ghost use Rattle.prov_store.specs.Reading.{IsThere};
 ghost use Rattle.prov_store.specs.State.{AreLonger, HasStale, IsEventLine, IsFoundOn};
 
 use crate::counts::count;
@@ -46,9 +45,9 @@ impl Events {
         // The first damage by the events' numbers is told, where there is one.
         ensures damaged { (damage : TheDamage) → IsErrOf result (BlockError.Damaged damage) → IsTrue D.tells
             → events_in (D.held disk.old) line end ≡ Err damage }
-        // Memory is taken for whole blocks alone, so that where the first one is damaged that is told.
-        ensures memory { IsErrOf result BlockError.Memory → IsTrue D.tells → line < end
-            → HasWhole (reading_of (D.held disk.old (events_file (line / EVENTS_PER_FILE)))) }
+        // What is damaged before the block, or the list, that memory is wanted for is told.
+        ensures memory { IsErrOf result BlockError.Memory → IsTrue D.tells
+            → LoadWantsMemory (D.held disk.old) line end }
         ensures stays { Stays D.held D.moment D.images disk.old disk.new }
         ensures cause { CountsFaults (D.faults disk.old) (D.faults disk.new) (IsErrOf result BlockError.Disk) }
     {
@@ -89,8 +88,8 @@ impl Loading {
         ensures damaged { (damage : TheDamage) → IsErrOf result (BlockError.Damaged damage) → IsTrue D.tells
             → (more : ℕ)
             → events_of_files (number + suc more) self.old.line self.old.end 0 (D.held disk.old) ≡ Err damage }
-        ensures memory { IsErrOf result BlockError.Memory → IsTrue D.tells → self.old.line < self.old.end
-            → HasWhole (reading_of (D.held disk.old (events_file (self.old.line / EVENTS_PER_FILE)))) }
+        ensures memory { IsErrOf result BlockError.Memory → IsTrue D.tells
+            → LoadWantsMemory (D.held disk.old) self.old.line self.old.end }
         ensures stays { Stays D.held D.moment D.images disk.old disk.new }
         ensures cause { CountsFaults (D.faults disk.old) (D.faults disk.new) (IsErrOf result BlockError.Disk) }
     {
@@ -183,7 +182,7 @@ fn count_events<D: Disk>(
     ensures damaged { (damage : TheDamage) → IsErrOf result (BlockError.Damaged damage) → IsTrue D.tells
         → events_from many start.file start.at start.number (bytes_there (D.held disk.old) start) ≡ Err damage }
     ensures memory { IsErrOf result BlockError.Memory → IsTrue D.tells
-        → HasWhole (reading_of (bytes_there (D.held disk.old) start)) }
+        → HasWholeBehind (D.held disk.old) start many }
     ensures stays { Stays D.held D.moment D.images disk.old disk.new }
     ensures cause { CountsFaults (D.faults disk.old) (D.faults disk.new) (IsErrOf result BlockError.Disk) }
 {

@@ -1,5 +1,5 @@
 //! Some events are read back.
-ghost use Rattle.std.specs.Prelude.{◌≡◌, ◌+◌, ◌-◌, ◌/◌, ◌<◌, ◌≤◌, ◌^◌, ◌&&◌, ◌++◌, nat_le, max, min, map, List, [], filter, IsTrue, IfOk, OnOk, IsErr, IsErrOf, Ok, Err};
+ghost use Rattle.std.specs.Prelude.{◌≡◌, ◌+◌, ◌-◌, ◌/◌, ◌<◌, ◌≤◌, ◌^◌, ◌&&◌, ◌++◌, nat_le, max, min, map, All, List, [], filter, IsTrue, IfOk, OnOk, IsErr, IsErrOf, Ok, Err};
 ghost use Rattle.disk_trait.specs.Images.{Stays};
 ghost use Rattle.disk_trait.specs.Faults.{CountsFaults};
 ghost use Rattle.disk_trait.specs.declared.damage.Damage.{Damage as TheDamage};
@@ -7,7 +7,7 @@ ghost use Rattle.flowfile_record.specs.declared.event.Event.{Event as TheEvent};
 ghost use Rattle.prov_store.specs.Events.{events_from, events_of_file, events_in, first_event};
 ghost use Rattle.prov_store.specs.Loading.{bytes_there};
 ghost use Rattle.prov_store.specs.Reading.{IsThere};
-ghost use Rattle.prov_store.specs.Scanning.{is_within, HasBetween, HasRead, HasSkipped, MayScan, SameScan, numbers_between};
+ghost use Rattle.prov_store.specs.Scanning.{is_within, HasBetween, HasRead, HasSkipped, MayScan, SameScan, StandsInItsFile, numbers_between};
 
 use crate::Events;
 use crate::events::file_named;
@@ -45,6 +45,9 @@ impl Events {
         // Whatever the disk is, each event between the two is there, once and in its place.
         ensures numbered { IfOk result (λ found. map (λ e. e.number) found.items
             ≡ numbers_between (max from (self.now.line + 1)) (min to self.now.end)) }
+        // Whatever is damaged, each event that is found is that of a whole block of its file.
+        ensures stand { IfOk result (λ found. IsTrue D.tells
+            → All (StandsInItsFile (D.held disk.old)) found.items) }
         // Where no event lies between the two, nothing is asked of the disk, and no memory is taken.
         ensures refused { IsErr result → HasBetween from to self.now.line self.now.end }
         ensures none { (HasBetween from to self.now.line self.now.end → ⊥) → disk.new ≡ disk.old }
@@ -79,6 +82,8 @@ impl Scan {
         ensures found { OnOk result (IsTrue D.tells → (events : List TheEvent)
             → events_in (D.held disk.old) self.old.line self.old.end ≡ Ok events
             → self.new.found.items ≡ filter (is_within self.old.first self.old.last) events) }
+        ensures stand { OnOk result (IsTrue D.tells
+            → All (StandsInItsFile (D.held disk.old)) self.new.found.items) }
         ensures undamaged { (damage : TheDamage) → IsErrOf result (BlockError.Damaged damage) → IsTrue D.tells
             → (events : List TheEvent) → events_in (D.held disk.old) self.old.line self.old.end ≡ Ok events → ⊥ }
         ensures stays { Stays D.held D.moment D.images disk.old disk.new }
@@ -109,6 +114,8 @@ impl Scan {
             ≡ map (λ e. e.number) self.old.found.items
             ++ numbers_between (max self.old.first (first_event number))
             (min self.old.last (first_event (number + 1) - 1))) }
+        ensures stand { OnOk result (IsTrue D.tells → All (StandsInItsFile (D.held disk.old)) self.old.found.items
+            → All (StandsInItsFile (D.held disk.old)) self.new.found.items) }
         ensures same { SameScan self.old self.new }
         ensures undamaged { (damage : TheDamage) → IsErrOf result (BlockError.Damaged damage) → IsTrue D.tells
             → (here : List TheEvent)

@@ -6,8 +6,12 @@ use Rattle.disk_trait.specs.declared.file_name.FileName.{FileName}
 use Rattle.flowfile_record.specs.declared.flow_file.FlowFile.{FlowFile}
 use Rattle.swap_store.specs.Batch.{batch_bytes, IsSwapBatch}
 use Rattle.swap_store.specs.Reading.{Swapped, files_from, swapped_files}
-use Rattle.swap_store.specs.Taken.{ComesTo, HasReadBatch}
+use Rattle.swap_store.specs.Taken.{HasReadBatch}
 use Rattle.swap_store.proofs.ReadBack.{read_back}
+
+-- Reading these bytes comes to this offset with these files: one block each stands before it.
+pub record ComesTo (file : FileName) (bytes : List ℕ) (at : ℕ) (files : List FlowFile) : Type 0 where
+  pub same : (most : ℕ) → files_from (length files + most) file 0 [] bytes ≡ files_from most file at files (drop at bytes)
 
 module _ (file : FileName) (bytes : List ℕ) where
   pub comes_first : (files : List FlowFile) → files ≡ [] → ComesTo file bytes 0 files

@@ -1,3 +1,4 @@
 pub mod Batch
+pub mod Memory
 pub mod Reading
 pub mod Taken

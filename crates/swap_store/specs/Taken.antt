@@ -1,11 +1,11 @@
 -- A swap file that is read as far as some block.
-use Rattle.std.specs.Prelude.{◌≡◌, ℕ, suc, ◌+◌, ◌<◌, ◌≤◌, Bool, true, false, IsTrue, List, [], length, drop, Option, MatchOption, Ok}
+use Rattle.std.specs.Prelude.{◌≡◌, ℕ, suc, ◌+◌, ◌<◌, ◌≤◌, Bool, true, false, IsTrue, List, [], length, drop, Option, IfSome, MatchOption, Ok}
 use Rattle.disk_trait.specs.Files.{Files}
 use Rattle.disk_trait.specs.declared.file_name.FileName.{FileName}
 use Rattle.flowfile_record.specs.declared.flow_file.FlowFile.{FlowFile}
-use Rattle.record_codec.specs.Block.{Whole, reading_of}
 use Rattle.block_file.specs.declared.read.BlockAddress.{BlockAddress}
 use Rattle.swap_store.specs.Batch.{IsSwapBatch}
+use Rattle.swap_store.specs.Memory.{Joins}
 use Rattle.swap_store.specs.Reading.{BatchStep, Adds, Ends, last_file_number, files_from, swapped_files}
 use Rattle.swap_store.specs.declared.reading.Source.{Source}
 use Rattle.swap_store.specs.declared.taken.Taken.{Taken}
@@ -24,27 +24,10 @@ step_is false files = Adds files
 abbrev pub address_in : FileName → (size at : ℕ) → BlockAddress
 address_in file size at = record { file = file; size = size; offset = at; at = at }
 
--- a whole block stands there
-pub record HasWholeBlock (bytes : List ℕ) : Type 0 where
-  pub kind : ℕ
-  pub payload : List ℕ
-  pub whole : reading_of bytes ≡ Whole kind payload
-
--- Reading these bytes comes to this offset with these files: one block each stands before it.
-pub record ComesTo (file : FileName) (bytes : List ℕ) (at : ℕ) (files : List FlowFile) : Type 0 where
-  pub same : (most : ℕ)
-      → files_from (length files + most) file 0 [] bytes ≡ files_from most file at files (drop at bytes)
-
--- Reading a swap file of these bytes may want memory: it comes to a block that stands whole.
-pub record BatchWantsMemory (file : FileName) (bytes : List ℕ) : Type 0 where
-  pub at : ℕ
-  pub files : List FlowFile
-  pub before : ComesTo file bytes at files
-  pub whole : HasWholeBlock (drop at bytes)
-
--- The block at this offset was read: it is behind these files, and the next one begins behind it; or it is the End.
-pub record HasReadStep (tells : Bool) (files : Files) (source : Source) (at : ℕ) (old new : Taken) (next : Option ℕ)
-    : Type 0 where
+-- The block at this offset was read, into a buffer of this capacity: it is behind these files, and the next one begins
+-- behind it; or it is the End.
+pub record HasReadStep (tells : Bool) (files : Files) (source : Source) (at capacity : ℕ) (old new : Taken)
+    (next : Option ℕ) : Type 0 where
   pub taken : AreTakenFiles new
   pub within : MatchOption next (Unit {0})
       (λ n. (at < n) × (n ≤ source.size) × (length new.files.items ≡ suc (length old.files.items)))
@@ -52,6 +35,8 @@ pub record HasReadStep (tells : Bool) (files : Files) (source : Source) (at : �
       (files_from (suc most) source.file at old.files.items (drop at (files source.file)) ≡ Ok new.files.items)
       (λ n. files_from (suc most) source.file at old.files.items (drop at (files source.file))
       ≡ files_from most source.file n new.files.items (drop n (files source.file)))
+  pub joins : IsTrue tells
+      → IfSome next (λ n. Joins (files source.file) capacity at n old.files.items new.files.items)
 
 -- These files were read. There are bytes that say just these, and where the disk tells they are those of the file.
 pub record HasReadBatch (tells : Bool) (files : Files) (file : FileName) (batch : List FlowFile) : Type 0 where

@@ -1,15 +1,16 @@
 //! Reading a batch.
-ghost use Rattle.std.specs.Prelude.{◌≡◌, ℕ, suc, ◌++◌, List, drop, IsTrue, IfOk, IsErrOf, Ok, Err, Some};
+ghost use Rattle.std.specs.Prelude.{◌≡◌, ◌≤◌, ℕ, suc, ◌++◌, List, drop, vec_capacity, IsTrue, IfOk, IsErrOf, Ok, Err, Some};
 ghost use Rattle.disk_trait.specs.Images.{Stays};
 ghost use Rattle.disk_trait.specs.Faults.{CountsFaults};
 ghost use Rattle.disk_trait.specs.declared.damage.Damage.{Damage as TheDamage};
 ghost use Rattle.disk_trait.specs.declared.file_name.FileName.{FileName as TheName};
 ghost use Rattle.flowfile_record.specs.declared.flow_file.FlowFile.{FlowFile as TheFile};
-ghost use Rattle.block_file.specs.Address.{reading_at, IsAddress, IsBlockAt};
+ghost use Rattle.block_file.specs.Address.{reading_at, HasBlockPast, IsAddress, IsBlockAt};
 ghost use Rattle.block_file.specs.Damage.{damage_in};
 ghost use Rattle.swap_store.specs.Batch.{swap_file, batch_bytes, IsSwapBatch};
+ghost use Rattle.swap_store.specs.Memory.{BatchWantsMemory, BlockTakes};
 ghost use Rattle.swap_store.specs.Reading.{files_from, swapped_files, swapped_files_in};
-ghost use Rattle.swap_store.specs.Taken.{address_in, AreTakenFiles, BatchWantsMemory, HasReadBatch, HasReadStep, HasWholeBlock};
+ghost use Rattle.swap_store.specs.Taken.{address_in, AreTakenFiles, HasReadBatch, HasReadStep};
 
 use crate::taken::{Taken, Unfit};
 use block_file::{BlockAddress, BlockError, read_block_at};
@@ -31,16 +32,16 @@ pub fn read_batch<D: Disk>(
     disk: &mut D,
     batch: u64,
 ) -> Result<Vec<FlowFile>, BlockError>
-    // Whatever the disk tells, some bytes with right digests say just these files.
+    // Some bytes with right digests say just these files; if the disk tells, they are those of the file.
     ensures read { IfOk result
         (λ files. HasReadBatch D.tells (D.held disk.old) (swap_file batch) files.items) }
     ensures batch { IfOk result (λ files. IsSwapBatch files.items) }
     // The first damage is told, where there is one.
     ensures damaged { (damage : TheDamage) → IsErrOf result (BlockError.Damaged damage) → IsTrue D.tells
         → swapped_files_in (D.held disk.old) batch ≡ Err damage }
-    // What is damaged before the block that memory is wanted for is told.
+    // What is damaged before the block that memory is wanted for is told, and of that block what can be told without.
     ensures memory { IsErrOf result BlockError.Memory → IsTrue D.tells
-        → BatchWantsMemory (swap_file batch) (D.held disk.old (swap_file batch)) }
+        → BatchWantsMemory (D.held disk.old (swap_file batch)) }
     ensures stays { Stays D.held D.moment D.images disk.old disk.new }
     ensures cause { CountsFaults (D.faults disk.old) (D.faults disk.new) (IsErrOf result BlockError.Disk) }
 {
@@ -61,6 +62,7 @@ pub fn read_batch<D: Disk>(
 
 // Reads the block at an offset, which joins those before it. Answers where the next one begins, and nothing behind the
 // End.
+#[tactic(auto, using(crate::proofs::Takes::part_takes))]
 fn read_next<D: Disk>(
     alloc: Global,
     disk: &mut D,
@@ -71,12 +73,15 @@ fn read_next<D: Disk>(
 ) -> Result<Option<u64>, BlockError>
     requires address { IsAddress D.tells (D.held disk.old) (address_in source.file source.size at) }
     requires taken { AreTakenFiles taken.old }
-    ensures read { IfOk result (HasReadStep D.tells (D.held disk.old) source at taken.old taken.new) }
+    ensures read { IfOk result
+        (HasReadStep D.tells (D.held disk.old) source at (vec_capacity buffer.new) taken.old taken.new) }
+    ensures capacity { vec_capacity buffer.old ≤ vec_capacity buffer.new }
     ensures damaged { (damage : TheDamage) → IsErrOf result (BlockError.Damaged damage) → IsTrue D.tells
         → (most : ℕ) → files_from (suc most) source.file at taken.old.files.items
         (drop at (D.held disk.old source.file)) ≡ Err damage }
     ensures memory { IsErrOf result BlockError.Memory → IsTrue D.tells
-        → HasWholeBlock (drop at (D.held disk.old source.file)) }
+        → BlockTakes (vec_capacity buffer.old) taken.old.files.items
+        (reading_at (D.held disk.old) (address_in source.file source.size at)) }
     ensures stays { Stays D.held D.moment D.images disk.old disk.new }
     ensures cause { CountsFaults (D.faults disk.old) (D.faults disk.new) (IsErrOf result BlockError.Disk) }
 {
@@ -106,7 +111,8 @@ fn read_block<D: Disk>(
         → damage_in source.file at (reading_at (D.held disk.old) (address_in source.file source.size at))
         ≡ Some damage }
     ensures memory { IsErrOf result BlockError.Memory → IsTrue D.tells
-        → HasWholeBlock (drop at (D.held disk.old source.file)) }
+        → HasBlockPast (D.held disk.old) (address_in source.file source.size at) (vec_capacity buffer.old) }
+    ensures capacity { vec_capacity buffer.old ≤ vec_capacity buffer.new }
     ensures stays { Stays D.held D.moment D.images disk.old disk.new }
     ensures cause { CountsFaults (D.faults disk.old) (D.faults disk.new) (IsErrOf result BlockError.Disk) }
 {

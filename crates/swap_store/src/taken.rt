@@ -1,8 +1,10 @@
 //! The files of a batch that is read as far as some block.
-ghost use Rattle.std.specs.Prelude.{◌≡◌, ◌+◌, ◌∷◌, ◌++◌, suc, length, [], true, false, IfOk, OnOk, IsErrOf, IsTrue, Some, None};
+ghost use Rattle.std.specs.Prelude.{◌≡◌, ◌⊎◌, ◌+◌, List, ◌∷◌, ◌++◌, suc, length, [], is_ok, Ok, true, false, IfOk, OnOk, IsErrOf, IsTrue, Some, None};
 ghost use Rattle.flowfile_record.specs.Reading.{whole};
-ghost use Rattle.record_codec.specs.ActiveFile.{active_file_at, IsActiveFile};
+ghost use Rattle.flowfile_record.specs.declared.flow_file.FlowFile.{FlowFile as TheFile};
+ghost use Rattle.record_codec.specs.ActiveFile.{active_file_at, active_front_at, IsActiveFile};
 ghost use Rattle.record_codec.specs.SnapshotReading.{ending_at};
+ghost use Rattle.swap_store.specs.Memory.{PartTakes};
 ghost use Rattle.swap_store.specs.Reading.{Adds, Ends, file_step, end_step, step_in};
 ghost use Rattle.swap_store.specs.Taken.{AreTakenFiles, step_is};
 ghost use Rattle.swap_store.specs.declared.taken.Unfit.TheVariants as unfit;
@@ -57,6 +59,7 @@ impl Taken {
             → length self.new.files.items ≡ suc (length self.old.files.items)) }
         ensures taken { OnOk result (AreTakenFiles self.new) }
         ensures unfit { IsErrOf result Unfit.Form → step_in self.old.files.items kind payload.now ≡ None }
+        ensures memory { IsErrOf result Unfit.Memory → PartTakes self.old.files.items kind payload.now }
     {
         match SnapshotKind::from_code(kind) {
             Some(SnapshotKind::File) => self.take_file(alloc, payload),
@@ -76,6 +79,9 @@ impl Taken {
         ensures taken { OnOk result (AreTakenFiles self.new) }
         ensures unfit { IsErrOf result Unfit.Form
             → file_step self.old.files.items (whole active_file_at payload.now) ≡ None }
+        ensures memory { IsErrOf result Unfit.Memory → IsTrue (is_ok (active_front_at payload.now))
+            ⊎ ((more : List TheFile)
+            × (file_step self.old.files.items (whole active_file_at payload.now) ≡ Some (Adds more))) }
     {
         match read_active_file(alloc, payload) {
             Ok(active) => self.add(active),
@@ -93,6 +99,8 @@ impl Taken {
         ensures more { OnOk result (length self.new.files.items ≡ suc (length self.old.files.items)) }
         ensures taken { OnOk result (AreTakenFiles self.new) }
         ensures unfit { IsErrOf result Unfit.Form → file_step self.old.files.items (Ok active) ≡ None }
+        ensures memory { IsErrOf result Unfit.Memory → file_step self.old.files.items (Ok active)
+            ≡ Some (Adds (self.old.files.items ++ active.file ∷ [])) }
     {
         let number = active.file.number;
         if active.connection != 0 || number <= self.last {
@@ -108,6 +116,7 @@ impl Taken {
             × (end_step self.now.files.items (whole ending_at payload.now) ≡ Some Ends)) }
         ensures unfit { IsErrOf result Unfit.Form
             → end_step self.now.files.items (whole ending_at payload.now) ≡ None }
+        ensures kinds { IsErrOf result Unfit.Memory → ⊥ }
     {
         match read_snapshot_end(payload) {
             Ok(blocks) => {

@@ -10,7 +10,7 @@ use Rattle.block_file.specs.declared.error.BlockError.TheVariants.{Damaged, Memo
 use Rattle.prov_store.specs.declared.read.Cursor.{Cursor}
 use Rattle.prov_store.proofs.Counting.{code_within, most_more, counted_one}
 use Rattle.prov_store.proofs.Loads.{read_more, damaged_there, cursor_on}
-use Rattle.prov_store.proofs.Wholes.{whole_before}
+use Rattle.prov_store.proofs.Wholes.{whole_behind}
 use Rattle.record_codec.specs.Block.{reading_of}
 use Rattle.prov_store.proofs.load.count_events.Goals as goal
 
@@ -72,5 +72,5 @@ returns-in_err-event-clause-memory g c is told =
     let inv = c.loop.invariant in
     let p = err_from_is_err_and c.from_residual.result c.from_residual.ensures.1 in
     let same : c.in_err-event.field-0.0 ≡ Memory = cc (p.1, p.2, is) in
-    whole_before g.D.Disk.tells (g.D.Disk.held c.args.disk.now) c.args.start c.loop.counter inv.events c.loop.cursor inv.read inv.cursor told
+    whole_behind g.D.Disk.tells (g.D.Disk.held c.args.disk.now) c.args.start c.loop.counter c.args.many inv.events c.loop.cursor inv.read inv.cursor c.loop-test.true told
     (subst (λ (f : Files). HasWhole (reading_of (drop c.loop.cursor.at (f c.loop.cursor.file)))) inv.stays.files (c.in_err-event.ensures.memory (ap Err same) told))

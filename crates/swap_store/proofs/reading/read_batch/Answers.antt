@@ -1,11 +1,14 @@
-use Rattle.std.proofs.Common.{◌≡◌, suc, length, drop, ap, subst, arith, rules}
+use Rattle.std.proofs.Common.{◌≡◌, suc, List, length, vec_capacity, drop, sym, ap, subst, arith, rules}
 use Rattle.std.proofs.lemmas.Result.{err_from_is_err_and}
 use Rattle.std.specs.Prelude.{Ok, Err}
 use Rattle.disk_trait.specs.Files.{Files}
+use Rattle.flowfile_record.specs.declared.flow_file.FlowFile.{FlowFile}
+use Rattle.record_codec.specs.Block.{reading_of}
 use Rattle.swap_store.specs.Batch.{swap_file}
 use Rattle.swap_store.specs.Reading.{files_from}
-use Rattle.swap_store.specs.Taken.{HasWholeBlock}
+use Rattle.swap_store.specs.Memory.{BlockTakes, IsReadTo, Joins, more, start}
 use Rattle.block_file.specs.declared.error.BlockError.TheVariants.{Damaged, Memory}
+use Rattle.swap_store.proofs.Takes.{less_takes}
 use Rattle.swap_store.proofs.Steps.{comes_first, comes_on, comes_to_end, has_read}
 use Rattle.swap_store.proofs.reading.read_batch.Goals as goal
 
@@ -21,6 +24,9 @@ loop-taken-init g c =
       taken = c.new-taken.ensures.taken;
       few = omega (arith, ap length c.new-taken.ensures.none);
       comes = λ told. comes_first file bytes c.new-taken.result.files.items c.new-taken.ensures.none;
+      longest = 0;
+      room = omega arith;
+      read_to = λ told. subst (λ (files : List FlowFile). IsReadTo bytes 0 files 0) (sym c.new-taken.ensures.none) start;
     }
 
 pub loop-taken-preserved : goal.loop-taken-preserved
@@ -43,6 +49,12 @@ loop-taken-preserved g c =
           comes_on file bytes at c.in-Some.next old new (inv.comes told) within.2
           (λ most. let step = rw c.in-Some.is at (c.in_ok-next.ensures.read.says told most) in
           subst (λ (f : Files). files_from (suc most) file at old (drop at (f file)) ≡ files_from most file c.in-Some.next new (drop c.in-Some.next (f file))) inv.stays.files step);
+      longest = vec_capacity c.read_next.new.buffer;
+      room = omega arith;
+      read_to = λ told.
+          let joins = rw c.in-Some.is at (c.in_ok-next.ensures.read.joins told) in
+          more at c.in-Some.next inv.longest (vec_capacity c.read_next.new.buffer) old new (inv.read_to told) (omega (arith, inv.room, c.in_ok-next.ensures.capacity))
+          (subst (λ (f : Files). Joins (f file) (vec_capacity c.read_next.new.buffer) at c.in-Some.next old new) inv.stays.files joins);
     }
 
 pub returns-clause-read : goal.returns-clause-read
@@ -75,9 +87,14 @@ returns-in_err-next-clause-memory g c is told =
     let inv = c.loop-taken.invariant in
     let p = err_from_is_err_and c.from_residual-in_err-next.result c.from_residual-in_err-next.ensures.1 in
     let same : c.in_err-next.field-0.0 ≡ Memory = cc (p.1, p.2, is) in
+    let at = c.loop-taken.at in
+    let files = c.loop-taken.taken.files.items in
+    let capacity = vec_capacity c.loop-taken.buffer in
     record {
-      at = c.loop-taken.at;
-      files = c.loop-taken.taken.files.items;
-      before = inv.comes told;
-      whole = subst (λ (f : Files). HasWholeBlock (drop c.loop-taken.at (f file))) inv.stays.files (c.in_err-next.ensures.memory (ap Err same) told);
+      at = at;
+      longest = inv.longest;
+      files = files;
+      before = inv.read_to told;
+      takes = less_takes inv.longest capacity files (reading_of (drop at (g.D.Disk.held c.args.disk.now file))) inv.room
+          (subst (λ (f : Files). BlockTakes capacity files (reading_of (drop at (f file)))) inv.stays.files (c.in_err-next.ensures.memory (ap Err same) told));
     }

@@ -1,17 +1,15 @@
-use Rattle.std.proofs.Common.{◌≡◌, ℕ, suc, ◌+◌, ◌/◌, ◌%◌, refl, sym, ap, subst, ◌∙◌, arith, rules}
+use Rattle.std.proofs.Common.{◌≡◌, ℕ, suc, ◌+◌, ◌*◌, ◌/◌, inr, refl, sym, ap, subst, ◌∙◌, arith, rules}
 use Rattle.std.specs.Prelude.{Err}
 use Rattle.std.proofs.lemmas.Result.{err_from_is_err_and}
 use Rattle.disk_trait.specs.Files.{Files}
 use Rattle.prov_store.specs.Events.{events_file, events_of_files}
-use Rattle.prov_store.specs.Loading.{EventsAreLoaded, loaded_state}
+use Rattle.prov_store.specs.Loading.{EventsAreLoaded, LoadWantsMemory, loaded_state}
 use Rattle.prov_store.specs.State.{AreLonger, EventsState, HasStale, IsEventLine}
 use Rattle.flowfile_record.specs.declared.limits.TheConstants.{EVENTS_PER_FILE}
-use Rattle.block_file.specs.declared.error.BlockError.TheVariants.{Damaged}
+use Rattle.block_file.specs.declared.error.BlockError.TheVariants.{Damaged, Memory}
 use Rattle.prov_store.proofs.Listing.{none_longer}
 use Rattle.prov_store.proofs.Loaded.{none_loaded, all_damaged, few_counted, has_events, same_stale}
-use Rattle.prov_store.proofs.Wholes.{first_file_whole}
-use Rattle.prov_store.specs.Reading.{HasWhole}
-use Rattle.record_codec.specs.Block.{reading_of}
+use Rattle.prov_store.proofs.InFiles.{all_files}
 use Rattle.prov_store.proofs.events.Events.load.Goals as goal
 
 pub loop-number-init : goal.loop-number-init
@@ -63,11 +61,28 @@ returns-clause-found g c =
       longer = subst (λ (f : Files). AreLonger g.D.Disk.tells f stale) inv.stays.files c.in_ok-stale.ensures.longer;
     }
 
+pub returns-in_err-read_file-clause-memory : goal.returns-in_err-read_file-clause-memory
+returns-in_err-read_file-clause-memory g c is told =
+    let inv = c.loop-number.invariant in
+    let p = err_from_is_err_and c.from_residual.result c.from_residual.ensures.1 in
+    let same : c.in_err-read_file.field-0.0 ≡ Memory = cc (p.1, p.2, is) in
+    subst (λ (n : ℕ). LoadWantsMemory (g.D.Disk.held c.args.disk.now) n c.args.end) inv.line
+    (subst (LoadWantsMemory (g.D.Disk.held c.args.disk.now) c.loop-number.loading.line) inv.end
+    (subst (λ (f : Files). LoadWantsMemory f c.loop-number.loading.line c.loop-number.loading.end) inv.stays.files (c.in_err-read_file.ensures.memory (ap Err same) told)))
+
 pub returns-in_err-stale-clause-memory : goal.returns-in_err-stale-clause-memory
-returns-in_err-stale-clause-memory g c is told some =
+returns-in_err-stale-clause-memory g c is told =
     let inv = c.loop-number.invariant in
     let loading = c.loop-number.loading in
-    let of : IsEventLine loading.line loading.end = record { whole = ap (λ (n : ℕ). n % EVENTS_PER_FILE) inv.line ∙ c.requires.line.whole; within = omega (arith, inv.line, inv.end, some) } in
-    subst (λ (n : ℕ). HasWhole (reading_of (g.D.Disk.held c.args.disk.now (events_file (n / EVENTS_PER_FILE))))) inv.line
-    (first_file_whole c.loop-number.number loading.line loading.end (g.D.Disk.held c.args.disk.now) inv.loaded.events (inv.loaded.says told) of
-    (omega (arith, c.loop-number-test.false, inv.line, c.requires.line.within)) (omega (arith, some, inv.line, inv.end)))
+    let files = g.D.Disk.held c.args.disk.now in
+    let all : EVENTS_PER_FILE * c.loop-number.number ≡ EVENTS_PER_FILE * (c.args.end / EVENTS_PER_FILE + 1) =
+    omega (arith, c.loop-number-test.false, c.loop-number.auto.number-end (omega (arith, c.requires.line.within))) in
+    let says = ap (λ (n : ℕ). events_of_files c.loop-number.number n c.args.end 0 files) (sym inv.line) ∙ ap (λ (n : ℕ). events_of_files c.loop-number.number loading.line n 0 files) (sym inv.end) ∙ inv.loaded.says told in
+    record {
+      reached = c.args.end;
+      from = c.requires.line.within;
+      to = omega arith;
+      events = inv.loaded.events;
+      says = all_files c.loop-number.number c.args.line c.args.end files inv.loaded.events says (omega (arith, all));
+      wants = inr (inr refl);
+    }

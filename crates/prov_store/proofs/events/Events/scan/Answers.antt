@@ -1,10 +1,11 @@
-use Rattle.std.proofs.Common.{◌≡◌, ℕ, ◌+◌, ◌-◌, ◌%◌, sym, ap, ◌∙◌, arith}
-use Rattle.std.specs.Prelude.{filter, map, nat_le, ◌&&◌, min, max}
+use Rattle.std.proofs.Common.{◌≡◌, ℕ, ◌+◌, ◌-◌, ◌%◌, sym, ap, subst, ◌∙◌, arith}
+use Rattle.std.specs.Prelude.{All, filter, map, nat_le, ◌&&◌, min, max}
 use Rattle.std.specs.List.{range_with_len}
+use Rattle.std.proofs.lemmas.List.Elements.{All-nil}
 use Rattle.flowfile_record.specs.declared.event.Event.{Event}
 use Rattle.flowfile_record.specs.declared.limits.TheConstants.{EVENTS_PER_FILE}
 use Rattle.prov_store.specs.Events.{events_in}
-use Rattle.prov_store.specs.Scanning.{is_within, numbers_between}
+use Rattle.prov_store.specs.Scanning.{is_within, StandsInItsFile, numbers_between}
 use Rattle.prov_store.proofs.InFiles.{last_numbered}
 use Rattle.prov_store.proofs.Scans.{none_between, same_found}
 use Rattle.prov_store.proofs.events.Events.scan.Goals.{then-scan+in_ok-scan_files, else-scan}
@@ -29,6 +30,14 @@ returns-clause-found g c told events is =
           ap (λ s. s.found.items) w.scan-is ∙ w.in_ok-scan_files.ensures.found told events (ap (λ (n : ℕ). events_in files n c.self.inside.end) line ∙ ap (events_in files c.args.self.now.line) end ∙ is) ∙ exact
       | else-scan w ↦
           ap (λ s. s.found.items) w.scan-is ∙ c.new-2.ensures.items ∙ sym (none_between c.max.result c.min.result events w.if-scan.false) ∙ exact
+    ]
+
+pub returns-clause-stand : goal.returns-clause-stand
+returns-clause-stand g c told =
+    let stand = All (StandsInItsFile (g.D.Disk.held c.args.disk.now)) in
+    elim c.if-scan.branch [
+      | then-scan+in_ok-scan_files w ↦ subst stand (sym (ap (λ s. s.found.items) w.scan-is)) (w.in_ok-scan_files.ensures.stand told)
+      | else-scan w ↦ subst stand (sym (ap (λ s. s.found.items) w.scan-is ∙ c.new-2.ensures.items)) (All-nil (StandsInItsFile (g.D.Disk.held c.args.disk.now)))
     ]
 
 pub returns-clause-numbered : goal.returns-clause-numbered

@@ -1,7 +1,8 @@
 use Rattle.std.proofs.Common.{◌≡◌, ◌+◌, ◌*◌, ◌/◌, ◌++◌, ◌∷◌, [], IsTrue, List, length, drop, refl, ap, ◌∙◌, arith}
 use Rattle.std.specs.Prelude.{Ok, Err}
 use Rattle.std.proofs.lemmas.Result.{err_from_is_err_and}
-use Rattle.prov_store.specs.Events.{count_in, first_event, covered_size}
+use Rattle.disk_trait.specs.Files.{Files}
+use Rattle.prov_store.specs.Events.{blocks_size, count_in, first_event, covered_size}
 use Rattle.block_file.specs.declared.error.BlockError.TheVariants.{Damaged, Memory}
 use Rattle.prov_store.specs.declared.events.Stale.{Stale}
 use Rattle.prov_store.specs.declared.load.Loading.{Loading}
@@ -9,7 +10,7 @@ use Rattle.flowfile_record.specs.declared.limits.TheConstants.{EVENTS_PER_FILE}
 use Rattle.prov_store.proofs.Counting.{count_most}
 use Rattle.prov_store.proofs.Listing.{one_listed, still_listed}
 use Rattle.prov_store.proofs.Loads.{first_damaged, file_read, size_read, stale_same, stale_one, more_loaded}
-use Rattle.prov_store.proofs.Wholes.{first_whole, whole_at_first}
+use Rattle.prov_store.proofs.Wholes.{wants_next, wants_longer}
 use Rattle.prov_store.proofs.load.Loading.read_file.Goals as goal
 
 pub count_events-requires-clause-room : goal.count_events-requires-clause-room
@@ -87,18 +88,24 @@ returns-else-size-start-clause-read g c = record {
 }
 
 pub returns-in_err-size-2-clause-memory : goal.returns-in_err-size-2-clause-memory
-returns-in_err-size-2-clause-memory g c is told some =
+returns-in_err-size-2-clause-memory g c is told =
+    let self = c.args.self.now in
+    let k = c.args.number in
     let p = err_from_is_err_and c.from_residual-in_err-size-2.result c.from_residual-in_err-size-2.ensures.1 in
     let same : c.in_err-size-2.field-0.0 ≡ Memory = cc (p.1, p.2, is) in
-    whole_at_first c.args.number c.args.self.now.line c.args.self.now.end c.file_named-file.result (g.D.Disk.held c.size.new.self) (g.D.Disk.held c.args.disk.now) c.requires.read.loaded.events
-    (c.requires.read.loaded.says told) c.requires.may.line c.requires.may.from c.size.ensures.stays.files c.file_named-file.ensures some (λ first. c.in_err-size-2.ensures.memory (ap Err same) told)
+    wants_next k c.min-many.result self.line self.end (k * EVENTS_PER_FILE + 1) c.file_named-file.result (g.D.Disk.held c.size.new.self) (g.D.Disk.held c.args.disk.now) c.requires.read.loaded.events c.requires.may.line
+    c.requires.may.from (omega (arith, c.min-many.ensures)) (omega (arith, c.min-many.ensures, c.requires.may.to)) (c.requires.read.loaded.says told) c.size.ensures.stays.files c.file_named-file.ensures (omega arith)
+    c.in_ok-size.field-0 (c.in_err-size-2.ensures.memory (ap Err same) told)
 
 pub returns-in_err-reserve-clause-memory : goal.returns-in_err-reserve-clause-memory
-returns-in_err-reserve-clause-memory g c is told some =
-    let counted = c.in_ok-size-2.ensures.counted in
+returns-in_err-reserve-clause-memory g c is told =
+    let self = c.args.self.now in
     let k = c.args.number in
+    let counted = c.in_ok-size-2.ensures.counted in
+    let read = counted.read in
     let file = c.file_named-file.result in
-    let read = g.D.Disk.held c.size.new.self in
-    whole_at_first k c.args.self.now.line c.args.self.now.end file read (g.D.Disk.held c.args.disk.now) c.requires.read.loaded.events
-    (c.requires.read.loaded.says told) c.requires.may.line c.requires.may.from c.size.ensures.stays.files c.file_named-file.ensures some
-    (λ first. first_whole c.min-many.result file 0 (k * EVENTS_PER_FILE + 1) (drop 0 (read file)) counted.events (counted.read.says told) (omega (arith, some, first, c.min-many.ensures)))
+    let reaches : c.in_ok-size-2.size ≡ 0 + blocks_size c.min-many.result (drop 0 (g.D.Disk.held c.size.new.self file)) = read.reaches told in
+    let long = ap (λ (f : Files). length (f file)) c.size.ensures.stays.files in
+    wants_longer k c.min-many.result self.line self.end (k * EVENTS_PER_FILE + 1) c.file_named-file.result (g.D.Disk.held c.size.new.self) (g.D.Disk.held c.args.disk.now) c.requires.read.loaded.events c.requires.may.line
+    c.requires.may.from (omega (arith, c.min-many.ensures)) (omega (arith, c.min-many.ensures, c.requires.may.to)) (c.requires.read.loaded.says told) c.size.ensures.stays.files c.file_named-file.ensures (omega arith)
+    counted.events (λ part. omega (arith, part, c.min-many.ensures, c.requires.may.to)) (read.says told) (omega (arith, reaches, c.in_ok-size.ensures.size told, long, c.if-size-start.true))

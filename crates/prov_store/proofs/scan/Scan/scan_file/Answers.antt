@@ -9,6 +9,7 @@ use Rattle.flowfile_record.specs.declared.limits.TheConstants.{EVENTS_PER_FILE}
 use Rattle.block_file.specs.declared.error.BlockError.TheVariants.{Damaged}
 use Rattle.prov_store.specs.declared.read.Cursor.{Cursor}
 use Rattle.prov_store.proofs.Scans.{found_in, from_start, there_in_file}
+use Rattle.prov_store.proofs.Standing.{stand_there}
 use Rattle.prov_store.proofs.scan.Scan.scan_file.Goals as goal
 
 pub returns-in_err-cursor-clause-undamaged : goal.returns-in_err-cursor-clause-undamaged
@@ -61,6 +62,19 @@ returns-clause-found g c told here is =
     let read = c.in_ok-read_events.ensures.read in
     let same : read.events ≡ take m (drop n here) = cc (read.says told, all) in
     read.items ∙ ap (λ (l : List Event). self.found.items ++ l) (same ∙ sym fi.found)
+
+pub returns-clause-stand : goal.returns-clause-stand
+returns-clause-stand g c told old =
+    let self = c.args.self.now in
+    let k = c.args.number in
+    let n = c.saturating_sub.result in
+    let cursor = c.in_ok-cursor.cursor in
+    let m = c.min-last.result + 1 - cursor.number in
+    let number : cursor.number ≡ k * EVENTS_PER_FILE + 1 + n = ap (λ (c : Cursor). c.number) c.in_ok-cursor.ensures.skipped.behind in
+    let name = ap (λ (c : Cursor). c.file) c.in_ok-cursor.ensures.skipped.behind ∙ c.file_named-file.ensures in
+    let read = c.in_ok-read_events.ensures.read in
+    stand_there k m cursor (g.D.Disk.held c.skip_events.new.disk) (g.D.Disk.held c.args.disk.now) self.found.items read.events c.read_events.new.found.items name (c.skip_events.ensures.stays.files ∙ c.size.ensures.stays.files)
+    (omega (arith, number)) (omega (arith, number, c.min-last.ensures, c.saturating_sub.ensures, c.requires.from, c.requires.may.past)) (read.says told) read.items old
 
 pub returns-clause-numbered : goal.returns-clause-numbered
 returns-clause-numbered g c =

@@ -1,11 +1,12 @@
-use Rattle.std.proofs.Common.{◌≡◌, ℕ, ◌+◌, ◌-◌, ◌/◌, refl, sym, ap, ◌∙◌, arith, rules}
-use Rattle.std.specs.Prelude.{Err, map, min}
+use Rattle.std.proofs.Common.{◌≡◌, ℕ, ◌+◌, ◌-◌, ◌/◌, refl, sym, ap, subst, ◌∙◌, arith, rules}
+use Rattle.std.specs.Prelude.{All, Err, map, min}
+use Rattle.std.proofs.lemmas.List.Elements.{All-nil}
 use Rattle.std.proofs.lemmas.Result.{err_from_is_err_and}
 use Rattle.flowfile_record.specs.declared.event.Event.{Event}
 use Rattle.disk_trait.specs.Files.{Files}
 use Rattle.prov_store.specs.Events.{events_of_file, first_event}
 use Rattle.block_file.specs.declared.error.BlockError.TheVariants.{Damaged}
-use Rattle.prov_store.specs.Scanning.{numbers_between}
+use Rattle.prov_store.specs.Scanning.{numbers_between, StandsInItsFile}
 use Rattle.flowfile_record.specs.declared.limits.TheConstants.{EVENTS_PER_FILE}
 use Rattle.prov_store.proofs.InFiles.{file_of_events}
 use Rattle.prov_store.proofs.Scans.{none_numbered, numbered_on, none_yet, one_file_found, all_found, found_alike}
@@ -16,6 +17,7 @@ loop-number-init g c = record {
   same = record { line = refl; end = refl; first = refl; last = refl };
   found = λ told events is. c.requires.none ∙ sym (none_yet c.args.self.now.line c.args.self.now.end c.args.self.now.first c.args.self.now.last (g.D.Disk.held c.args.disk.now) events c.requires.may.whole c.requires.may.past is);
   numbered = ap (map (λ (e : Event). e.number)) c.requires.none ∙ sym (none_numbered c.args.self.now.first c.args.self.now.last (omega (arith, c.requires.may.past)));
+  stand = λ told. subst (All (StandsInItsFile (g.D.Disk.held c.args.disk.now))) (sym c.requires.none) (All-nil (StandsInItsFile (g.D.Disk.held c.args.disk.now)));
   stays = search rules;
   faults = omega arith;
 }
@@ -55,6 +57,9 @@ loop-number-preserved g c =
           numbered_on self.first self.last old.first old.last c.loop-number.number (map (λ (e : Event). e.number) old.found.items) (map (λ (e : Event). e.number) new.found.items)
           inv.same.first inv.same.last c.requires.may.some (omega (arith, c.loop-number-test.true, c.requires.may.past, c.requires.may.some)) inv.numbered
           c.in_ok-scan_file.ensures.numbered;
+      stand = λ told.
+          let before = subst (λ (f : Files). All (StandsInItsFile f) old.found.items) (sym inv.stays.files) (inv.stand told) in
+          subst (λ (f : Files). All (StandsInItsFile f) new.found.items) inv.stays.files (c.in_ok-scan_file.ensures.stand told before);
       stays = search rules;
       faults = omega (arith, inv.faults, c.scan_file.ensures.cause.never_falls);
     }
@@ -67,6 +72,9 @@ returns-clause-found g c told events is =
     let behind : c.loop-number.number ≡ (self.last - 1) / EVENTS_PER_FILE + 1 = omega (arith, c.loop-number-test.false, reach) in
     all_found self.line self.end self.first self.last c.loop-number.number (g.D.Disk.held c.args.disk.now) c.loop-number.self.found.items events c.requires.may.whole is behind (omega (arith, c.requires.may.past, c.requires.may.some)) c.requires.may.there
     (inv.found told)
+
+pub returns-clause-stand : goal.returns-clause-stand
+returns-clause-stand g c told = c.loop-number.invariant.stand told
 
 pub returns-clause-numbered : goal.returns-clause-numbered
 returns-clause-numbered g c =
