@@ -143,6 +143,18 @@ flow_stays k (SwapOut s) = refl
 flow_stays k (SwapIn connection batch) = refl
 flow_stays k (Age line) = refl
 
+id_stays : (k : Kept) (entry : LogEntry) → (applied no_files k entry).store ≡ k.store
+id_stays k (Begin version log) = refl
+id_stays k (Session s) = refl
+id_stays k (Expire e) = refl
+id_stays k (SwapOut s) = refl
+id_stays k (SwapIn connection batch) = refl
+id_stays k (Age line) = refl
+
+-- the store's id stays
+pub id_after : (p : PreparedChange) (t u : StoreState) → HasChange p t u → (kept_by u).store ≡ (kept_by t).store
+id_after p t u change = ap (λ (k : Kept). k.store) change.kept ∙ id_stays (kept_by t) change.entry
+
 pub flow_after : (p : PreparedChange) (t u : StoreState) (f : store.Flow) → HasChange p t u → flow_in (kept_by t) ≡ f → flow_in (kept_by u) ≡ f
 flow_after p t u f change is = ap flow_in change.kept ∙ flow_stays (kept_by t) change.entry ∙ is
 

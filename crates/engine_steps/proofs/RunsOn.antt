@@ -226,12 +226,12 @@ module _ {D : Type 0} (tells : Bool) (held : D → Files) (moment : D → ℕ) (
   module _ (e : EngineState) (opened : Machine) (first disk : D) (start : Start) (time later : ℕ) (by : time ≤ later) (left : List NamedFile) (out : Outgoing) (run : IsRunning moment images e opened first start time disk left out) where
     pub runs_idle : SparedRunsGoOn moment images → IsRunning moment images e opened first start later disk left out
     runs_idle law =
-        runs_spared e e (record { flow = refl; most = refl; checkpoint = refl; too_large = refl; lot = refl }) opened first disk disk start time left out law later by refl refl refl
+        runs_spared e e (record { flow = refl; most = refl; checkpoint = refl; too_large = refl; lot = refl; id = refl }) opened first disk disk start time left out law later by refl refl refl
         (λ m stands. spared_by_none e.flow e.store.lot m disk stands) run
 
     pub stops_wanting : FaultsEnd tells held moment images → (error : EngineError) → error ≡ EngineError.Memory → (next : Option Step) → Stops error tells held moment images e opened first start later disk left out next
     stops_wanting law error is next =
-        stops_by e e (record { flow = refl; most = refl; checkpoint = refl; too_large = refl; lot = refl }) opened first disk disk start time left out law error (inr is) later by refl
+        stops_by e e (record { flow = refl; most = refl; checkpoint = refl; too_large = refl; lot = refl; id = refl }) opened first disk disk start time left out law error (inr is) later by refl
         (λ m stands. spared_by_none e.flow e.store.lot m disk stands) run next
 
   -- at which moment nothing was due is no part of the run

@@ -47,6 +47,7 @@ use Rattle.run_law.specs.Run.{StandsFor}
 use Rattle.run_law.specs.Work.{IsAtWork, IsRefused, WritesLog}
 use Rattle.run_law.proofs.Writing.{checkpoint_writes, log_writes, writes_as}
 use Rattle.engine_steps.specs.Errors.{engine_error}
+use Rattle.engine_steps.specs.Tending.{IsKeptWithout}
 use Rattle.engine_steps.specs.Journal.{journaled}
 use Rattle.engine_steps.specs.declared.error.EngineError.{EngineError}
 
@@ -148,15 +149,20 @@ can_follow checkpoint entries number due =
 
 -- ---- what is kept behind it
 
--- the files are gone, and the flow stays
+-- the files are gone, and but for the last event all else stays
 pub record IsLeftBy (numbers : List ℕ) (k after : Kept) : Type 0 where
   pub files : after.files ≡ left_after numbers k.files
   pub flow_is : flow_in after ≡ flow_in k
+  pub kept : IsKeptWithout numbers k after
 
 left_by : (k : Kept) (x : ExpireEntry) (entry : LogEntry) → placeless_entry entry ≡ Expire x → IsLeftBy x.numbers k (applied no_files k entry)
 left_by k x (Begin version log) is = absurd cc
 left_by k x (Session s) is = absurd cc
-left_by k x (Expire e) is = let same : e ≡ x = cc in record { files = ap (λ (y : ExpireEntry). left_after y.numbers k.files) same; flow_is = refl }
+left_by k x (Expire e) is = let same : e ≡ x = cc in record {
+  files = ap (λ (y : ExpireEntry). left_after y.numbers k.files) same;
+  flow_is = refl;
+  kept = ap (λ (y : ExpireEntry). record k { files = left_after y.numbers k.files; last_event = e.last_event }) same;
+}
 left_by k x (SwapOut s) is = absurd cc
 left_by k x (SwapIn connection batch) is = absurd cc
 left_by k x (Age line) is = absurd cc

@@ -69,14 +69,15 @@ module _ {D : Type 0} (tells : Bool) (held : D → Files) (moment : D → ℕ) (
       are = subst (λ (u : StoreState). AreQueuesOf flow (kept_by u) [] now_queues) (sym roomy) (still flow queued.are);
     };
     lot = (ap (λ (u : StoreState). u.lot) roomy, ap (λ (u : StoreState). u.log.number) roomy);
+    id = ap (λ (u : StoreState). (kept_by u).store) roomy;
   })
 
   -- the disk's error within the commit
   pub cut_off_by : (error : EngineError) → error ≡ Disk
       → ((flow : Flow) (before after : Machine) → IsAtWork flow tells held moment images s old → InEach (images old (moment old)) (StandsFor flow s.lot before)
       → state_after (content_in (held old)) before.state changed.settled ≡ after.state → IsBetween flow moment images s.lot before after old new)
-      → (IsTrue out_tells → now_out ≡ with_sending changed.sending out) → (t.lot ≡ s.lot) × (t.log.number ≡ s.log.number) → (result : Result ℕ EngineError) → result ≡ Err error → Written result
-  cut_off_by error disk between sent lot result was = subst Written (sym (was ∙ ap Err disk)) (record {
+      → (IsTrue out_tells → now_out ≡ with_sending changed.sending out) → (t.lot ≡ s.lot) × (t.log.number ≡ s.log.number) → (kept_by t).store ≡ (kept_by s).store → (result : Result ℕ EngineError) → result ≡ Err error → Written result
+  cut_off_by error disk between sent lot id result was = subst Written (sym (was ∙ ap Err disk)) (record {
     stepped = tt;
     cut_off = λ is. between;
     moment_is = tt;
@@ -89,6 +90,7 @@ module _ {D : Type 0} (tells : Bool) (held : D → Files) (moment : D → ℕ) (
     kinds = inl refl;
     work = λ not. absurd (not refl);
     lot = lot;
+    id = id;
   })
 
 -- a store that works and refuses a commit met a failure of its disk

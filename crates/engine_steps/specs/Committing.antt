@@ -79,3 +79,4 @@ pub record HasWritten {D : Type 0} (result : Result ℕ EngineError) (tells : Bo
       → IsAtWorkWithQueues flow tells held moment images s queues old
       → IsAtWorkWithQueues flow tells held moment images t now_queues new
   pub lot : (t.lot ≡ s.lot) × (t.log.number ≡ s.log.number)
+  pub id : (kept_by t).store ≡ (kept_by s).store

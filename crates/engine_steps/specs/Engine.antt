@@ -6,7 +6,7 @@ use Rattle.flowfile_record.specs.declared.TheConstants.{CONTENT_MAX}
 use Rattle.machine_model.specs.declared.flow.Flow.{Flow}
 use Rattle.machine_model.specs.declared.journal.Entry.{Entry}
 use Rattle.flow_queue.specs.Queue.{QueueState}
-use Rattle.store_core.specs.Store.{StoreState}
+use Rattle.store_core.specs.Store.{StoreState, kept_by}
 use Rattle.engine_queues.specs.Listing.{Left}
 
 -- The flow that it runs; the store and the queues of what it keeps; the names of the inbox that are to come; the
@@ -33,10 +33,11 @@ AreTakeable left names =
     All (λ name. IsSomeAnd (bytes_of left name) (λ bytes. length bytes ≤ CONTENT_MAX)) names
 
 -- the run's constants stay: the flow, the journal's limit, how long a log may get, how many names of the inbox have files
--- that are too large, and the store's lot
+-- that are too large, and the store's lot and id
 pub record IsOfSameRun (old new : EngineState) : Type 0 where
   pub flow : new.flow ≡ old.flow
   pub most : new.most ≡ old.most
   pub checkpoint : new.checkpoint ≡ old.checkpoint
   pub too_large : new.listing.too_large ≡ old.listing.too_large
   pub lot : new.store.lot ≡ old.store.lot
+  pub id : (kept_by new.store).store ≡ (kept_by old.store).store

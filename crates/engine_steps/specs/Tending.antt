@@ -4,6 +4,7 @@ use Rattle.disk_trait.specs.Files.{Files}
 use Rattle.flowfile_record.specs.declared.change.Settled.{Settled}
 use Rattle.flowfile_record.specs.declared.content.ContentRef.{ContentRef}
 use Rattle.flowfile_record.specs.Stored.{Kept}
+use Rattle.kept_state.specs.Applied.{left_after}
 use Rattle.kept_state.specs.declared.limit.Limit.{Limit as TheLimit}
 use Rattle.machine_model.specs.declared.flow.Flow.{Flow}
 use Rattle.machine_model.specs.declared.journal.Step.{Step}
@@ -48,13 +49,20 @@ MakesExpiry flow k connection numbers moment settled =
     → GoesTo flow before (Expire connection numbers moment)
     (λ after. state_after contents before.state settled ≡ after.state)
 
--- the journal has one entry more: the expired files of the first connection that has some
+-- what is kept behind files of these numbers that went: but for them and the number of the last event it is as it was
+abbrev pub IsKeptWithout : List ℕ → (k after : Kept) → Type 0
+IsKeptWithout numbers k after =
+    after ≡ record k { files = left_after numbers k.files; last_event = after.last_event }
+
+-- The journal has one entry more: the expired files of the first connection that has some. These the store keeps no
+-- longer.
 pub record HasExpired (moment : ℕ) (acked : Option ℕ) (old new : EngineState) : Type 0 where
   pub connection : ℕ
   pub numbers : List ℕ
   pub due : due_expiry old.flow (queue_seen old.queues) moment ≡ Some (connection, numbers)
   pub journal : new.journal
       ≡ old.journal ++ record { step = Expire connection numbers moment; acked = acked } ∷ []
+  pub kept : IsKeptWithout numbers (kept_by old.store) (kept_by new.store)
 
 -- the step was done, ..
 abbrev pub StepIsDone : {D : Type 0} → Flow → (D → ℕ) → (D → ℕ → Files → Type 0) → (lot : ℕ) → Machine → Step

@@ -21,7 +21,7 @@ use Rattle.engine_steps.specs.Engine.{EngineState, IsOfSameRun}
 use Rattle.engine_steps.specs.Errors.{IsJournalFull}
 use Rattle.engine_steps.specs.Ready.{EngineIsReady, expiry_in}
 use Rattle.engine_steps.specs.Running.{IsRunning, Stops, undone_step}
-use Rattle.engine_steps.specs.Tending.{GoesTo, HasExpired, IsCheckpointed, IsCutOff, StepIsDone, counted_on}
+use Rattle.engine_steps.specs.Tending.{GoesTo, HasExpired, IsCheckpointed, IsCutOff, IsKeptWithout, StepIsDone, counted_on}
 use Rattle.engine_steps.specs.declared.error.EngineError.{EngineError}
 use Rattle.engine_steps.specs.declared.error.EngineError.TheVariants.{Disk, Limit, Memory}
 
@@ -109,15 +109,19 @@ pub record StepIsTaken {D A : Type 0} (result : Result A EngineError) (flow : Fl
   pub limited : (limit : TheLimit) → IsErrOf result (Limit limit) → GoesTo flow before one (λ after.
       StandsFor flow lot before (held old) × IsAtStoreLimit flow tells held moment images limit before one after old)
 
--- What a store's commit leaves by which files expire: its lot and its log's number stay, and only claims, files of
--- events, the log and what may follow it are written. Any error but the disk's comes before it.
+-- What a store's commit leaves by which files of these numbers expire: they are gone of what it keeps, also where the
+-- disk failed. Its lot, its id and its log's number stay, and only claims, files of events, the log and what may follow
+-- it are written. Any error but the disk's comes before it.
 pub record CommitsExpiry {D : Type 0} (result : Result ℕ EngineError) (moment : D → ℕ)
-    (images : D → ℕ → Files → Type 0) (s t : StoreState) (queues now_queues : List QueueState) (old new : D)
-    : Type 0 where
+    (images : D → ℕ → Files → Type 0) (numbers : List ℕ) (s t : StoreState) (queues now_queues : List QueueState)
+    (old new : D) : Type 0 where
   pub moment_is : IfOk result (λ answer. answer ≡ moment new)
   pub unwritten : (error : EngineError) → IsErrOf result error → (error ≡ Disk → ⊥)
       → (new ≡ old) × (t ≡ s) × (now_queues ≡ queues)
+  pub kept : OnOk result (IsKeptWithout numbers (kept_by s) (kept_by t))
+  pub cut_off : IsErrOf result Disk → IsKeptWithout numbers (kept_by s) (kept_by t)
   pub lot : t.lot ≡ s.lot
+  pub id : (kept_by t).store ≡ (kept_by s).store
   pub log : t.log.number ≡ s.log.number
   pub alone : WritesLog moment images s.log.number old new
 

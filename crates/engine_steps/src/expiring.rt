@@ -129,8 +129,8 @@ fn expire<D: Disk>(
         → InEach (D.images disk.old (D.moment disk.old)) (StandsFor flow.now store.old.lot before)
         → StepIsTaken result flow.now D.tells D.held D.moment D.images store.old.lot before
         (Expire expiry.connection expiry.numbers moment) disk.old disk.new }
-    ensures commits { CommitsExpiry result D.moment D.images store.old store.new queues.old queues.new
-        disk.old disk.new }
+    ensures commits { CommitsExpiry result D.moment D.images expiry.numbers store.old store.new
+        queues.old queues.new disk.old disk.new }
     ensures work { OnOk result (IsAtWorkWithQueues flow.now D.tells D.held D.moment D.images store.new queues.new
         disk.new) }
     ensures refusal { StoreRefusesExpiry result flow.now D.tells D.held D.moment D.images D.faults store.new
@@ -160,6 +160,7 @@ fn settle_expiry(
         ≡ Some (expiry.connection, expiry.numbers) }
     ensures may { IfOk result (MayExpire (kept_by store.now)) }
     ensures live { IfOk result (λ settled. HasLiveContents store.now settled.settled) }
+    ensures gone { IfOk result (λ settled. settled.settled.gone ≡ expiry.numbers) }
     ensures there { IfOk result (λ settled.
         MayExpireIn flow.now (kept_by store.now) settled.connection settled.settled.gone) }
     ensures step { IfOk result (λ settled.

@@ -38,6 +38,7 @@ same_run_on old mid new first second = record {
   checkpoint = second.checkpoint ∙ first.checkpoint;
   too_large = second.too_large ∙ first.too_large;
   lot = second.lot ∙ first.lot;
+  id = second.id ∙ first.id;
 }
 
 -- ---- a store that works on

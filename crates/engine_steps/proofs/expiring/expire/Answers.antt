@@ -16,6 +16,8 @@ use Rattle.store_core.specs.Store.{kept_by}
 use Rattle.store_core.specs.declared.error.StoreError.{StoreError}
 use Rattle.engine_queues.specs.Settling.{MayTakeFrom}
 use Rattle.run_law.proofs.Writing.{touches_log}
+use Rattle.engine_steps.specs.Tending.{IsKeptWithout}
+use Rattle.engine_steps.proofs.Commits.{id_after}
 use Rattle.engine_steps.proofs.Tends.{committed, committed_between, kept_after, limit_of, passes, refuses}
 use Rattle.engine_steps.proofs.Expired.{due_kept}
 use Rattle.engine_steps.proofs.expiring.expire.Goals as goal
@@ -131,22 +133,36 @@ returns-clause-work g c =
     }
 
 pub returns-in_err-moment-clause-commits : goal.returns-in_err-moment-clause-commits
-returns-in_err-moment-clause-commits g c = record {
-  moment_is = search rules;
-  unwritten = search rules;
-  lot = search rules;
-  log = search rules;
-  alone = touches_log g.D.Disk.moment g.D.Disk.images c.args.store.now.log.number c.args.store.now.log.number c.args.disk.now c.commit.new.disk refl c.commit.ensures.touched.alone;
-}
+returns-in_err-moment-clause-commits g c =
+    let s = c.args.store.now in
+    let change = (c.commit.ensures.changed c.requires.work.work.works).change in
+    record {
+      moment_is = search rules;
+      unwritten = search rules;
+      kept = search rules;
+      cut_off = λ is. subst (λ (ns : List ℕ). IsKeptWithout ns (kept_by s) (kept_by c.commit.new.self)) c.in_ok-expiry.ensures.gone
+          (kept_after c.in_ok-prepared.prepared s c.commit.new.self c.in_ok-expiry.expiry change c.in_ok-prepared.ensures.entry).kept;
+      lot = search rules;
+      id = id_after c.in_ok-prepared.prepared s c.commit.new.self change;
+      log = search rules;
+      alone = touches_log g.D.Disk.moment g.D.Disk.images s.log.number s.log.number c.args.disk.now c.commit.new.disk refl c.commit.ensures.touched.alone;
+    }
 
 pub returns-clause-commits : goal.returns-clause-commits
-returns-clause-commits g c = record {
-  moment_is = search rules;
-  unwritten = search rules;
-  lot = search rules;
-  log = search rules;
-  alone = touches_log g.D.Disk.moment g.D.Disk.images c.args.store.now.log.number c.args.store.now.log.number c.args.disk.now c.commit.new.disk refl c.commit.ensures.touched.alone;
-}
+returns-clause-commits g c =
+    let s = c.args.store.now in
+    let change = (c.commit.ensures.changed c.requires.work.work.works).change in
+    record {
+      moment_is = search rules;
+      unwritten = search rules;
+      kept = subst (λ (ns : List ℕ). IsKeptWithout ns (kept_by s) (kept_by c.commit.new.self)) c.in_ok-expiry.ensures.gone
+          (kept_after c.in_ok-prepared.prepared s c.commit.new.self c.in_ok-expiry.expiry change c.in_ok-prepared.ensures.entry).kept;
+      cut_off = search rules;
+      lot = search rules;
+      id = id_after c.in_ok-prepared.prepared s c.commit.new.self change;
+      log = search rules;
+      alone = touches_log g.D.Disk.moment g.D.Disk.images s.log.number s.log.number c.args.disk.now c.commit.new.disk refl c.commit.ensures.touched.alone;
+    }
 
 -- no file is placed
 pub commit-requires-clause-digests : goal.commit-requires-clause-digests

@@ -12,7 +12,7 @@ use Rattle.engine_queues.specs.Settling.{IsKeptAfter, MaySettleOver}
 use Rattle.engine_queues.proofs.ForCallers.{are_same_queues, may_still_settle}
 use Rattle.run_law.proofs.Writing.{touches_log}
 use Rattle.engine_steps.specs.declared.error.EngineError.{EngineError}
-use Rattle.engine_steps.proofs.Commits.{committed, committed_between, flow_after, kept_after, still_works}
+use Rattle.engine_steps.proofs.Commits.{committed, committed_between, flow_after, id_after, kept_after, still_works}
 use Rattle.engine_steps.proofs.Written.{cut_off_by, lot_after, refused_by_disk, unwritten_by, works_roomy}
 use Rattle.run_law.specs.Puts.{outgoing}
 use Rattle.std.proofs.lemmas.List.Elements.{All-nil}
@@ -87,6 +87,7 @@ returns-in_err-moment-clause-written g c =
     (λ flow before after work stands makes. committed_between D.held D.moment D.images flow s t t.memory.room c.args.changed.settled c.in_ok-prepared.prepared.settled c.args.disk.now c.commit.new.disk before after
     c.prepare.ensures.same c.in_ok-prepared.ensures.prepared.0 work.flow_is stands makes work.works (λ works. (c.commit.ensures.changed works).states))
     c.in_ok-send.ensures.sent (lot_after c.in_ok-prepared.prepared s t c.commit.new.self t.memory.room c.prepare.ensures.same change)
+    (id_after c.in_ok-prepared.prepared t c.commit.new.self change ∙ ap (λ (u : StoreState). (kept_by u).store) c.prepare.ensures.same)
     c.from_residual-in_err-moment.result p.1
 
 pub returns-clause-written : goal.returns-clause-written
@@ -132,4 +133,5 @@ returns-clause-written g c =
                 (c.settle.ensures flow (kept_by s) [] (may_still_settle c.args.queues.now c.reserve.new.self c.reserve.ensures.same flow (kept_by s) [] c.args.changed.settled over) after);
           };
       lot = lot_after c.in_ok-prepared.prepared s t c.commit.new.self t.memory.room same change;
+      id = id_after c.in_ok-prepared.prepared t c.commit.new.self change ∙ ap (λ (u : StoreState). (kept_by u).store) same;
     }

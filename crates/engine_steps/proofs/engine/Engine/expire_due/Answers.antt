@@ -16,7 +16,7 @@ use Rattle.engine_steps.specs.Journal.{journaled}
 use Rattle.engine_steps.specs.Ready.{EngineIsReady, expiry_in}
 use Rattle.engine_steps.specs.Running.{IsLimited, IsRunning, Stops, undone_step}
 use Rattle.engine_steps.specs.Committing.{IsAtWorkWithQueues}
-use Rattle.engine_steps.specs.Tending.{HasExpired, StepIsDone, counted_on}
+use Rattle.engine_steps.specs.Tending.{HasExpired, IsKeptWithout, StepIsDone, counted_on}
 use Rattle.engine_steps.specs.TendingParts.{RunsOnTended}
 use Rattle.engine_steps.specs.declared.error.EngineError.{EngineError}
 use Rattle.engine_steps.proofs.Expired.{are_of, due_goes, due_kept}
@@ -56,7 +56,7 @@ returns-then-entries-self-clause-run g c telling =
       goes_on = λ well opened first start time left out by run. runs_idle tells held moment images c.args.self.now opened first disk start time c.args.moment by left out run c.run_goes_on.ensures.spared;
       idle = λ well none opened first start time left out run. run;
       stopped = λ error is opened first start time left out by run.
-          let limited = stops_limited tells held moment images e e (record { flow = refl; most = refl; checkpoint = refl; too_large = refl; lot = refl }) opened first disk disk start time left out
+          let limited = stops_limited tells held moment images e e (record { flow = refl; most = refl; checkpoint = refl; too_large = refl; lot = refl; id = refl }) opened first disk disk start time left out
           (Expire expiry.connection expiry.numbers c.args.moment) (journal_full i.most) by
           c.run_goes_on.ensures.spared refl refl refl refl
           (λ m stands.
@@ -101,7 +101,7 @@ returns-in_err-expired-clause-run g c telling =
     let i = c.self.inside in
     let e : EngineState = record { flow = i.flow.now; store = i.store; queues = i.queues; listing = i.listing; last = i.last; journal = i.journal.items; most = i.most; checkpoint = i.checkpoint; since_reclaim = i.since_reclaim; failed = i.has_failed; tended = i.tended } in
     let f : EngineState = record e { store = c.expire-expired.new.store; queues = c.expire-expired.new.queues; journal = c.note.new.journal.items; tended = None } in
-    let same : IsOfSameRun e f = record { flow = refl; most = refl; checkpoint = refl; too_large = refl; lot = c.expire-expired.ensures.commits.lot } in
+    let same : IsOfSameRun e f = record { flow = refl; most = refl; checkpoint = refl; too_large = refl; lot = c.expire-expired.ensures.commits.lot; id = c.expire-expired.ensures.commits.id } in
     let ready = subst (λ (u : EngineState). EngineIsReady tells held moment images u old) (sym c.self.view_is) c.requires.ready in
     let expiry = c.in-Some.expiry in
     let due : due_expiry i.flow.now (queue_seen i.queues) c.args.moment ≡ Some (expiry.connection, expiry.numbers)
@@ -173,6 +173,7 @@ returns-in_err-expired-clause-lets_go g c =
             numbers = expiry.numbers;
             due = due;
             journal = grown ∙ ap (λ (r : Result ℕ EngineError). journaled r one i.journal.items) was;
+            kept = c.expire-expired.ensures.commits.cut_off was;
           } in
           subst (λ (u : EngineState). HasExpired c.args.moment None u f) c.self.view_is had;
       kept = λ error is apart.
@@ -215,7 +216,7 @@ returns-clause-run g c telling =
     let i = c.self.inside in
     let e : EngineState = record { flow = i.flow.now; store = i.store; queues = i.queues; listing = i.listing; last = i.last; journal = i.journal.items; most = i.most; checkpoint = i.checkpoint; since_reclaim = i.since_reclaim; failed = i.has_failed; tended = i.tended } in
     let f : EngineState = record e { store = c.expire-expired.new.store; queues = c.expire-expired.new.queues; journal = c.note.new.journal.items; since_reclaim = c.saturating_add-self-inside.result; tended = None } in
-    let same : IsOfSameRun e f = record { flow = refl; most = refl; checkpoint = refl; too_large = refl; lot = c.expire-expired.ensures.commits.lot } in
+    let same : IsOfSameRun e f = record { flow = refl; most = refl; checkpoint = refl; too_large = refl; lot = c.expire-expired.ensures.commits.lot; id = c.expire-expired.ensures.commits.id } in
     let ready = subst (λ (u : EngineState). EngineIsReady tells held moment images u old) (sym c.self.view_is) c.requires.ready in
     let expiry = c.in-Some.expiry in
     let due : due_expiry i.flow.now (queue_seen i.queues) c.args.moment ≡ Some (expiry.connection, expiry.numbers)
@@ -265,7 +266,13 @@ returns-clause-lets_go g c =
     let journal : c.note.new.journal.items ≡ i.journal.items ++ record { step = one; acked = Some (moment new) } ∷ [] = grown ∙ ap (λ (r : Result ℕ EngineError). journaled r one i.journal.items) made in
     record {
       expired = λ is.
-          let had : HasExpired c.args.moment (Some (moment new)) e f = record { connection = expiry.connection; numbers = expiry.numbers; due = due; journal = journal } in
+          let had : HasExpired c.args.moment (Some (moment new)) e f = record {
+            connection = expiry.connection;
+            numbers = expiry.numbers;
+            due = due;
+            journal = journal;
+            kept = subst (λ (r : Result ℕ EngineError). OnOk r (IsKeptWithout expiry.numbers (kept_by i.store) (kept_by c.expire-expired.new.store))) made c.expire-expired.ensures.commits.kept;
+          } in
           let more : f.since_reclaim ≡ counted_on e.since_reclaim = c.saturating_add-self-inside.ensures in
           subst (λ (u : EngineState). HasExpired c.args.moment (Some (moment new)) u f × (f.since_reclaim ≡ counted_on u.since_reclaim)) c.self.view_is (had, more);
       cut_off = search rules;

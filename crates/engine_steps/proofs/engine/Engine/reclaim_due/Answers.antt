@@ -1,6 +1,7 @@
-use Rattle.std.proofs.Common.{◌≡◌, ◌∙◌, inl, refl, rules, sym, subst, arith}
+use Rattle.std.proofs.Common.{◌≡◌, ◌∙◌, ap, inl, refl, rules, sym, subst, arith}
 use Rattle.std.specs.Prelude.{None}
 use Rattle.std.proofs.lemmas.Result.{err_from_is_err_and}
+use Rattle.flowfile_record.specs.Stored.{Kept}
 use Rattle.run_law.specs.Work.{IsAtWork, WritesLog}
 use Rattle.engine_steps.specs.Engine.{EngineState, IsOfSameRun}
 use Rattle.engine_steps.specs.Running.{IsRunning}
@@ -19,7 +20,7 @@ returns-in_err-reclaimed-clause-run g c =
     let i = c.self.inside in
     let e : EngineState = record { flow = i.flow.now; store = i.store; queues = i.queues; listing = i.listing; last = i.last; journal = i.journal.items; most = i.most; checkpoint = i.checkpoint; since_reclaim = i.since_reclaim; failed = i.has_failed; tended = i.tended } in
     let f : EngineState = record e { store = c.reclaim.new.store; tended = None } in
-    let same : IsOfSameRun e f = record { flow = refl; most = refl; checkpoint = refl; too_large = refl; lot = c.reclaim.ensures.spares.lot } in
+    let same : IsOfSameRun e f = record { flow = refl; most = refl; checkpoint = refl; too_large = refl; lot = c.reclaim.ensures.spares.lot; id = ap (λ (k : Kept). k.store) c.reclaim.ensures.spares.kept } in
     let work = subst (λ (u : EngineState). IsAtWork u.flow tells held moment images u.store old) (sym c.self.view_is) c.requires.work in
     let p = err_from_is_err_and c.from_residual.result c.from_residual.ensures.1 in
     record {
@@ -58,7 +59,7 @@ returns-clause-run g c =
     let i = c.self.inside in
     let e : EngineState = record { flow = i.flow.now; store = i.store; queues = i.queues; listing = i.listing; last = i.last; journal = i.journal.items; most = i.most; checkpoint = i.checkpoint; since_reclaim = i.since_reclaim; failed = i.has_failed; tended = i.tended } in
     let f : EngineState = record e { store = c.reclaim.new.store; since_reclaim = 0; tended = None } in
-    let same : IsOfSameRun e f = record { flow = refl; most = refl; checkpoint = refl; too_large = refl; lot = c.reclaim.ensures.spares.lot } in
+    let same : IsOfSameRun e f = record { flow = refl; most = refl; checkpoint = refl; too_large = refl; lot = c.reclaim.ensures.spares.lot; id = ap (λ (k : Kept). k.store) c.reclaim.ensures.spares.kept } in
     let work = subst (λ (u : EngineState). IsAtWork u.flow tells held moment images u.store old) (sym c.self.view_is) c.requires.work in
     record {
       goes_on = λ well opened first start time left out run.
