@@ -1,9 +1,8 @@
 -- Queues, one of which changes: whose they are then.
-use Rattle.std.proofs.Common.{◌≡◌, ◌≢◌, ℕ, zero, suc, ◌+◌, ◌<◌, ◌==◌, not, Bool, true, false, cond, List, [], ◌∷◌, length, map, set, get_or, drop, Some, IsSome, is_some, refl, sym, ap, subst, ◌∙◌, inl, inr, arith}
+use Rattle.std.proofs.Common.{◌≡◌, ◌≢◌, ℕ, zero, suc, ◌+◌, ◌<◌, ◌==◌, not, Bool, true, false, cond, List, [], ◌∷◌, length, map, set, get_or, Some, IsSome, is_some, refl, sym, ap, subst, ◌∙◌, inl, inr, arith}
 use Rattle.std.specs.Prelude.{All, count_by, slice_get}
 use Rattle.std.specs.List.{list_any}
 use Rattle.std.proofs.lemmas.Bool.{cases_eq, and_parts, not-true, eq-eqb, ne_eqb}
-use Rattle.std.proofs.lemmas.List.{drop_more}
 use Rattle.std.proofs.lemmas.List.Elements.{All-head, All-tail, All-weaker}
 use Rattle.std.proofs.lemmas.List.Sums.{sum_by-cons}
 use Rattle.std.proofs.lemmas.Option.{slice_get_read, slice_get_within}
@@ -212,10 +211,3 @@ module _ (flow : Flow) (out : List ℕ) where
         apart = λ queue got. subst (IsApart a.file) (sym (files_at k queues a.connection queue are got)) (apart_in out a.connection a k.files numbers.0 arrivals.0);
       } in
       (rest.0, (joins, rest.1))
-
--- ---- one file after the other
-
--- the file whose turn it is
-pub one_leaves : (c i : ℕ) (numbers : List ℕ) (queues : List QueueState) → i < length numbers → HasFiles c (drop i numbers) queues
-    → HasFile c (get_or numbers i 0) queues × HasFiles c (drop (i + 1) numbers) (changed_at c (queue_without (get_or numbers i 0)) queues)
-one_leaves c i numbers queues lt has = subst (λ (ns : List ℕ). HasFiles c ns queues) (drop_more numbers i 0 lt) has

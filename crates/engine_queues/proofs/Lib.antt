@@ -21,5 +21,6 @@ pub mod Shown
 pub mod Left
 pub mod Moved
 pub mod Sources
+pub mod Together
 pub mod Waiting
 pub mod Walked

@@ -110,18 +110,20 @@ fn mark_one(queue: &mut Queue, number: u64, in_flight: bool)
     }
 }
 
-// Takes files out of the queue of a connection, and marks whether it has some left.
+// Takes files out of the queue of a connection, and marks whether it has some left. If there are none to take, it may be
+// no connection.
 fn take_out(queues: &mut Vec<Queue>, occupied: &mut Vec<bool>, connection: u16, numbers: &[u64])
     requires files { HasFiles connection numbers.now queues.old.items }
     requires occupied { occupied.old.items ≡ map has_files queues.old.items }
     ensures queues { queues.new.items ≡ queues_without connection numbers.now queues.old.items }
     ensures occupied { occupied.new.items ≡ map has_files queues.new.items }
 {
-    for number in numbers {
-        let place = usize::from(connection);
-        let _ = queues[place].leave(*number);
-        occupied[place] = queues[place].len() > 0;
+    if numbers.is_empty() {
+        return;
     }
+    let place = usize::from(connection);
+    queues[place].leave_all(numbers);
+    occupied[place] = queues[place].len() > 0;
 }
 
 // Puts placed files into the queues of their connections, their contents standing where these files say, and marks that

@@ -1,12 +1,13 @@
 -- Files of some numbers, and the numbers of files that stay or rest, in the order of the queue.
-use Rattle.std.proofs.Common.{◌≡◌, ◌≢◌, inl, inr, ℕ, ◌+◌, ◌^◌, ◌<◌, ◌==◌, ◌&&◌, not, Bool, true, false, cond, List, [], ◌∷◌, map, Option, Some, None, is_some, refl, sym, ap, ◌∙◌, subst}
+use Rattle.std.proofs.Common.{◌≡◌, ◌≢◌, inl, inr, ℕ, ◌+◌, ◌^◌, ◌<◌, ◌==◌, ◌&&◌, not, Bool, true, false, cond, List, [], ◌∷◌, drop, get_or, length, map, Option, Some, None, is_some, refl, sym, ap, ◌∙◌, subst, arith}
 use Rattle.std.specs.Prelude.{All, IsSome, filter, find, sum_by}
 use Rattle.std.specs.Option.{option_map, option_map_or}
 use Rattle.std.proofs.lemmas.Bool.{true≢false, cases_Bool, cases_eq, eq-eqb, ne_eqb}
+use Rattle.std.proofs.lemmas.List.{drop_more}
 use Rattle.std.proofs.lemmas.List.Elements.{All-nil, All-cons, All-head, All-tail, All-weaker, All-filter}
 use Rattle.std.proofs.lemmas.List.Filters.{sum_by-filter_both}
 use Rattle.std.proofs.lemmas.List.Kept.{AllPairs-filter}
-use Rattle.flowfile_record.specs.NumberedItems.{item_of}
+use Rattle.flowfile_record.specs.NumberedItems.{item_of, AscendsByNumber}
 use Rattle.flowfile_record.proofs.ByNumber.{eqb_comm, item_of-without_other}
 use Rattle.prioritizer.specs.declared.prioritizer.Prioritizer.{Prioritizer}
 use Rattle.machine_model.specs.Due.{numbers_of}
@@ -17,9 +18,11 @@ use Rattle.machine_model.specs.View.{FileView, at_rest}
 use Rattle.flow_queue.specs.declared.held.Held.{Held}
 use Rattle.flow_queue.specs.declared.queue.ranked.Note.{Note}
 use Rattle.flow_queue.specs.Inside.{AreSound}
-use Rattle.flow_queue.specs.Queue.{AreApart, held_number, held_bytes, held_view, views_of, flight_of, without_file}
+use Rattle.flow_queue.specs.Leaving.{files_going, files_staying, goes_out, is_held, queue_left_by, MayBeTaken}
+use Rattle.flow_queue.specs.Queue.{QueueState, AreApart, held_number, held_bytes, held_view, views_of, flight_of, without_file}
 use Rattle.flow_queue.specs.Ranked.{IsRanked, noted_as, numbers_noted}
-use Rattle.flow_queue.specs.Swapping.{files_going, files_staying, goes_out, is_held, is_resting, resting_among}
+use Rattle.flow_queue.specs.Swapping.{is_resting, resting_among}
+use Rattle.flow_queue.proofs.Fields.{same_state}
 use Rattle.flow_queue.proofs.InOrder.{Differ, filter-mapped, in_order-filter}
 use Rattle.flow_queue.proofs.Numbered.{ascends-filter}
 use Rattle.flow_queue.proofs.Ranks.{Found, all-found, ranked-numbers}
@@ -162,10 +165,49 @@ still-there n (m ∷ ns) files apart there =
     (subst (λ (o : Option Held). IsSome o) (sym (item_of-without_other held_number m n files (All-head (λ k. k ≢ n) m ns apart))) (All-head (λ k. IsSome (item_of held_number k files)) m ns there))
     (still-there n ns files (All-tail (λ k. k ≢ n) m ns apart) (All-tail (λ k. IsSome (item_of held_number k files)) m ns there))
 
-there-at : (o : Option Held) → option_map (λ (held : Held). held.in_flight) o ≡ Some false → IsSome o
-there-at None h = cc
-there-at (Some held) h = refl
+-- one is taken
+pub still-may-go : (n : ℕ) (ns : List ℕ) (files : List Held) → MayBeTaken files (n ∷ ns) → MayBeTaken (without_file n files) ns
+still-may-go n ns files may =
+    let parts = distinct-parts n ns may.distinct in
+    record {
+      ascends = ascends-filter held_number _ files may.ascends;
+      there = still-there n ns files parts.0 (All-tail (λ k. IsSome (item_of held_number k files)) n ns may.there);
+      distinct = parts.1;
+    }
 
--- files that rest are there
-pub all-there : (files : List Held) (numbers : List ℕ) → All (λ n. flight_of n files ≡ Some false) numbers → AreThere files numbers
-all-there files numbers rest = All-weaker (λ n. flight_of n files ≡ Some false) (λ n. IsSome (item_of held_number n files)) (λ n h. there-at (item_of held_number n files) h) numbers rest
+-- the one whose turn it is, and those after it
+pub next-may : (ns : List ℕ) (i : ℕ) (files : List Held) → i < length ns → MayBeTaken files (drop i ns) → MayBeTaken files (get_or ns i 0 ∷ drop (i + 1) ns)
+next-may ns i files lt may = subst (MayBeTaken files) (drop_more ns i 0 lt) may
+
+-- ---- what is there
+
+flies-there : (o : Option Held) → IsSome (option_map (λ (held : Held). held.in_flight) o) → IsSome o
+flies-there None h = h
+flies-there (Some held) h = refl
+
+there-flies : (o : Option Held) → IsSome o → IsSome (option_map (λ (held : Held). held.in_flight) o)
+there-flies None h = h
+there-flies (Some held) h = refl
+
+pub flights-there : (files : List Held) (numbers : List ℕ) → All (λ n. IsSome (flight_of n files)) numbers → AreThere files numbers
+flights-there files numbers there =
+    All-weaker (λ n. IsSome (flight_of n files)) (λ n. IsSome (item_of held_number n files)) (λ n h. flies-there (item_of held_number n files) h) numbers there
+
+-- files that leave may be taken
+pub may-go : (files : List Held) (numbers : List ℕ) → AscendsByNumber held_number files → All (λ n. IsSome (flight_of n files)) numbers → are_distinct numbers ≡ true → MayBeTaken files numbers
+may-go files numbers up there distinct = record {
+  ascends = up;
+  there = flights-there files numbers there;
+  distinct = distinct;
+}
+
+pub has-flight : (n : ℕ) (files : List Held) → IsSome (item_of held_number n files) → IsSome (flight_of n files)
+has-flight n files there = there-flies (item_of held_number n files) there
+
+-- ---- the queue when files have left
+
+pub left-none : (queue : QueueState) → queue_left_by [] queue ≡ queue
+left-none queue = same_state (queue_left_by [] queue) queue refl refl (staying-none queue.files) (omega arith) refl refl
+
+pub left-cons : (n : ℕ) (ns : List ℕ) (queue : QueueState) → queue_left_by ns (record queue { files = without_file n queue.files; spare = queue.spare + 1 }) ≡ queue_left_by (n ∷ ns) queue
+left-cons n ns queue = same_state _ _ refl refl (sym (staying-cons n ns queue.files)) (omega arith) refl refl

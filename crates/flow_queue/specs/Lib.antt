@@ -2,6 +2,7 @@ pub mod Ages
 pub mod Counts
 pub mod Fragments
 pub mod Inside
+pub mod Leaving
 pub mod Picking
 pub mod Queue
 pub mod Ranked

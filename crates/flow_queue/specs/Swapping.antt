@@ -1,15 +1,15 @@
 -- Batches of a queue's files: which one is due, and what swapping them out and in changes.
-use Rattle.std.specs.Prelude.{◌≡◌, ◌≢◌, ℕ, ◌+◌, ◌-◌, Bool, true, false, not, List, length, map, filter, All, Option, Some, None, drop, is_some, nat_le, sum_by, if◌then◌else◌}
+use Rattle.std.specs.Prelude.{◌≡◌, ◌≢◌, ℕ, ◌+◌, ◌-◌, Bool, true, false, not, List, length, map, filter, All, Option, Some, None, drop, nat_le, sum_by, if◌then◌else◌}
 use Rattle.std.specs.List.{AllPairs}
 use Rattle.std.specs.Option.{option_map_or}
 use Rattle.flowfile_record.specs.NumberedItems.{item_of, with_item, with_items, without_item}
 use Rattle.flowfile_record.specs.declared.flow_file.FlowFile.{FlowFile}
 use Rattle.machine_model.specs.declared.flow.QueueLimits.{QueueLimits}
 use Rattle.machine_model.specs.Due.{batch_size, last_batch}
-use Rattle.machine_model.specs.Files.{are_distinct, is_number_among}
+use Rattle.machine_model.specs.Files.{are_distinct}
 use Rattle.flow_queue.specs.declared.batch.Batch.{Batch}
 use Rattle.flow_queue.specs.declared.held.Held.{Held}
-use Rattle.flow_queue.specs.declared.queue.ranked.Note.{Note}
+use Rattle.flow_queue.specs.Leaving.{files_going, files_staying}
 use Rattle.flow_queue.specs.Queue.{QueueState, IsApart, IsAtRest, held_number, held_bytes, queue_as_seen}
 
 abbrev pub number_of_batch : Batch → ℕ
@@ -35,15 +35,6 @@ batch_due queue = last_batch queue.order queue.limits (queue_as_seen queue).acti
 pub record MayGoOut (queue : QueueState) (numbers : List ℕ) : Type 0 where
   pub at_rest : All (IsAtRest queue) numbers
   pub distinct : are_distinct numbers ≡ true
-
-abbrev pub goes_out : List ℕ → Held → Bool
-goes_out numbers held = is_number_among numbers (held_number held)
-
-abbrev pub files_going : List ℕ → List Held → List Held
-files_going numbers files = filter (goes_out numbers) files
-
-abbrev pub files_staying : List ℕ → List Held → List Held
-files_staying numbers files = filter (λ held. not (goes_out numbers held)) files
 
 -- the batch of some files
 abbrev pub batch_of_files : ℕ → List ℕ → List Held → Batch
@@ -86,10 +77,6 @@ swapped_into queue batch files = record queue {
 }
 
 -- ---- numbers, and the files that they stand for
-
--- the file that is noted is there
-abbrev pub is_held : List Held → Note → Bool
-is_held files note = is_some (item_of held_number note.number files)
 
 -- a file of this number is there, and no session works on it
 abbrev pub is_resting : List Held → ℕ → Bool

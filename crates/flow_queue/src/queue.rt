@@ -6,6 +6,7 @@ mod ages;
 mod bins;
 mod choosing;
 mod counts;
+mod leaving;
 mod ranked;
 mod swapping;
 mod wholes;

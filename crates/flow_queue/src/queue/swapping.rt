@@ -1,19 +1,14 @@
 //! Batches of a queue's files: which one is due, and how it goes and comes back.
-ghost use Rattle.std.specs.Prelude.{◌≡◌, ◌+◌, ◌-◌, ◌<◌, ◌≤◌, ◌^◌, [], None, Some, min, true, false, All, drop, filter, length, map, sum_by, IfOk, IsOk, IsSome, OnOk, OnErr, is_some};
+ghost use Rattle.std.specs.Prelude.{◌≡◌, ◌+◌, ◌-◌, ◌≤◌, [], None, min, true, false, drop, filter, length, map, sum_by, IfOk, IsOk, IsSome, OnOk, OnErr, is_some};
 ghost use Rattle.std.specs.List.{reduce};
 ghost use Rattle.std.specs.Option.{unwrap_or};
-ghost use Rattle.std.specs.VecDeque.{deque_capacity};
-ghost use Rattle.flowfile_record.specs.NumberedItems.{AscendsByNumber, item_of};
 ghost use Rattle.machine_model.specs.Due.{batch_size, lowest_batch};
-ghost use Rattle.machine_model.specs.Files.{are_distinct};
-ghost use Rattle.flow_queue.specs.Counts.{AreCountsOf, count_places};
 ghost use Rattle.flow_queue.specs.Picking.{Picks, PicksAll};
-ghost use Rattle.flow_queue.specs.Queue.{queue_as_seen, held_number, held_bytes, without_file};
+ghost use Rattle.flow_queue.specs.Queue.{queue_as_seen};
 ghost use Rattle.flow_queue.specs.Ranked.{numbers_noted};
-ghost use Rattle.flow_queue.specs.Swapping.{batch_due, batch_in, last_of, number_of_batch, with_batch, MayGoOut, swapped_out_of, IsBatchOf, MayComeIn, swapped_into, files_staying, is_resting, resting_among, is_held, without_batch};
+ghost use Rattle.flow_queue.specs.Swapping.{batch_due, batch_in, last_of, number_of_batch, with_batch, MayGoOut, swapped_out_of, IsBatchOf, MayComeIn, swapped_into, is_resting, resting_among, without_batch};
 
 use super::Queue;
-use super::counts::Counts;
 use super::ranked::Note;
 use crate::batch::Batch;
 use crate::held::Held;
@@ -60,10 +55,7 @@ impl Queue {
         requires room { self.old.batch_room ≡ true }
         ensures { self.new ≡ swapped_out_of self.old batch numbers.now }
     {
-        let bytes = take_files(&mut self.files, &mut self.counts, numbers);
-        keep_standing(&mut self.by_rank, &self.files);
-        keep_standing(&mut self.by_age, &self.files);
-        self.bytes -= bytes;
+        let bytes = self.leave_together(numbers);
         self.batches.put(Batch {
             number: batch,
             files: numbers.len() as u64,
@@ -195,55 +187,6 @@ fn is_resting(number: u64, files: &NumberedList<Held>) -> bool
         Some(held) => !held.in_flight,
         None => false,
     }
-}
-
-// Takes files out, and tells how many bytes their contents have together.
-fn take_files(files: &mut NumberedList<Held>, counts: &mut Counts, numbers: &[u64]) -> u128
-    requires counted { AreCountsOf counts.old files.old.items }
-    requires few { length files.old.items < 2 ^ 63 }
-    requires ascends { AscendsByNumber held_number files.old.items }
-    requires there { All (λ number. IsSome (item_of held_number number files.old.items)) numbers.now }
-    requires distinct { are_distinct numbers.now ≡ true }
-    requires sum { sum_by held_bytes files.old.items < 2 ^ 128 }
-    ensures files { files.new.items ≡ files_staying numbers.now files.old.items }
-    ensures room { files.new.room ≡ files.old.room + length numbers.now }
-    ensures count { length files.new.items + length numbers.now ≡ length files.old.items }
-    ensures bytes { sum_by held_bytes files.old.items ≡ result + sum_by held_bytes files.new.items }
-    ensures counted { AreCountsOf counts.new files.new.items }
-    ensures places { count_places counts.new ≡ count_places counts.old }
-{
-    let mut bytes = 0;
-    for number in numbers {
-        let held = take_held(files, *number);
-        counts.leave(&held);
-        bytes += u128::from(held.size());
-    }
-    bytes
-}
-
-// Takes a file out that is there.
-fn take_held(files: &mut NumberedList<Held>, number: u64) -> Held
-    requires { IsSome (item_of held_number number files.old.items) }
-    ensures held { item_of held_number number files.old.items ≡ Some result }
-    ensures files { files.new.items ≡ without_file number files.old.items }
-    ensures room { files.new.room ≡ files.old.room + 1 }
-{
-    let Some(held) = files.take(number) else {
-        unreachable!()
-    };
-    held
-}
-
-// Keeps what is noted of files that are there.
-fn keep_standing(notes: &mut VecDeque<Note>, files: &NumberedList<Held>)
-    ensures notes { notes.new.items ≡ filter (is_held files.now.items) notes.old.items }
-    ensures capacity { deque_capacity notes.new ≡ deque_capacity notes.old }
-{
-    notes.retain(
-        |note: &Note| -> bool
-            ensures { result ≡ is_held files.entry.now.items note.now }
-        { files.get(note.number).is_some() },
-    );
 }
 
 fn lowest_number(batches: &NumberedList<Batch>) -> Option<u64>

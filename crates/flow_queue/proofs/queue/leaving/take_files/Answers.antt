@@ -1,27 +1,21 @@
-use Rattle.std.proofs.Common.{◌≡◌, ℕ, ◌+◌, true, get_or, drop, length, length-drop, sym, ap, ◌∙◌, subst, arith}
-use Rattle.std.specs.Prelude.{All, IsSome, sum_by}
+use Rattle.std.proofs.Common.{ℕ, ◌+◌, get_or, drop, length, length-drop, sym, ap, ◌∙◌, subst, arith}
+use Rattle.std.specs.Prelude.{IsSome, sum_by}
 use Rattle.std.proofs.lemmas.List.{drop_more, drop_all}
-use Rattle.std.proofs.lemmas.List.Elements.{All-head, All-tail}
-use Rattle.flowfile_record.specs.NumberedItems.{item_of, AscendsByNumber}
+use Rattle.std.proofs.lemmas.List.Elements.{All-head}
+use Rattle.flowfile_record.specs.NumberedItems.{item_of}
 use Rattle.flowfile_record.proofs.ByNumber.{length-without}
-use Rattle.machine_model.specs.Files.{are_distinct}
 use Rattle.flow_queue.specs.Counts.{AreCountsOf}
+use Rattle.flow_queue.specs.Leaving.{files_staying, MayBeTaken}
 use Rattle.flow_queue.specs.Queue.{held_number, held_bytes}
-use Rattle.flow_queue.specs.Swapping.{files_staying}
 use Rattle.flow_queue.proofs.Counting.{counts-taken}
 use Rattle.flow_queue.proofs.Fields.{one_gone}
-use Rattle.flow_queue.proofs.Numbered.{ascends-filter}
-use Rattle.flow_queue.proofs.Swapped.{staying-cons, staying-none, distinct-parts, still-there}
-use Rattle.flow_queue.proofs.queue.swapping.take_files.Goals as goal
+use Rattle.flow_queue.proofs.Swapped.{next-may, staying-cons, staying-none, still-may-go}
+use Rattle.flow_queue.proofs.queue.leaving.take_files.Goals as goal
 
 pub take_held-held-requires : goal.take_held-held-requires
 take_held-held-requires c =
-    let files = c.loop-number.files.items in
-    let ns = c.args.numbers.now in
-    let i = c.loop-number.number-index in
-    let rest = drop_more ns i 0 c.loop-number-test.true in
-    All-head (λ n. IsSome (item_of held_number n files)) (get_or ns i 0) (drop (i + 1) ns)
-    (subst (All (λ n. IsSome (item_of held_number n files))) rest c.loop-number.invariant.there)
+    let may = next-may c.args.numbers.now c.loop-number.number-index c.loop-number.files.items c.loop-number-test.true c.loop-number.invariant.may in
+    All-head (λ n. IsSome (item_of held_number n c.loop-number.files.items)) (get_or c.args.numbers.now c.loop-number.number-index 0) (drop (c.loop-number.number-index + 1) c.args.numbers.now) may.there
 
 pub leave-requires-clause-few : goal.leave-requires-clause-few
 leave-requires-clause-few c = omega (arith, c.loop-number.invariant.counted.all, c.loop-number.invariant.count, c.requires.few, length-drop {A = ℕ})
@@ -29,7 +23,7 @@ leave-requires-clause-few c = omega (arith, c.loop-number.invariant.counted.all,
 pub overflow_add-bytes : goal.overflow_add-bytes
 overflow_add-bytes c =
     let n = get_or c.args.numbers.now c.loop-number.number-index 0 in
-    let gone = one_gone n c.take_held-held.result c.loop-number.files.items c.loop-number.invariant.ascends c.take_held-held.ensures.held in
+    let gone = one_gone n c.take_held-held.result c.loop-number.files.items c.loop-number.invariant.may.ascends c.take_held-held.ensures.held in
     omega (arith, gone, c.loop-number.invariant.bytes, c.requires.sum, c.from-bytes.ensures, c.size.ensures)
 
 pub loop-number-preserved : goal.loop-number-preserved
@@ -41,20 +35,17 @@ loop-number-preserved c =
     let later = drop (i + 1) ns in
     let held = c.take_held-held.result in
     let rest = drop_more ns i 0 c.loop-number-test.true in
-    let parts = distinct-parts n later (subst (λ l. are_distinct l ≡ true) rest c.loop-number.invariant.distinct) in
-    let there = All-tail (λ m. IsSome (item_of held_number m files)) n later (subst (All (λ m. IsSome (item_of held_number m files))) rest c.loop-number.invariant.there) in
+    let may = next-may ns i files c.loop-number-test.true c.loop-number.invariant.may in
     let taken = c.take_held-held.ensures.files in
-    let gone = one_gone n held files c.loop-number.invariant.ascends c.take_held-held.ensures.held in
-    let fewer = length-without held_number n files held c.loop-number.invariant.ascends c.take_held-held.ensures.held in
+    let gone = one_gone n held files may.ascends c.take_held-held.ensures.held in
+    let fewer = length-without held_number n files held may.ascends c.take_held-held.ensures.held in
     record {
-      ascends = subst (AscendsByNumber held_number) (sym taken) (ascends-filter held_number _ files c.loop-number.invariant.ascends);
-      there = subst (λ fs. All (λ m. IsSome (item_of held_number m fs)) later) (sym taken) (still-there n later files parts.0 there);
-      distinct = parts.1;
+      may = subst (λ fs. MayBeTaken fs later) (sym taken) (still-may-go n later files may);
       files = ap (files_staying later) taken ∙ sym (staying-cons n later files) ∙ ap (λ l. files_staying l files) (sym rest) ∙ c.loop-number.invariant.files;
       room = omega (arith, c.loop-number.invariant.room, ap length rest, c.take_held-held.ensures.room);
       count = omega (arith, c.loop-number.invariant.count, ap length rest, ap length taken, fewer);
       counted = subst (AreCountsOf c.leave.new.self) (sym taken)
-          (c.leave.ensures.counted _ (counts-taken c.loop-number.counts n held files c.loop-number.invariant.ascends c.take_held-held.ensures.held c.loop-number.invariant.counted));
+          (c.leave.ensures.counted _ (counts-taken c.loop-number.counts n held files may.ascends c.take_held-held.ensures.held c.loop-number.invariant.counted));
       places = c.leave.ensures.places ∙ c.loop-number.invariant.places;
       bytes = omega (arith, c.loop-number.invariant.bytes, gone, ap (sum_by held_bytes) taken, c.from-bytes.ensures, c.size.ensures);
     }

@@ -1,18 +1,14 @@
-use Rattle.std.proofs.Common.{◌≡◌, ◌+◌, true, drop, length}
-use Rattle.std.specs.Prelude.{All, IsSome, sum_by}
-use Rattle.flowfile_record.specs.NumberedItems.{item_of, AscendsByNumber}
-use Rattle.machine_model.specs.Files.{are_distinct}
+use Rattle.std.proofs.Common.{◌≡◌, ◌+◌, drop, length}
+use Rattle.std.specs.Prelude.{sum_by}
 use Rattle.flow_queue.specs.Counts.{AreCountsOf, count_places}
-use Rattle.flow_queue.specs.Queue.{held_number, held_bytes}
-use Rattle.flow_queue.specs.Swapping.{files_staying}
-use Rattle.flow_queue.proofs.queue.swapping.take_files.Given as goal
+use Rattle.flow_queue.specs.Leaving.{files_staying, MayBeTaken}
+use Rattle.flow_queue.specs.Queue.{held_bytes}
+use Rattle.flow_queue.proofs.queue.leaving.take_files.Given as goal
 
 -- the files that are left, without those of the numbers that are left
 abbrev pub invariant-loop-number : goal.invariant-loop-number
 invariant-loop-number l = record {
-  ascends : AscendsByNumber held_number l.files.items;
-  there : All (λ number. IsSome (item_of held_number number l.files.items)) (drop l.number-index l.numbers);
-  distinct : are_distinct (drop l.number-index l.numbers) ≡ true;
+  may : MayBeTaken l.files.items (drop l.number-index l.numbers);
   files : files_staying (drop l.number-index l.numbers) l.files.items ≡ files_staying l.numbers l.initial.files.items;
   room : l.files.room + length (drop l.number-index l.numbers) ≡ l.initial.files.room + length l.numbers;
   count : length l.files.items + length l.numbers ≡ length l.initial.files.items + length (drop l.number-index l.numbers);
