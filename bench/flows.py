@@ -111,4 +111,5 @@ def main():
                   f"{FRAGMENTS[1]:,} {more:,}; ratio {more / max(once, 1):.2f}", flush=True)
 
 
-main()
+if __name__ == "__main__":
+    main()

@@ -53,6 +53,9 @@ FEW, MORE = 20, 120
 # Each further file may ask the system so many times at most, with its share of what comes once in many files.
 CALLS_OF_A_FILE = 36
 
+# A line of what `strace -c` counts: how many calls, and of which name.
+CALLS = re.compile(r"^ *[\d.]+ +[\d.]+ +\d+ +(\d+) (?: *\d+)? *(\w+)$", re.MULTILINE)
+
 # Of these sizes all contents of a run go into one claim.
 SMALL = 64
 
@@ -223,7 +226,7 @@ def calls(program, parent, count):
     with work_folder(parent) as folder:
         write_files(folder / "in", many(count, SMALL))
         table = traced(program, folder, "-c")
-        rows = re.findall(r"^ *[\d.]+ +[\d.]+ +\d+ +(\d+) (?: *\d+)? *(\w+)$", table, re.MULTILINE)
+        rows = CALLS.findall(table)
         return {name: int(number) for number, name in rows if name != "total"}
 
 

@@ -4,8 +4,13 @@
 Of a store that a stop may leave, the files that wait are delivered, its log is mended, and what doesn't matter goes.
 A damaged store gives status 4, and nothing is written anywhere. Of each damage the reader in store_reader.py has to
 say the same as the table here.
+
+Swap files, which no program writes yet, are written and read from the format alone: whole, cut short and with changed
+bits. Those of crates/repository_cases, which another program made, have to be the same byte by byte.
 """
 
+import hashlib
+import json
 import re
 import struct
 
@@ -14,8 +19,8 @@ import store_format
 import store_reader
 from store_format import (CLOSED, EVENT, GET, GROUP, OPEN, PUT, SWAP_IN, Age, Batch, Begin, Content, Damage, Expire,
                           Group, Session, SwapOut, Writer, block, entry, event_payload, events_files, frame, log,
-                          snapshot)
-from store_reader import state_of
+                          snapshot, swap_file)
+from store_reader import batch_of, state_of
 from support import (DAMAGED, DONE, ROOT, Report, find_program, names, need, need_status, options, photo, put_store,
                      read_files, run, work_folder, write_files)
 
@@ -216,6 +221,7 @@ SOUND = {
         first("a", "b")),
     "other claims, batches and events don't matter": (
         store(claim_3=b"x", claim_70000=b"y", swap_1=b"z", events_1=b"w", events_70000=b"v"), ABC),
+    "a whole swap file of a batch that nothing names": (store(swap_1=swap_file(THREE.state.files.values())), ABC),
     "bytes behind the last event": (store(events_0=EVENTS + b"\xff" * 9), ABC),
     "a whole event behind the last one": (store(BEGIN + A + CLOSED), first("a")),
 }
@@ -375,8 +381,12 @@ DAMAGE = {
                                       ended(at=HEAD_SIZE + len(BATCH), kind="snapshot")),
     # Batches, contents and events.
     "a batch in the snapshot": (counted([BATCH]), ended(kind="swap", cause="Short")),
+    "a batch in the snapshot, with its swap file": (counted([BATCH]) | {"swap-1": swap_file(FILES[:2])},
+                                                    ended(kind="swap", cause="Short")),
     "a batch that an entry swaps out": (store(of(1, [A, frame(SwapOut(0, 1, (1,)))]), swap_1=b"x"),
                                         ended(kind="swap", cause="Short")),
+    "a batch that an entry swaps out, with its swap file": (
+        store(of(1, [A, frame(SwapOut(0, 1, (1,)))]), swap_1=swap_file(FILES[:1])), ended(kind="swap", cause="Short")),
     "a content cut short": (store(claims={"claim-0": b"onedre"}), ended(0, 3, "Short", "claim")),
     "no claim": (store(claims={}), ended(0, 0, "Short", "claim")),
     "one bit of a content": (store(claims={"claim-0": b"onedrej"}), ended(0, 3, "Digest", "claim")),
@@ -412,6 +422,7 @@ DAMAGE = {
     "no log, and a greater one that is passed over": ({"log-2": CLOSED, "snapshot-3": EMPTY}, ended(2)),
     "no log, and a greater snapshot": ({"snapshot-2": EMPTY, "swap-1": b"x"}, ended(2, kind="snapshot")),
     "no log, and a batch": ({"swap-1": b"x", "claim-0": b"x"}, ended(kind="swap")),
+    "no log, and a whole swap file": ({"swap-0": swap_file(FILES)}, ended(0, kind="swap")),
     "no log, and events": ({"events-0": b"x"}, ended(0, kind="events")),
 }
 
@@ -466,6 +477,118 @@ def damaged(program, parent, case):
         need(names(folder) == ["flow.json", "in", "out", "store"], f"it made {names(folder)}")
 
 
+# ---- swap files
+
+# The swap files of crates/repository_cases are read as this batch.
+CASES_BATCH = 1
+
+
+def swapped(*files):
+    """These files as a swap file has them."""
+    return [file._replace(connection=0) for file in files]
+
+
+def made_for_cases(count):
+    """The files that crates/repository_cases makes by their numbers."""
+    for number in range(2, 3 * count + 2, 3):
+        content = Content(number // 1000 % 65_536, number % 1000 * 100, 100,
+                          hashlib.sha256(struct.pack(">Q", number)).digest())
+        yield store_format.FlowFile(0, number, (("filename", f"file-{number}"),), content, 1000, number % 2,
+                                    number // 2)
+
+
+def damage_text(data, damage):
+    """What crates/repository_cases prints of the damage of a swap file of these bytes."""
+    place, left = f"{damage.kind}-{damage.number} at {damage.offset}: ", data[damage.offset:]
+    if damage.cause == "Form":
+        return place + "no reading"
+    size = int.from_bytes(left[:4], "big")
+    if damage.cause == "Short":
+        needed = store_format.HEADER if len(left) < store_format.HEADER else size + store_format.OVERHEAD
+        return f"{place}{needed} bytes needed, {len(left)} there"
+    end = store_format.HEADER + size
+    found = hashlib.sha256(left[4:end]).hexdigest()
+    return f"{place}digest {left[end:end + store_format.DIGEST].hex()} stored, {found} found"
+
+
+def batch_text(case):
+    """What crates/repository_cases prints of a case of a batch."""
+    if "made_batch" in case:
+        files = list(made_for_cases(case["made_batch"]))
+        data = swap_file(files)
+        need(batch_of(CASES_BATCH, data) == files, f"of {case} other files are read")
+        return f"{len(files)} files, 0 bytes left, {len(data)} bytes there, {hashlib.sha256(data).hexdigest()}"
+    data = bytes.fromhex(case["batch"])
+    read = batch_of(CASES_BATCH, data)
+    if isinstance(read, Damage):
+        return damage_text(data, read)
+    return f"{len(read)} files, 0 bytes left, {swap_file(read).hex()} there"
+
+
+def batches_of_the_cases(_program, _parent):
+    """The swap files of crates/repository_cases say the same here: files, which are written alike, or a damage."""
+    crate = ROOT / "crates" / "repository_cases"
+    cases = map(json.loads, (crate / "stdin").read_text().splitlines())
+    tried = [(case, said) for case, said in zip(cases, (crate / "stdout").read_text().splitlines(), strict=True)
+             if ("batch" in case or "made_batch" in case) and "failing" not in case]
+    for case, said in tried:
+        text = batch_text(case)
+        need(text == said, f"{str(case)[:120]}: {text[:200]}, where it prints {said[:200]}")
+    need(len(tried) >= 10, f"only {len(tried)} cases have a batch")
+    return f"{len(tried)} cases"
+
+
+def block_of(starts, at):
+    """Where the block begins that has the byte at an offset."""
+    return max(start for start in starts if start <= at)
+
+
+def cut_and_changed_batches(_program, _parent):
+    """A swap file is read back as its files, whatever follows it; cut anywhere, or with one bit of any byte changed, it
+    is damaged at the block of that byte."""
+    data = swap_file(FILES)
+    blocks = file_blocks(*swapped(*FILES))
+    starts = [len(b"".join(blocks[:place])) for place in range(len(blocks) + 1)]
+    for behind in (b"", b"\0", data):
+        need(batch_of(7, data + behind) == swapped(*FILES), f"other files are read, with {len(behind)} bytes behind")
+    for size in range(len(data)):
+        found = batch_of(7, data[:size])
+        need(found == Damage("swap", 7, block_of(starts, size), "Short"), f"of {size} bytes the reader says {found}")
+    for at in range(len(data)):
+        for bit in range(8):
+            start = block_of(starts, at)
+            found = batch_of(7, flipped(data, at, bit))
+            # A changed length cuts the block, names one that is too long, or gives it another digest.
+            causes = ("Digest",) if at - start >= 4 else ("Digest", "Short", "Form")
+            need(isinstance(found, Damage) and found[:3] == ("swap", 7, start) and found.cause in causes,
+                 f"byte {at}, bit {bit}: the reader says {found}")
+    return f"{len(data)} cuts, {8 * len(data)} bits"
+
+
+def bent_batches(_program, _parent):
+    """Blocks that are whole, and have no place in a swap file."""
+    one, two = file_blocks(*swapped(*FILES[:2]))
+    end = block(store_format.END, struct.pack(">Q", 2))
+    wrong = {"another connection": (len(one), one + file_blocks(FILES[1]._replace(connection=1))[0] + end),
+             "a number twice": (len(one), one + one + end),
+             "numbers that fall": (len(two), two + one + end),
+             "an End that counts itself": (len(one + two), one + two + block(store_format.END, struct.pack(">Q", 3))),
+             "an End that counts too few": (len(one + two), one + two + block(store_format.END, struct.pack(">Q", 1))),
+             "a Head": (0, EMPTY),
+             "a Batch": (len(one), one + BATCH + end),
+             "a File with a byte left over": (len(one), one + block(store_format.FILE, two[5:-32] + b"\0") + end),
+             "a File with a byte missing": (len(one), one + block(store_format.FILE, two[5:-33]) + end),
+             "an End with a byte left over": (
+                 len(one + two), one + two + block(store_format.END, struct.pack(">Q", 2) + b"\0")),
+             "a length past 2^30": (len(one), one + struct.pack(">I", 2**30 + 1) + two[4:] + end)}
+    for what, (at, data) in wrong.items():
+        found = batch_of(7, data)
+        need(found == Damage("swap", 7, at, "Form"), f"{what}: the reader says {found}")
+    return f"{len(wrong)} files"
+
+
+# ---- the examples of the docs
+
 def dumps():
     """The examples in bytes of docs/STORE.md, in their order: each begins at place 0."""
     text = (ROOT / "docs" / "STORE.md").read_text()
@@ -480,8 +603,10 @@ def dumps():
 
 def example(program, parent):
     """The worked example of the docs is what the format says, and what the program writes but for id and moments."""
-    writer = Writer(EXAMPLE_STORE, EXAMPLE_MOMENT).get("a.txt", b"hi").put()
-    need(dumps() == [writer.first, writer.log(), writer.files()["events-0"]], "it isn't what the format says")
+    writer = Writer(EXAMPLE_STORE, EXAMPLE_MOMENT).get("a.txt", b"hi")
+    batch = swap_file(writer.state.files.values())
+    writer.put()
+    need(dumps() == [writer.first, writer.log(), writer.files()["events-0"], batch], "it isn't what the format says")
     with work_folder(parent) as folder:
         write_files(folder / "in", {"a.txt": b"hi"})
         need_status(run(program, folder), DONE)
@@ -529,6 +654,9 @@ def main():
     report.case("the worked example of docs/STORE.md", example, program, given.folder)
     report.case("the smaller examples of docs/STORE.md", smaller_examples, program, given.folder)
     report.case("a changed bit is told, unless it is a gate's", changed_bits, program, given.folder)
+    report.case("the swap files of crates/repository_cases", batches_of_the_cases, program, given.folder)
+    report.case("swap files cut short, and with a changed bit", cut_and_changed_batches, program, given.folder)
+    report.case("swap files with blocks that have no place there", bent_batches, program, given.folder)
     for case in SOUND:
         report.case(f"opens: {case}", sound, program, given.folder, case)
     for case in DAMAGE:

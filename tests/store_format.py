@@ -1,8 +1,8 @@
 """What a store keeps, and its files, written from their format alone (docs/STORE.md), without the program.
 
 A store's files are a map from names, as `log-1`, to bytes; a file that isn't there is an empty one. `log`, `snapshot`,
-`Claims` and `events_files` write them, also records that the program doesn't write: groups of entries, agings, batches,
-and the second version of the format. store_reader.py says for which state they stand.
+`Claims` and `events_files` write them, also records that the program doesn't write: groups of entries, agings, batches
+with their swap files, and the second version of the format. store_reader.py says for which state they stand.
 """
 
 import dataclasses
@@ -324,11 +324,22 @@ def batch_payload(batch):
             + uint(batch.encoded, 8))
 
 
+def with_end(blocks):
+    """These blocks, and an End that counts them."""
+    return b"".join(blocks) + block(END, uint(len(blocks), 8))
+
+
 def snapshot(state):
     blocks = [block(HEAD, head(state))]
     blocks += [block(FILE, active_file(state.files[number])) for number in sorted(state.files)]
     blocks += [block(BATCH, batch_payload(state.batches[number])) for number in sorted(state.batches)]
-    return b"".join(blocks) + block(END, uint(len(blocks), 8))
+    return with_end(blocks)
+
+
+def swap_file(files):
+    """The swap file of a batch of these files, which ascend by number. It doesn't say of which queue they are: the
+    connection is 0."""
+    return with_end([block(FILE, active_file(file._replace(connection=0))) for file in files])
 
 
 def event_payload(event):

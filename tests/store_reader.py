@@ -4,7 +4,8 @@ A store's files are a map from names, as `log-1`, to bytes; a file that isn't th
 for which state they stand, or names their first damage. store_format.py has the records, and writes them.
 
 Records of both versions of the format are read, and a group of entries. A store of the second version is damaged, since
-none is in force; so is one in which a batch matters: the file that is wanted counts as absent.
+none is in force; so is one in which a batch matters: the file that is wanted counts as absent. `batch_of` says what a
+swap file has by itself.
 """
 
 import collections
@@ -197,6 +198,17 @@ def block_at(data, start, damaged):
     return body[0], body[1:], end
 
 
+def record_at(data, start, wanted, damaged):
+    """The kind of the block at an offset, what it says, and where it ends. `wanted` has how each kind is read."""
+    kind, payload, end = block_at(data, start, damaged)
+    if kind not in wanted:
+        raise damaged("Form")
+    try:
+        return kind, whole(payload, wanted[kind]), end
+    except Unreadable:
+        raise damaged("Form") from None
+
+
 # ---- the log
 
 def is_passed_over(data):
@@ -247,22 +259,14 @@ def snapshot_of(number, data):
     def damaged_at(at):
         return lambda cause: Damaged("snapshot", number, at, cause)
 
-    def read(at, wanted):
-        kind, payload, end = block_at(data, at, damaged_at(at))
-        if kind not in wanted:
-            raise damaged_at(at)("Form")
-        try:
-            return kind, whole(payload, wanted[kind]), end
-        except Unreadable:
-            raise damaged_at(at)("Form") from None
-
-    _, state, at = read(0, {HEAD: Fields.head})
+    _, state, at = record_at(data, 0, {HEAD: Fields.head}, damaged_at(0))
     if (state.version != FIRST or not are_distinct(state.connections)
             or 0 in (state.next_number, state.next_arrival, state.next_batch)):
         raise damaged_at(0)("Form")
     last, arrivals, encoded = 0, set(), 0
     while True:
-        kind, value, end = read(at, {FILE: Fields.active_file, BATCH: Fields.batch, END: Fields.end})
+        kind, value, end = record_at(data, at, {FILE: Fields.active_file, BATCH: Fields.batch, END: Fields.end},
+                                     damaged_at(at))
         if kind == FILE and joins(state, value, last, arrivals, encoded):
             state.files[value.number] = value
             last, encoded = value.number, encoded + record_size(value)
@@ -274,6 +278,32 @@ def snapshot_of(number, data):
         else:
             raise damaged_at(at)("Form")
         at = end
+
+
+# ---- a swap file
+
+def swapped_files(batch, data):
+    """The files of a batch, as its swap file has them. What stands behind its End doesn't matter."""
+    files, at = [], 0
+    while True:
+        def damaged(cause, at=at):
+            return Damaged("swap", batch, at, cause)
+        kind, value, at = record_at(data, at, {FILE: Fields.active_file, END: Fields.end}, damaged)
+        last = files[-1].number if files else 0
+        if kind == FILE and value.connection == 0 and value.number > last:
+            files.append(value)
+        elif kind == END and value == len(files):
+            return files
+        else:
+            raise damaged("Form")
+
+
+def batch_of(batch, data):
+    """The files of a batch whose swap file has these bytes, or its first damage."""
+    try:
+        return swapped_files(batch, data)
+    except Damaged as error:
+        return error.damage
 
 
 # ---- the entries' fit

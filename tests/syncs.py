@@ -12,8 +12,9 @@ import re
 
 import printed
 import store_format
-from support import (DAMAGED, DISK, DONE, INBOX, MARKER, OUTBOX, REFUSED, Report, find_program, names, need, need_status,
-                     none_aside, options, photo, read_files, run, traced, work_folder, write_files)
+from support import (DAMAGED, DISK, DONE, INBOX, MARKER, OUTBOX, REFUSED, THE_TEXT, Report, find_program, names, need,
+                     need_status, none_aside, options, photo, put_flow, read_files, run, traced, work_folder,
+                     write_files)
 
 FILES = {"a": b"first", "b": b"", "c": bytes(range(256)) * 9}
 
@@ -108,6 +109,11 @@ def is_store(sync):
 def mark(folder):
     lock = folder / "store" / "lock"
     return lock.read_bytes() if lock.exists() else None
+
+
+def kept(folder):
+    """The files of the store with their bytes, without its lock."""
+    return {name: data for name, data in read_files(folder / "store").items() if name != "lock"}
 
 
 def inodes(folder):
@@ -209,6 +215,37 @@ class Cases:
                 need(status == wanted, f"status {status}")
                 standing = [("fdatasync", f"store/{name}") for name in files]
                 need(in_any_order(syncs) == in_any_order([*FOLDERS, *standing, STORE]), f"{syncs}")
+
+    def of_what_is_marked_and_not_opened(self):
+        """A store that is damaged or of another flow, and whose lock a refused sync has marked: its files are written
+        anew before 4 or 3 is told, with the bytes that they have. Then no mark is left: a second run writes nothing."""
+        def tear(folder):
+            write_files(folder / "store", {"claim-0": b"torn!"})
+
+        def other_flow(folder):
+            put_flow(folder, THE_TEXT + b" ")
+
+        for change, wanted in ((tear, DAMAGED), (other_flow, REFUSED)):
+            with self.folder() as folder:
+                self.marked(folder)
+                change(folder)
+                self.writes_anew_alone(folder, wanted)
+
+    def writes_anew_alone(self, folder, wanted):
+        """A run ends with this status. Each file of the store is another one with the same bytes, all else stays."""
+        outside = [folder / name for name in ("in", "out", "flow.json")]
+        files, before, others = kept(folder), inodes(folder), photo(*outside)
+        status, syncs = syncs_of(self.program, folder)
+        need(status == wanted, f"status {status} where {wanted} is wanted")
+        need(syncs == [*FOLDERS, *[COPY] * len(files), STORE], f"status {status}: {syncs}")
+        need(mark(folder) == b"\0", f"status {status}: the lock holds {mark(folder)}")
+        need(kept(folder) == files, f"status {status}: the store has other bytes")
+        after = inodes(folder)
+        need(all(after[name] != before[name] for name in files), f"status {status}: {after}, and was {before}")
+        need(photo(*outside) == others, f"status {status}: more was written")
+        stays = photo(folder)
+        need_status(run(self.program, folder), wanted)
+        need(photo(folder) == stays, f"status {status}: the second run changed something")
 
     # Each is refused alone.
 
@@ -343,6 +380,8 @@ def main():
             ("the syncs of a run over a store in which files wait", cases.of_a_queue),
             ("the syncs of a run over a store that has to be mended", cases.of_a_mended_store),
             ("a damaged store and another flow's: the opening's first sync alone", cases.of_what_is_not_opened),
+            ("the same with a marked lock: 4 and 3, and each file written anew with its bytes",
+             cases.of_what_is_marked_and_not_opened),
             ("each sync of a run in a new folder is refused alone", cases.in_a_new_folder),
             ("each sync of a run over a store that stands is refused alone", cases.in_a_store_that_stands),
             ("each sync of a run that writes a store anew is refused alone", cases.in_a_marked_store),
