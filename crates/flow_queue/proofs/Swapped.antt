@@ -18,7 +18,7 @@ use Rattle.machine_model.specs.View.{FileView, at_rest}
 use Rattle.flow_queue.specs.declared.held.Held.{Held}
 use Rattle.flow_queue.specs.declared.queue.ranked.Note.{Note}
 use Rattle.flow_queue.specs.Inside.{AreSound}
-use Rattle.flow_queue.specs.Leaving.{files_going, files_staying, goes_out, is_held, queue_left_by, MayBeTaken}
+use Rattle.flow_queue.specs.Leaving.{files_going, files_staying, goes_out, is_held, queue_left_by, MayLeaveTogether}
 use Rattle.flow_queue.specs.Queue.{QueueState, AreApart, held_number, held_bytes, held_view, views_of, flight_of, without_file}
 use Rattle.flow_queue.specs.Ranked.{IsRanked, noted_as, numbers_noted}
 use Rattle.flow_queue.specs.Swapping.{is_resting, resting_among}
@@ -166,7 +166,7 @@ still-there n (m ∷ ns) files apart there =
     (still-there n ns files (All-tail (λ k. k ≢ n) m ns apart) (All-tail (λ k. IsSome (item_of held_number k files)) m ns there))
 
 -- one is taken
-pub still-may-go : (n : ℕ) (ns : List ℕ) (files : List Held) → MayBeTaken files (n ∷ ns) → MayBeTaken (without_file n files) ns
+pub still-may-go : (n : ℕ) (ns : List ℕ) (files : List Held) → MayLeaveTogether files (n ∷ ns) → MayLeaveTogether (without_file n files) ns
 still-may-go n ns files may =
     let parts = distinct-parts n ns may.distinct in
     record {
@@ -176,8 +176,8 @@ still-may-go n ns files may =
     }
 
 -- the one whose turn it is, and those after it
-pub next-may : (ns : List ℕ) (i : ℕ) (files : List Held) → i < length ns → MayBeTaken files (drop i ns) → MayBeTaken files (get_or ns i 0 ∷ drop (i + 1) ns)
-next-may ns i files lt may = subst (MayBeTaken files) (drop_more ns i 0 lt) may
+pub next-may : (ns : List ℕ) (i : ℕ) (files : List Held) → i < length ns → MayLeaveTogether files (drop i ns) → MayLeaveTogether files (get_or ns i 0 ∷ drop (i + 1) ns)
+next-may ns i files lt may = subst (MayLeaveTogether files) (drop_more ns i 0 lt) may
 
 -- ---- what is there
 
@@ -194,7 +194,7 @@ flights-there files numbers there =
     All-weaker (λ n. IsSome (flight_of n files)) (λ n. IsSome (item_of held_number n files)) (λ n h. flies-there (item_of held_number n files) h) numbers there
 
 -- files that leave may be taken
-pub may-go : (files : List Held) (numbers : List ℕ) → AscendsByNumber held_number files → All (λ n. IsSome (flight_of n files)) numbers → are_distinct numbers ≡ true → MayBeTaken files numbers
+pub may-go : (files : List Held) (numbers : List ℕ) → AscendsByNumber held_number files → All (λ n. IsSome (flight_of n files)) numbers → are_distinct numbers ≡ true → MayLeaveTogether files numbers
 may-go files numbers up there distinct = record {
   ascends = up;
   there = flights-there files numbers there;

@@ -21,7 +21,7 @@ queue_left_by numbers queue =
     record queue { files = files_staying numbers queue.files; spare = queue.spare + length numbers }
 
 -- files that may be taken one by one: they stand by their numbers, those of these numbers are there, each named once
-pub record MayBeTaken (files : List Held) (numbers : List ℕ) : Type 0 where
+pub record MayLeaveTogether (files : List Held) (numbers : List ℕ) : Type 0 where
   pub ascends : AscendsByNumber held_number files
   pub there : All (λ number. IsSome (item_of held_number number files)) numbers
   pub distinct : are_distinct numbers ≡ true

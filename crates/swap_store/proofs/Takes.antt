@@ -9,22 +9,22 @@ use Rattle.block_file.specs.Address.{HasBlockPast, reading_at}
 use Rattle.block_file.specs.declared.read.BlockAddress.{BlockAddress}
 use Rattle.record_codec.specs.Block.{Reading, Whole, Cut, Long, Differs}
 use Rattle.record_codec.specs.declared.block.TheConstants.{BLOCK_OVERHEAD}
-use Rattle.swap_store.specs.Memory.{BlockTakes, PartTakes}
+use Rattle.swap_store.specs.Memory.{BatchBlockTakes, BatchPartTakes}
 use Rattle.swap_store.specs.Reading.{Adds, file_step}
 
 module _ (longest : ℕ) (files : List FlowFile) (reading : Reading) (kind : ℕ) (payload : List ℕ) (is : reading ≡ Whole kind payload) where
-  pub long_takes : longest < length payload + BLOCK_OVERHEAD → BlockTakes longest files reading
-  long_takes long = subst (BlockTakes longest files) (sym is) (inl long)
+  pub long_takes : longest < length payload + BLOCK_OVERHEAD → BatchBlockTakes longest files reading
+  long_takes long = subst (BatchBlockTakes longest files) (sym is) (inl long)
 
-  pub part_takes : PartTakes files kind payload → BlockTakes longest files reading
-  part_takes takes = subst (BlockTakes longest files) (sym is) (inr takes)
+  pub part_takes : BatchPartTakes files kind payload → BatchBlockTakes longest files reading
+  part_takes takes = subst (BatchBlockTakes longest files) (sym is) (inr takes)
 
 -- a block past a capacity takes memory
-pub past_takes : (held : Files) (address : BlockAddress) (capacity : ℕ) (files : List FlowFile) → HasBlockPast held address capacity → BlockTakes capacity files (reading_at held address)
+pub past_takes : (held : Files) (address : BlockAddress) (capacity : ℕ) (files : List FlowFile) → HasBlockPast held address capacity → BatchBlockTakes capacity files (reading_at held address)
 past_takes held address capacity files past = long_takes capacity files (reading_at held address) past.kind past.payload past.whole past.long
 
 -- what takes memory beside a greater length takes it beside a smaller one
-pub less_takes : (longest capacity : ℕ) (files : List FlowFile) (reading : Reading) → longest ≤ capacity → BlockTakes capacity files reading → BlockTakes longest files reading
+pub less_takes : (longest capacity : ℕ) (files : List FlowFile) (reading : Reading) → longest ≤ capacity → BatchBlockTakes capacity files reading → BatchBlockTakes longest files reading
 less_takes longest capacity files (Whole kind payload) le (inl long) = inl (omega (arith, le, long))
 less_takes longest capacity files (Whole kind payload) le (inr takes) = inr takes
 less_takes longest capacity files (Cut need have) le takes = takes

@@ -5,7 +5,7 @@ use Rattle.disk_trait.specs.declared.file_name.FileName.{FileName}
 use Rattle.flowfile_record.specs.declared.flow_file.FlowFile.{FlowFile}
 use Rattle.block_file.specs.declared.read.BlockAddress.{BlockAddress}
 use Rattle.swap_store.specs.Batch.{IsSwapBatch}
-use Rattle.swap_store.specs.Memory.{Joins}
+use Rattle.swap_store.specs.Memory.{JoinsBatch}
 use Rattle.swap_store.specs.Reading.{BatchStep, Adds, Ends, last_file_number, files_from, swapped_files}
 use Rattle.swap_store.specs.declared.reading.Source.{Source}
 use Rattle.swap_store.specs.declared.taken.Taken.{Taken}
@@ -36,7 +36,7 @@ pub record HasReadStep (tells : Bool) (files : Files) (source : Source) (at capa
       (λ n. files_from (suc most) source.file at old.files.items (drop at (files source.file))
       ≡ files_from most source.file n new.files.items (drop n (files source.file)))
   pub joins : IsTrue tells
-      → IfSome next (λ n. Joins (files source.file) capacity at n old.files.items new.files.items)
+      → IfSome next (λ n. JoinsBatch (files source.file) capacity at n old.files.items new.files.items)
 
 -- These files were read. There are bytes that say just these, and where the disk tells they are those of the file.
 pub record HasReadBatch (tells : Bool) (files : Files) (file : FileName) (batch : List FlowFile) : Type 0 where

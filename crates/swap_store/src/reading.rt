@@ -8,7 +8,7 @@ ghost use Rattle.flowfile_record.specs.declared.flow_file.FlowFile.{FlowFile as 
 ghost use Rattle.block_file.specs.Address.{reading_at, HasBlockPast, IsAddress, IsBlockAt};
 ghost use Rattle.block_file.specs.Damage.{damage_in};
 ghost use Rattle.swap_store.specs.Batch.{swap_file, batch_bytes, IsSwapBatch};
-ghost use Rattle.swap_store.specs.Memory.{BatchWantsMemory, BlockTakes};
+ghost use Rattle.swap_store.specs.Memory.{BatchWantsMemory, BatchBlockTakes};
 ghost use Rattle.swap_store.specs.Reading.{files_from, swapped_files, swapped_files_in};
 ghost use Rattle.swap_store.specs.Taken.{address_in, AreTakenFiles, HasReadBatch, HasReadStep};
 
@@ -80,7 +80,7 @@ fn read_next<D: Disk>(
         → (most : ℕ) → files_from (suc most) source.file at taken.old.files.items
         (drop at (D.held disk.old source.file)) ≡ Err damage }
     ensures memory { IsErrOf result BlockError.Memory → IsTrue D.tells
-        → BlockTakes (vec_capacity buffer.old) taken.old.files.items
+        → BatchBlockTakes (vec_capacity buffer.old) taken.old.files.items
         (reading_at (D.held disk.old) (address_in source.file source.size at)) }
     ensures stays { Stays D.held D.moment D.images disk.old disk.new }
     ensures cause { CountsFaults (D.faults disk.old) (D.faults disk.new) (IsErrOf result BlockError.Disk) }

@@ -4,7 +4,7 @@ ghost use Rattle.flowfile_record.specs.Reading.{whole};
 ghost use Rattle.flowfile_record.specs.declared.flow_file.FlowFile.{FlowFile as TheFile};
 ghost use Rattle.record_codec.specs.ActiveFile.{active_file_at, active_front_at, IsActiveFile};
 ghost use Rattle.record_codec.specs.SnapshotReading.{ending_at};
-ghost use Rattle.swap_store.specs.Memory.{PartTakes};
+ghost use Rattle.swap_store.specs.Memory.{BatchPartTakes};
 ghost use Rattle.swap_store.specs.Reading.{Adds, Ends, file_step, end_step, step_in};
 ghost use Rattle.swap_store.specs.Taken.{AreTakenFiles, step_is};
 ghost use Rattle.swap_store.specs.declared.taken.Unfit.TheVariants as unfit;
@@ -59,7 +59,7 @@ impl Taken {
             → length self.new.files.items ≡ suc (length self.old.files.items)) }
         ensures taken { OnOk result (AreTakenFiles self.new) }
         ensures unfit { IsErrOf result Unfit.Form → step_in self.old.files.items kind payload.now ≡ None }
-        ensures memory { IsErrOf result Unfit.Memory → PartTakes self.old.files.items kind payload.now }
+        ensures memory { IsErrOf result Unfit.Memory → BatchPartTakes self.old.files.items kind payload.now }
     {
         match SnapshotKind::from_code(kind) {
             Some(SnapshotKind::File) => self.take_file(alloc, payload),

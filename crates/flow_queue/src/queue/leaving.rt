@@ -4,7 +4,7 @@ ghost use Rattle.std.specs.VecDeque.{deque_capacity};
 ghost use Rattle.flowfile_record.specs.NumberedItems.{item_of};
 ghost use Rattle.machine_model.specs.Files.{are_distinct};
 ghost use Rattle.flow_queue.specs.Counts.{AreCountsOf, count_places};
-ghost use Rattle.flow_queue.specs.Leaving.{files_going, files_staying, queue_left_by, is_held, MayBeTaken};
+ghost use Rattle.flow_queue.specs.Leaving.{files_going, files_staying, queue_left_by, is_held, MayLeaveTogether};
 ghost use Rattle.flow_queue.specs.Queue.{flight_of, held_number, held_bytes, without_file};
 
 use super::Queue;
@@ -61,7 +61,7 @@ impl Queue {
 fn take_files(files: &mut NumberedList<Held>, counts: &mut Counts, numbers: &[u64]) -> u128
     requires counted { AreCountsOf counts.old files.old.items }
     requires few { length files.old.items < 2 ^ 63 }
-    requires may { MayBeTaken files.old.items numbers.now }
+    requires may { MayLeaveTogether files.old.items numbers.now }
     requires sum { sum_by held_bytes files.old.items < 2 ^ 128 }
     ensures files { files.new.items ≡ files_staying numbers.now files.old.items }
     ensures room { files.new.room ≡ files.old.room + length numbers.now }

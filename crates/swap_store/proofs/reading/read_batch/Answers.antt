@@ -6,7 +6,7 @@ use Rattle.flowfile_record.specs.declared.flow_file.FlowFile.{FlowFile}
 use Rattle.record_codec.specs.Block.{reading_of}
 use Rattle.swap_store.specs.Batch.{swap_file}
 use Rattle.swap_store.specs.Reading.{files_from}
-use Rattle.swap_store.specs.Memory.{BlockTakes, IsReadTo, Joins, more, start}
+use Rattle.swap_store.specs.Memory.{BatchBlockTakes, BatchIsReadTo, JoinsBatch, more, start}
 use Rattle.block_file.specs.declared.error.BlockError.TheVariants.{Damaged, Memory}
 use Rattle.swap_store.proofs.Takes.{less_takes}
 use Rattle.swap_store.proofs.Steps.{comes_first, comes_on, comes_to_end, has_read}
@@ -26,7 +26,7 @@ loop-taken-init g c =
       comes = λ told. comes_first file bytes c.new-taken.result.files.items c.new-taken.ensures.none;
       longest = 0;
       room = omega arith;
-      read_to = λ told. subst (λ (files : List FlowFile). IsReadTo bytes 0 files 0) (sym c.new-taken.ensures.none) start;
+      read_to = λ told. subst (λ (files : List FlowFile). BatchIsReadTo bytes 0 files 0) (sym c.new-taken.ensures.none) start;
     }
 
 pub loop-taken-preserved : goal.loop-taken-preserved
@@ -54,7 +54,7 @@ loop-taken-preserved g c =
       read_to = λ told.
           let joins = rw c.in-Some.is at (c.in_ok-next.ensures.read.joins told) in
           more at c.in-Some.next inv.longest (vec_capacity c.read_next.new.buffer) old new (inv.read_to told) (omega (arith, inv.room, c.in_ok-next.ensures.capacity))
-          (subst (λ (f : Files). Joins (f file) (vec_capacity c.read_next.new.buffer) at c.in-Some.next old new) inv.stays.files joins);
+          (subst (λ (f : Files). JoinsBatch (f file) (vec_capacity c.read_next.new.buffer) at c.in-Some.next old new) inv.stays.files joins);
     }
 
 pub returns-clause-read : goal.returns-clause-read
@@ -96,5 +96,5 @@ returns-in_err-next-clause-memory g c is told =
       files = files;
       before = inv.read_to told;
       takes = less_takes inv.longest capacity files (reading_of (drop at (g.D.Disk.held c.args.disk.now file))) inv.room
-          (subst (λ (f : Files). BlockTakes capacity files (reading_of (drop at (f file)))) inv.stays.files (c.in_err-next.ensures.memory (ap Err same) told));
+          (subst (λ (f : Files). BatchBlockTakes capacity files (reading_of (drop at (f file)))) inv.stays.files (c.in_err-next.ensures.memory (ap Err same) told));
     }

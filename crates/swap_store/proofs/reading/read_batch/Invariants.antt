@@ -1,6 +1,6 @@
 use Rattle.std.proofs.Common.{◌≡◌, ◌≤◌, ◌-◌, ℕ, length, vec_capacity, IsTrue}
 use Rattle.disk_trait.specs.Images.{Stays}
-use Rattle.swap_store.specs.Memory.{IsReadTo}
+use Rattle.swap_store.specs.Memory.{BatchIsReadTo}
 use Rattle.swap_store.specs.Taken.{AreTakenFiles}
 use Rattle.swap_store.proofs.Steps.{ComesTo}
 use Rattle.swap_store.proofs.reading.read_batch.Given as goal
@@ -16,7 +16,7 @@ invariant-loop-taken g l = record {
   comes : IsTrue g.D.Disk.tells → ComesTo l.source.file (g.D.Disk.held l.fn.disk l.source.file) l.at l.taken.files.items;
   longest : ℕ;
   room : longest ≤ vec_capacity l.buffer;
-  read_to : IsTrue g.D.Disk.tells → IsReadTo (g.D.Disk.held l.fn.disk l.source.file) l.at l.taken.files.items longest;
+  read_to : IsTrue g.D.Disk.tells → BatchIsReadTo (g.D.Disk.held l.fn.disk l.source.file) l.at l.taken.files.items longest;
 }
 
 abbrev pub decreases-loop-taken : goal.decreases-loop-taken

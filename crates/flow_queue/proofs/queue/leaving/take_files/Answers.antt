@@ -5,7 +5,7 @@ use Rattle.std.proofs.lemmas.List.Elements.{All-head}
 use Rattle.flowfile_record.specs.NumberedItems.{item_of}
 use Rattle.flowfile_record.proofs.ByNumber.{length-without}
 use Rattle.flow_queue.specs.Counts.{AreCountsOf}
-use Rattle.flow_queue.specs.Leaving.{files_staying, MayBeTaken}
+use Rattle.flow_queue.specs.Leaving.{files_staying, MayLeaveTogether}
 use Rattle.flow_queue.specs.Queue.{held_number, held_bytes}
 use Rattle.flow_queue.proofs.Counting.{counts-taken}
 use Rattle.flow_queue.proofs.Fields.{one_gone}
@@ -40,7 +40,7 @@ loop-number-preserved c =
     let gone = one_gone n held files may.ascends c.take_held-held.ensures.held in
     let fewer = length-without held_number n files held may.ascends c.take_held-held.ensures.held in
     record {
-      may = subst (λ fs. MayBeTaken fs later) (sym taken) (still-may-go n later files may);
+      may = subst (λ fs. MayLeaveTogether fs later) (sym taken) (still-may-go n later files may);
       files = ap (files_staying later) taken ∙ sym (staying-cons n later files) ∙ ap (λ l. files_staying l files) (sym rest) ∙ c.loop-number.invariant.files;
       room = omega (arith, c.loop-number.invariant.room, ap length rest, c.take_held-held.ensures.room);
       count = omega (arith, c.loop-number.invariant.count, ap length rest, ap length taken, fewer);
