@@ -4,11 +4,12 @@ use Rattle.std.specs.List.{filter_map, list_all}
 use Rattle.std.specs.Option.{option_or}
 use Rattle.std.proofs.lemmas.Bool.{false≢true}
 use Rattle.std.proofs.lemmas.Option.{none-some}
-use Rattle.std.proofs.lemmas.List.{length-map, length-take-le}
+use Rattle.std.proofs.lemmas.List.{append-nil, length-map, length-take-le}
 use Rattle.std.proofs.lemmas.List.Folds.{list_all-append}
 use Rattle.serde_json.specs.Data.{Data}
 use Rattle.machine_model.specs.declared.flow.Processor.{Processor}
 use Rattle.flow_definition.specs.declared.field.Field.TheVariants.{Processors}
+use Rattle.flow_definition.specs.declared.made.Kept.TheVariants as kept
 use Rattle.flow_definition.specs.declared.made.Made.{Made}
 use Rattle.flow_definition.specs.declared.made.Made.TheVariants as made
 use Rattle.flow_definition.specs.declared.made.Refusal.{Refusal}
@@ -16,7 +17,7 @@ use Rattle.flow_definition.specs.declared.made.Refusal.TheVariants.{NoType, Unre
 use Rattle.flow_definition.specs.declared.made.RefusedProcessor.{RefusedProcessor}
 use Rattle.flow_definition.specs.declared.rule.Rule.{Rule}
 use Rattle.flow_definition.specs.declared.rule.Rule.TheVariants.{UnknownType, BadPattern, BadExpression, PatternTooBig}
-use Rattle.flow_definition.specs.Judged.{part_at, refused_property, refused_processors, is_processor_made, processors_kept, kept_with_made, first_refused_in, refused_in, first_told}
+use Rattle.flow_definition.specs.Judged.{part_at, refused_property, refused_processors, refused_with, is_processor_made, is_refusal, kept_of, processors_kept, processors_with, first_refused_in, refused_in, first_told}
 use Rattle.flow_definition.specs.Made.{AreAllMade, AreMade, first_refused, processor_in, refused_part, rule_of}
 use Rattle.flow_definition.specs.Numbers.{rule_number}
 use Rattle.flow_definition.specs.Rules.{Path}
@@ -64,7 +65,7 @@ all_push (made.Processor q ∷ ms) p = ap (λ list. q ∷ list) (all_push ms p)
 all_push (made.Refused r ∷ ms) p = all_push ms p
 
 kept_made : (a b : Bool) (list : List Processor) (p : Processor)
-    → cond (a && b) (cond (a && b) list [] ++ p ∷ []) (cond (a && b) list []) ≡ cond (a && (b && true)) (list ++ p ∷ []) []
+    → processors_with (cond (a && b) list []) (cond (a && b) (kept.Processor p) kept.Nothing) ≡ cond (a && (b && true)) (list ++ p ∷ []) []
 kept_made true true list p = refl
 kept_made true false list p = refl
 kept_made false b list p = refl
@@ -74,15 +75,26 @@ kept_none true true list = refl
 kept_none true false list = refl
 kept_none false b list = refl
 
-pub kept_push : (a : Bool) (ms : List Made) (m : Made)
-    → kept_with_made (a && list_all is_processor_made ms) (processors_kept a ms) m ≡ processors_kept a (ms ++ m ∷ [])
-kept_push a ms (made.Processor p) =
+pub kept_push : (a : Bool) (place : ℕ) (ms : List Made) (m : Made)
+    → processors_with (processors_kept a ms) (kept_of (a && list_all is_processor_made ms) place m) ≡ processors_kept a (ms ++ m ∷ [])
+kept_push a place ms (made.Processor p) =
     kept_made a (list_all is_processor_made ms) (filter_map processor_in ms) p
     ∙ ap (λ list. cond (a && (list_all is_processor_made ms && true)) list []) (sym (all_push ms p))
     ∙ ap (λ b. cond (a && b) (filter_map processor_in (ms ++ made.Processor p ∷ [])) []) (sym (list_all-append is_processor_made ms (made.Processor p ∷ [])))
-kept_push a ms (made.Refused r) =
+kept_push a place ms (made.Refused r) =
     sym (ap (λ b. cond (a && b) (filter_map processor_in (ms ++ made.Refused r ∷ [])) []) (list_all-append is_processor_made ms (made.Refused r ∷ []))
     ∙ kept_none a (list_all is_processor_made ms) (filter_map processor_in (ms ++ made.Refused r ∷ [])))
+
+pub refused_kept : (a : Bool) (place : ℕ) (list : List RefusedProcessor) (m : Made)
+    → refused_with list (kept_of a place m) ≡ list ++ refused_processors place (m ∷ [])
+refused_kept true place list (made.Processor p) = sym (append-nil list)
+refused_kept false place list (made.Processor p) = sym (append-nil list)
+refused_kept a place list (made.Refused r) = refl
+
+pub made_kept : (a : Bool) (place : ℕ) (m : Made) → not (is_refusal (kept_of a place m)) ≡ is_processor_made m
+made_kept true place (made.Processor p) = refl
+made_kept false place (made.Processor p) = refl
+made_kept a place (made.Refused r) = refl
 
 accepted_by : (a b c : Bool) → ((a && b) && c) ≡ (a && (b && (c && true)))
 accepted_by true true true = refl

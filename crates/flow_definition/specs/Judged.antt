@@ -7,6 +7,8 @@ use Rattle.serde_json.specs.Data.{Data}
 use Rattle.machine_model.specs.declared.flow.Processor.{Processor}
 use Rattle.flow_definition.specs.declared.field.Field.TheVariants.{TypeName, Processors}
 use Rattle.flow_definition.specs.declared.made.JudgedProcessors.{JudgedProcessors}
+use Rattle.flow_definition.specs.declared.made.Kept.{Kept}
+use Rattle.flow_definition.specs.declared.made.Kept.TheVariants as kept
 use Rattle.flow_definition.specs.declared.made.Made.{Made}
 use Rattle.flow_definition.specs.declared.made.Made.TheVariants as made
 use Rattle.flow_definition.specs.declared.made.Refusal.{Refusal}
@@ -14,7 +16,7 @@ use Rattle.flow_definition.specs.declared.made.Refusal.TheVariants.{NoType, Unre
 use Rattle.flow_definition.specs.declared.made.RefusedProcessor.{RefusedProcessor}
 use Rattle.flow_definition.specs.declared.rule.Rule.{Rule}
 use Rattle.flow_definition.specs.declared.rule.Rule.TheVariants.{UnknownType, BadPattern, BadExpression, PatternTooBig}
-use Rattle.flow_definition.specs.Made.{AreMade, processor_in, rule_of, told_all}
+use Rattle.flow_definition.specs.Made.{AreMade, IsMade, processor_in, rule_of, told_all, told_made}
 use Rattle.flow_definition.specs.Numbers.{rule_number}
 use Rattle.flow_definition.specs.OwnPatterns.{name_refused}
 use Rattle.flow_definition.specs.Patterns.{HasRisen, Told}
@@ -58,10 +60,33 @@ abbrev pub processors_kept : (accepted : Bool) → List Made → List Processor
 processors_kept accepted made =
     if accepted && list_all is_processor_made made then filter_map processor_in made else []
 
--- those that are kept, with one more
-abbrev pub kept_with_made : (accepted : Bool) → List Processor → Made → List Processor
-kept_with_made accepted list (made.Processor processor) = if accepted then list ++ processor ∷ [] else list
-kept_with_made accepted list (made.Refused refusal) = []
+-- what is kept of one processor
+abbrev pub kept_of : (accepted : Bool) → (place : ℕ) → Made → Kept
+kept_of accepted place (made.Processor processor) = if accepted then kept.Processor processor else kept.Nothing
+kept_of accepted place (made.Refused refusal) = kept.Refused (refused_as place refusal)
+
+-- what becomes of one processor, and what the builder tells behind that; and what of it is kept
+pub record IsJudged (before now : Told) (accepted : Bool) (place : ℕ) (d : Data) (kept : Kept) : Type 0 where
+  pub made : Made
+  pub is_made : IsMade (HasRisen before.count now.count) d made
+  pub told : now ≡ told_made before d made
+  pub is_kept : kept ≡ kept_of accepted place made
+
+-- the refused ones and the processors, with what is kept of one more
+abbrev pub refused_with : List RefusedProcessor → Kept → List RefusedProcessor
+refused_with list (kept.Processor processor) = list
+refused_with list (kept.Refused refused) = list ++ refused ∷ []
+refused_with list kept.Nothing = list
+
+abbrev pub processors_with : List Processor → Kept → List Processor
+processors_with list (kept.Processor processor) = list ++ processor ∷ []
+processors_with list (kept.Refused refused) = []
+processors_with list kept.Nothing = list
+
+abbrev pub is_refusal : Kept → Bool
+is_refusal (kept.Processor processor) = false
+is_refusal (kept.Refused refused) = true
+is_refusal kept.Nothing = false
 
 -- what becomes of each processor, and what the builder tells behind that; and what of it is kept
 pub record AreJudged (before now : Told) (accepted : Bool) (ds : List Data) (judged : JudgedProcessors) : Type 0 where

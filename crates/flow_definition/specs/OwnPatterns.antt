@@ -1,15 +1,16 @@
 -- Patterns of a processor's own properties, and what becomes of them.
-use Rattle.std.specs.Prelude.{◌≡◌, ℕ, Bool, true, false, List, [], ◌∷◌, Option, Some, None, unwrap_or}
+use Rattle.std.specs.Prelude.{◌≡◌, ℕ, Bool, true, false, List, [], ◌∷◌, Option, Some, None, option_map, unwrap_or}
 use Rattle.std.specs.List.{list_all}
 use Rattle.std.specs.Option.{option_or}
 use Rattle.machine_model.specs.declared.kind.OwnPattern.{OwnPattern}
 use Rattle.flow_definition.specs.declared.own_patterns.Attempt.{Attempt}
 use Rattle.flow_definition.specs.declared.own_patterns.Attempt.TheVariants.{Read, Unread, TooBig}
+use Rattle.flow_definition.specs.declared.own_patterns.RefusedPatterns.{RefusedPatterns}
 use Rattle.flow_definition.specs.declared.own_patterns.MadePatterns.{MadePatterns}
 use Rattle.flow_definition.specs.declared.own_patterns.MadePatterns.TheVariants as made
 use Rattle.flow_definition.specs.declared.rule.Rule.{Rule}
 use Rattle.flow_definition.specs.declared.rule.Rule.TheVariants.{BadPattern, PatternTooBig}
-use Rattle.flow_definition.specs.Patterns.{IsUnread, Told, refuse}
+use Rattle.flow_definition.specs.Patterns.{HasRisen, IsUnread, Told, refuse}
 use Rattle.flow_definition.specs.Reading.{own_patterns, pattern_of, patterns_of}
 
 -- what becomes of an own property's text. The builder may call any pattern too big where its count of such refusals rose
@@ -80,3 +81,19 @@ told_attempts whole before (given ∷ more) (attempt ∷ rest) =
 abbrev pub told_patterns : (whole : Bool) → Told → List (List ℕ × List ℕ) → MadePatterns → Told
 told_patterns whole before texts (made.Read list) = before
 told_patterns whole before texts (made.Refused attempts) = told_attempts whole before texts attempts
+
+-- ---- patterns of which none is kept
+
+-- what became of each, and what the builder tells behind that; and which are refused first
+pub record AreTried (before now : Told) (whole : Bool) (texts : List (List ℕ × List ℕ)) (refused : RefusedPatterns)
+    : Type 0 where
+  pub attempts : List Attempt
+  pub each : AreAttempts (HasRisen before.count now.count) whole texts attempts
+  pub told : now ≡ told_attempts whole before texts attempts
+  pub unread : refused.unread ≡ unread_in attempts
+  pub too_big : refused.too_big ≡ too_big_in attempts
+
+-- the rule that is broken, and by which
+abbrev pub refusal_by : (unread too_big : Option (List ℕ)) → Option (Rule × List ℕ)
+refusal_by unread too_big =
+    option_or (option_map (λ name. (BadPattern, name)) unread) (option_map (λ name. (PatternTooBig, name)) too_big)

@@ -1,8 +1,8 @@
 //! Making the processors of a text: building their patterns and reading their expressions.
-ghost use Rattle.std.specs.Prelude.{◌≡◌, ◌≤◌, ◌&&◌, [], ◌∷◌, ◌++◌, map, option_map, Some, IfOk, OnOk};
+ghost use Rattle.std.specs.Prelude.{◌≡◌, ◌≤◌, ◌&&◌, not, true, false, [], map, option_map, Some, IfOk, OnOk};
 ghost use Rattle.serde_json.specs.View.{view};
-ghost use Rattle.flow_definition.specs.Looks.{type_of};
-ghost use Rattle.flow_definition.specs.Judged.{AreJudged, IsRefusedAs, is_processor_made, part_at, refused_property, first_refused_in, kept_with_made, refused_processors};
+ghost use Rattle.flow_definition.specs.Looks.{hold_patterns, own_in, type_of};
+ghost use Rattle.flow_definition.specs.Judged.{AreJudged, IsJudged, IsRefusedAs, is_refusal, part_at, processors_with, refused_property, first_refused_in, refused_with};
 ghost use Rattle.flow_definition.specs.Made.{IsMade, IsMadeKind, told_kind, told_made, rule_of};
 ghost use Rattle.flow_definition.specs.Reading.{IsKindOf, IsProcessorOf, replace_strategy_in};
 ghost use Rattle.flow_definition.specs.Patterns.{HasRisen, told_by_builder};
@@ -12,13 +12,13 @@ use crate::building::{Built, build, whole};
 use crate::expressions::{MadeOwn, make_own};
 use crate::field::Field;
 use crate::listed::listed_names;
-use crate::look::type_of;
+use crate::look::{own_in, type_of};
 use crate::own_patterns::{
-    AttemptList, MadePatterns, make_own_patterns, name_refused, rule_broken,
+    AttemptList, MadePatterns, make_own_patterns, name_refused, rule_broken, try_own_patterns,
 };
 use crate::patterns::Patterns;
 use crate::place::{Part, Place};
-use crate::processor_type::{ProcessorType, Property, ReplaceStrategy};
+use crate::processor_type::{Own, ProcessorType, Property, ReplaceStrategy};
 use crate::reading::{
     conflict_in, copies_in, count_in, destination_in, id_at, lines_in, maximum_in,
     merge_strategy_in, minimum_in, number_by, penalty_at, property_text, replace_strategy_in,
@@ -119,6 +119,16 @@ impl RefusedProcessor {
     }
 }
 
+/// What is kept of a processor that is judged.
+#[derive(Drop)]
+pub(crate) enum Kept {
+    /// Where the text may yet be accepted.
+    Processor(Processor),
+    Refused(RefusedProcessor),
+    /// It is in order, but the text can't be accepted.
+    Nothing,
+}
+
 /// The processors of a text, as they are judged one after the other.
 #[derive(Drop)]
 pub(crate) struct JudgedProcessors {
@@ -141,26 +151,19 @@ impl JudgedProcessors {
         }
     }
 
-    /// Takes what became of the processor at a place.
-    fn push(&mut self, alloc: Global, place: usize, made: Made) -> Result<(), AllocError>
-        ensures refused { OnOk result
-            (self.new.refused.items ≡ self.old.refused.items ++ refused_processors place (made ∷ [])) }
-        ensures processors { OnOk result
-            (self.new.processors.items ≡ kept_with_made self.old.may_be_accepted self.old.processors.items made) }
-        ensures accepted { OnOk result (self.new.may_be_accepted ≡ self.old.may_be_accepted && is_processor_made made) }
+    fn push(&mut self, kept: Kept) -> Result<(), AllocError>
+        ensures refused { OnOk result (self.new.refused.items ≡ refused_with self.old.refused.items kept) }
+        ensures processors { OnOk result (self.new.processors.items ≡ processors_with self.old.processors.items kept) }
+        ensures accepted { OnOk result (self.new.may_be_accepted ≡ self.old.may_be_accepted && not (is_refusal kept)) }
     {
-        match made {
-            Made::Processor(processor) => {
-                if self.may_be_accepted {
-                    self.processors.push(processor)?;
-                }
-            }
-            Made::Refused(refusal) => {
+        match kept {
+            Kept::Processor(processor) => self.processors.push(processor)?,
+            Kept::Refused(refused) => {
                 self.may_be_accepted = false;
                 self.processors.clear();
-                self.refused
-                    .push(RefusedProcessor::new(alloc, place, &refusal)?)?;
+                self.refused.push(refused)?;
             }
+            Kept::Nothing => {}
         }
         Ok(())
     }
@@ -174,7 +177,7 @@ pub(crate) enum MadeKind {
 }
 
 /// Judges the processors of a text one after the other. Once one is refused, or where the text can't be accepted for
-/// another rule, each is let go as soon as it is judged.
+/// another rule, none is kept, and each pattern is let go as soon as it is built.
 pub(crate) fn make_all<P: Patterns>(
     alloc: Global,
     items: &[Value],
@@ -187,10 +190,67 @@ pub(crate) fn make_all<P: Patterns>(
 {
     let mut judged = JudgedProcessors::new(alloc, may_be_accepted);
     'items: for (place, item) in items.iter().enumerate() {
-        let made = make(alloc, item, patterns)?;
-        judged.push(alloc, place, made)?;
+        let kept = judge(alloc, place, item, judged.may_be_accepted, patterns)?;
+        judged.push(kept)?;
     }
     Ok(judged)
+}
+
+fn judge<P: Patterns>(
+    alloc: Global,
+    place: usize,
+    processor: &Value,
+    may_be_accepted: bool,
+    patterns: &mut P,
+) -> Result<Kept, AllocError>
+    ensures judged { IfOk result (IsJudged (told_by_builder P.faults P.refused patterns.old)
+        (told_by_builder P.faults P.refused patterns.new) may_be_accepted place (view processor.now)) }
+    ensures count { P.faults patterns.old ≤ P.faults patterns.new }
+{
+    if !may_be_accepted && has_own_patterns(processor) {
+        return judge_own_patterns(alloc, place, processor, patterns);
+    }
+    match make(alloc, processor, patterns)? {
+        Made::Processor(processor) => {
+            if may_be_accepted {
+                Ok(Kept::Processor(processor))
+            } else {
+                Ok(Kept::Nothing)
+            }
+        }
+        Made::Refused(refusal) => Ok(Kept::Refused(RefusedProcessor::new(alloc, place, &refusal)?)),
+    }
+}
+
+/// Judges a processor with patterns of its own, where the text can't be accepted.
+fn judge_own_patterns<P: Patterns>(
+    alloc: Global,
+    place: usize,
+    processor: &Value,
+    patterns: &mut P,
+) -> Result<Kept, AllocError>
+    requires { hold_patterns (own_in (view processor.now)) ≡ true }
+    ensures judged { IfOk result (IsJudged (told_by_builder P.faults P.refused patterns.old)
+        (told_by_builder P.faults P.refused patterns.new) false place (view processor.now)) }
+    ensures count { P.faults patterns.old ≤ P.faults patterns.new }
+{
+    match try_own_patterns(alloc, processor, patterns)?.refusal() {
+        Some((rule, name)) => Ok(Kept::Refused(RefusedProcessor {
+            place,
+            rule,
+            property: Some(name),
+        })),
+        None => Ok(Kept::Nothing),
+    }
+}
+
+fn has_own_patterns(processor: &Value) -> bool
+    ensures { result ≡ hold_patterns (own_in (view processor.now)) }
+{
+    match own_in(processor) {
+        Own::AttributePatterns | Own::RelationshipPatterns => true,
+        Own::Nothing | Own::Attributes | Own::Relationships => false,
+    }
 }
 
 fn make<P: Patterns>(alloc: Global, processor: &Value, patterns: &mut P) -> Result<Made, AllocError>

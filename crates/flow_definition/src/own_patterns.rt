@@ -1,9 +1,10 @@
 //! Building the patterns of a processor's own properties.
-ghost use Rattle.std.specs.Prelude.{◌≡◌, ◌≤◌, IfOk, option_map};
+ghost use Rattle.std.specs.Prelude.{◌≡◌, ◌≤◌, [], ◌∷◌, None, IfOk, option_map};
 ghost use Rattle.std.specs.List.{filter_map, list_all};
+ghost use Rattle.std.specs.Option.{option_or};
 ghost use Rattle.serde_json.specs.View.{view, members_view};
 ghost use Rattle.flow_definition.specs.Looks.{member_list, others, own_texts_in, texts_of};
-ghost use Rattle.flow_definition.specs.OwnPatterns.{AreAttempts, AreOwnBuilt, IsAttempt, is_read, name_refused, read_in, rule_by, told_attempt, told_attempts, told_patterns, too_big_in, unread_in};
+ghost use Rattle.flow_definition.specs.OwnPatterns.{AreAttempts, AreOwnBuilt, AreTried, IsAttempt, is_read, name_refused, read_in, refusal_by, rule_by, told_attempt, told_attempts, told_patterns, too_big_in, unread_in};
 ghost use Rattle.flow_definition.specs.Patterns.{HasRisen, told_by_builder};
 ghost use Rattle.flow_definition.specs.Reading.{is_whole_in, pattern_of};
 
@@ -80,6 +81,99 @@ fn attempt_own<P: Patterns>(
         }
         None => Ok(Vec::new(alloc)),
     }
+}
+
+/// The first of a processor's own patterns that can't be read, and the first that is too large, by their names.
+#[derive(Drop)]
+pub(crate) struct RefusedPatterns {
+    unread: Option<Text>,
+    too_big: Option<Text>,
+}
+
+impl RefusedPatterns {
+    fn new() -> RefusedPatterns
+        ensures unread { result.unread ≡ None }
+        ensures too_big { result.too_big ≡ None }
+    {
+        RefusedPatterns {
+            unread: None,
+            too_big: None,
+        }
+    }
+
+    /// Takes what became of the next pattern, and lets the pattern go.
+    fn note(&mut self, attempt: Attempt)
+        ensures unread { self.new.unread ≡ option_or self.old.unread (unread_in (attempt ∷ [])) }
+        ensures too_big { self.new.too_big ≡ option_or self.old.too_big (too_big_in (attempt ∷ [])) }
+    {
+        match attempt {
+            Attempt::Read(_) => {}
+            Attempt::Unread(name) => {
+                if self.unread.is_none() {
+                    self.unread = Some(name);
+                }
+            }
+            Attempt::TooBig(name) => {
+                if self.too_big.is_none() {
+                    self.too_big = Some(name);
+                }
+            }
+        }
+    }
+
+    /// The rule that the patterns break, and the name of the first that breaks it.
+    pub(crate) fn refusal(self) -> Option<(Rule, Text)>
+        ensures { result ≡ refusal_by self.unread self.too_big }
+    {
+        let RefusedPatterns { unread, too_big } = self;
+        match unread {
+            Some(name) => Some((Rule::BadPattern, name)),
+            None => match too_big {
+                Some(name) => Some((Rule::PatternTooBig, name)),
+                None => None,
+            },
+        }
+    }
+}
+
+/// Builds the patterns of a processor's own in the order of their names, and keeps none of them.
+pub(crate) fn try_own_patterns<P: Patterns>(
+    alloc: Global,
+    processor: &Value,
+    patterns: &mut P,
+) -> Result<RefusedPatterns, AllocError>
+    ensures tried { IfOk result (AreTried (told_by_builder P.faults P.refused patterns.old)
+        (told_by_builder P.faults P.refused patterns.new) (is_whole_in (view processor.now))
+        (own_texts_in (view processor.now))) }
+    ensures count { P.faults patterns.old ≤ P.faults patterns.new }
+{
+    let is_whole = is_whole_in(processor);
+    match own_properties(processor) {
+        Some(members) => { try_all(alloc, properties_in(processor), members, is_whole, patterns) }
+        None => Ok(RefusedPatterns::new()),
+    }
+}
+
+fn try_all<P: Patterns>(
+    alloc: Global,
+    properties: &[Property],
+    members: &Map<String, Value>,
+    is_whole: bool,
+    patterns: &mut P,
+) -> Result<RefusedPatterns, AllocError>
+    ensures tried { IfOk result (AreTried (told_by_builder P.faults P.refused patterns.old)
+        (told_by_builder P.faults P.refused patterns.new) is_whole
+        (texts_of (others properties.now (member_list (members_view members.now.entries))))) }
+    ensures count { P.faults patterns.old ≤ P.faults patterns.new }
+{
+    let mut refused = RefusedPatterns::new();
+    'members: for (name, value) in members {
+        if !is_fixed(name.as_str(), properties) {
+            let attempt = try_pattern(alloc, name.as_str(), text_of(value), is_whole, patterns)?;
+            refused.note(attempt);
+        }
+    }
+    Ok(refused)
 }
 
 /// Whether each pattern has to match a whole content.

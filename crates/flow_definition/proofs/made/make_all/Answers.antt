@@ -1,10 +1,9 @@
-use Rattle.std.proofs.Common.{◌≡◌, ◌&&◌, [], ◌∷◌, ◌++◌, map, take, refl, sym, ap, ◌∙◌, subst, arith}
-use Rattle.std.specs.List.{list_all}
+use Rattle.std.proofs.Common.{◌&&◌, not, [], ◌∷◌, ◌++◌, map, take, refl, sym, ap, ◌∙◌, subst, arith}
 use Rattle.serde_json.specs.View.{view}
-use Rattle.flow_definition.specs.Judged.{is_processor_made, kept_with_made, refused_processors}
+use Rattle.flow_definition.specs.Judged.{is_refusal, kept_of, processors_kept, processors_with, refused_processors, refused_with}
 use Rattle.flow_definition.specs.Made.{AreMade, told_all, told_made}
 use Rattle.flow_definition.specs.Patterns.{HasRisen, Told, told_by_builder}
-use Rattle.flow_definition.proofs.Judged.{accepted_first, accepted_push, kept_first, kept_push, made_place, refused_push}
+use Rattle.flow_definition.proofs.Judged.{accepted_first, accepted_push, kept_first, kept_push, made_kept, made_place, refused_kept, refused_push}
 use Rattle.flow_definition.proofs.Verdicts.{told_push, made_push, made_later, one_later, risen_before, risen_after}
 use Rattle.flow_definition.proofs.Walks.{front_at}
 use Rattle.flow_definition.proofs.made.make_all.Goals as goal
@@ -28,18 +27,20 @@ pub items-preserved : goal.items-preserved
 items-preserved g c =
     let first = g.P.Patterns.faults c.args.patterns.now in
     let middle = g.P.Patterns.faults c.items.patterns in
-    let last = g.P.Patterns.faults c.make.new.patterns in
+    let last = g.P.Patterns.faults c.judge.new.patterns in
     let items = c.args.items.now in
     let place = c.items.place in
     let front = map view (take place items) in
     let item = c.index-items-place.result in
-    let made = c.in_ok-made.made in
+    let is = c.in_ok-kept.ensures.judged in
+    let made = is.made in
     let are = c.items.invariant.judged.0 in
     let accepted = c.args.may_be_accepted in
+    let yet = c.items.judged.may_be_accepted in
     let before = made_later (HasRisen first middle) (HasRisen first last) front are.made
-    (risen_before first middle last c.make.ensures.count) are.each in
+    (risen_before first middle last c.judge.ensures.count) are.each in
     let one = one_later (HasRisen middle last) (HasRisen first last) (view item) made
-    (risen_after first middle last c.items.invariant.count) c.in_ok-made.ensures.made in
+    (risen_after first middle last c.items.invariant.count) is.is_made in
     let earlier : Told = told_by_builder g.P.Patterns.faults g.P.Patterns.refused c.args.patterns.now in
     let is_more = sym (front_at view items place item c.items-test.true c.index-items-place.is) in
     record {
@@ -48,18 +49,23 @@ items-preserved g c =
           made = are.made ++ made ∷ [];
           each = subst (λ ds. AreMade (HasRisen first last) ds (are.made ++ made ∷ [])) is_more
               (made_push (HasRisen first last) front are.made (view item) made before one);
-          told = c.in_ok-made.ensures.told ∙ ap (λ n. told_made n (view item) made) are.told
+          told = is.told ∙ ap (λ n. told_made n (view item) made) are.told
               ∙ sym (told_push (HasRisen first last) earlier front are.made (view item) made before)
               ∙ ap (λ ds. told_all earlier ds (are.made ++ made ∷ [])) is_more;
-          refused = c.in_ok-push.ensures.refused ∙ ap (λ list. list ++ refused_processors place (made ∷ [])) are.refused
+          refused = c.in_ok-push.ensures.refused
+              ∙ (λ i. refused_with (are.refused i) (is.is_kept i))
+              ∙ refused_kept yet place (refused_processors 0 are.made) made
               ∙ sym (refused_push 0 place are.made made
               (made_place (HasRisen first middle) view items place are.made c.items-test.true are.each));
           processors = c.in_ok-push.ensures.processors
-              ∙ (λ i. kept_with_made (c.items.invariant.judged.1 i) (are.processors i) made)
-              ∙ kept_push accepted are.made made;
+              ∙ (λ i. processors_with (are.processors i) (is.is_kept i))
+              ∙ (λ i. processors_with (processors_kept accepted are.made) (kept_of (c.items.invariant.judged.1 i) place made))
+              ∙ kept_push accepted place are.made made;
         },
-        c.in_ok-push.ensures.accepted ∙ ap (λ b. b && is_processor_made made) c.items.invariant.judged.1
+        c.in_ok-push.ensures.accepted
+            ∙ (λ i. yet && not (is_refusal (is.is_kept i)))
+            ∙ (λ i. c.items.invariant.judged.1 i && made_kept yet place made i)
             ∙ accepted_push accepted are.made made,
       );
-      count = omega (arith, c.items.invariant.count, c.make.ensures.count);
+      count = omega (arith, c.items.invariant.count, c.judge.ensures.count);
     }

@@ -1,7 +1,6 @@
-use Rattle.std.proofs.Common.{◌≡◌, ◌≤◌, ◌&&◌, List, map, take}
+use Rattle.std.proofs.Common.{◌≡◌, ◌≤◌, ◌&&◌, map, take}
 use Rattle.std.specs.List.{list_all}
 use Rattle.serde_json.specs.View.{view}
-use Rattle.flow_definition.specs.declared.made.Made.{Made}
 use Rattle.flow_definition.specs.Judged.{AreJudged, is_processor_made}
 use Rattle.flow_definition.specs.Patterns.{told_by_builder}
 use Rattle.flow_definition.proofs.made.make_all.Given as goal

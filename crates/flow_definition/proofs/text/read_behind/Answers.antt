@@ -1,4 +1,4 @@
-use Rattle.std.proofs.Common.{◌≡◌, sym, ap, ◌∙◌, subst}
+use Rattle.std.proofs.Common.{ap, ◌∙◌, subst}
 use Rattle.serde_json.specs.View.{view}
 use Rattle.machine_model.specs.declared.flow.Flow.{Flow}
 use Rattle.flow_definition.specs.declared.field.Field.TheVariants.{Processors}
