@@ -1,18 +1,21 @@
 #!/usr/bin/env python3
-"""What processors cost beside plain loops over the same bytes, and what a queue's picking costs, by the program
-`bench_flows`; and what expressions cost a flow, by the built program over folders in memory.
+"""What processors cost beside plain loops over the same bytes, and what a queue costs, by the program `bench_flows`;
+and what expressions cost a flow, by the built program over folders in memory.
 
 It prints how long the processor worked for each part and for what stands beside it, the first as a ratio to the second.
-Then it prints what it costs to pick a whole from ten times as many fragments.
+Then it prints what it costs to pick a whole from ten times as many fragments. Last it prints what a queue costs of
+1,000, 10,000 and 20,000 files that come, go, are picked or expire, and what Python's `heapq` costs over the same keys.
 
 Figures depend on the machine: this is no test, and isn't run by one.
 """
 
+import heapq
 import os
 import pathlib
 import re
 import subprocess
 import sys
+import time
 
 sys.path.insert(0, str(pathlib.Path(__file__).resolve().parent.parent / "tests"))
 sys.dont_write_bytecode = True
@@ -37,6 +40,23 @@ COMPARED = [
 # How many fragments of 100 wholes are queued, and what is picked of them.
 FRAGMENTS = [1_000, 10_000]
 PICKED = [("picks", "ten picks of a whole"), ("waits", "ten picks that find no whole, one of each missing")]
+
+# How many files wait in a queue, and as far from one another as this number tells they were entered.
+WAITING = [1_000, 10_000, 20_000]
+STRIDE = 7_919
+
+# The word, what it measures, and the key of a file for a heap by its arrival and its moment of entry, which is its
+# priority too; none where a heap has no such call.
+QUEUED = [
+    ("put", "files come, by priority", lambda arrival, entered: (entered, arrival)),
+    ("first", "files go, the best first, by arrival", lambda arrival, entered: (arrival,)),
+    ("newest", "the same by the latest entry", lambda arrival, entered: (-entered, arrival)),
+    ("oldest", "the same by the earliest entry", lambda arrival, entered: (entered, arrival)),
+    ("priority", "the same by priority", lambda arrival, entered: (entered, arrival)),
+    ("one", "a thousand picks of one file", None),
+    ("bin", "a thousand picks of a bin of 1,000", None),
+    ("expired", "all files expire, and leave by one call", None),
+]
 
 # How many files the flow makes, and three expressions over a file's name.
 FILES = 10_000
@@ -86,6 +106,28 @@ def mean(times, measure, *given):
     return sum(took for took, _ in runs) // times, sum(took for _, took in runs) // times
 
 
+def heap_time(word, key, count):
+    """The microseconds of a heap to which these files come, or from which they go."""
+    keys = [key(arrival, (count - 1 - arrival) * STRIDE % count) for arrival in range(count)]
+    heap, start = [], time.process_time()
+    for one in keys:
+        heapq.heappush(heap, one)
+    if word != "put":
+        start = time.process_time()
+        while heap:
+            heapq.heappop(heap)
+    return round((time.process_time() - start) * 1e6), 0
+
+
+def tell_queue(times, program, folder, word, text, key):
+    took = [mean(times, said, program, folder, word, count)[0] for count in WAITING]
+    line = f"{text}: " + ", ".join(f"{count:,} in {one:,} microseconds" for count, one in zip(WAITING, took))
+    if key is not None:
+        beside = [mean(times, heap_time, word, key, count)[0] for count in WAITING]
+        line += "; by heapq in " + ", ".join(f"{one:,}" for one in beside)
+    print(line, flush=True)
+
+
 def tell(text, took, other, beside):
     print(f"{text}: {took:,} microseconds, {other} {beside:,}; ratio {took / max(beside, 1):.2f}", flush=True)
 
@@ -109,6 +151,8 @@ def main():
             once, more = (mean(times, said, program, folder, word, count)[0] for count in FRAGMENTS)
             print(f"{text}, from {FRAGMENTS[0]:,} fragments of 100 wholes {once:,} microseconds, from "
                   f"{FRAGMENTS[1]:,} {more:,}; ratio {more / max(once, 1):.2f}", flush=True)
+        for word, text, key in QUEUED:
+            tell_queue(times, program, folder, word, text, key)
 
 
 if __name__ == "__main__":

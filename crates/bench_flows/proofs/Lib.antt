@@ -1,1 +1,2 @@
+pub mod Expiring
 pub mod Reading

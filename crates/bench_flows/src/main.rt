@@ -1,4 +1,4 @@
-//! Measures what processors do with contents and what a queue picks: behind a word that says which stands how much of it
+//! Measures what processors do with contents, and what a queue costs: a word says which, and the next one how much of it
 //! there is.
 #![tactic(auto)]
 
@@ -9,22 +9,35 @@ mod measured;
 mod processors;
 mod queues;
 mod texts;
+mod waiting;
 
 use anyhow::{Result, bail};
+use flow_queue::TakeRule;
 use measured::Compared;
+use prioritizer::Prioritizer;
 use std::alloc::{Alloc, Global};
 use std::env;
 use std::fs::Files;
 
 /// What is measured, and how much of it there is where the word is `check`.
-const PARTS: [(&str, u32); 6] = [
+const PARTS: [(&str, u32); 14] = [
     ("split", 20_000),
     ("replace", 20_000),
     ("route", 20_000),
     ("merge", 20_000),
     ("picks", 200),
     ("waits", 200),
+    ("put", 200),
+    ("first", 200),
+    ("newest", 200),
+    ("oldest", 200),
+    ("priority", 200),
+    ("one", 200),
+    ("bin", 200),
+    ("expired", 200),
 ];
+
+const BIN: TakeRule = TakeRule::Bin { min: 1, max: 1_000 };
 
 fn main(rt: HostRuntime) -> Result<()> {
     let alloc = rt.alloc();
@@ -59,6 +72,14 @@ fn measure<R: Files + Alloc<A = Global>>(
         "merge" => contents::measure_merge(rt, alloc, much),
         "picks" => queues::measure(rt, alloc, much, 0),
         "waits" => queues::measure(rt, alloc, much, 1),
+        "put" => waiting::measure_put(rt, alloc, much),
+        "first" => waiting::measure_drain(rt, alloc, Prioritizer::FirstInFirstOut, much),
+        "newest" => waiting::measure_drain(rt, alloc, Prioritizer::NewestFlowFileFirst, much),
+        "oldest" => waiting::measure_drain(rt, alloc, Prioritizer::OldestFlowFileFirst, much),
+        "priority" => waiting::measure_drain(rt, alloc, Prioritizer::PriorityAttribute, much),
+        "one" => waiting::measure_picks(rt, alloc, TakeRule::One, much),
+        "bin" => waiting::measure_picks(rt, alloc, BIN, much),
+        "expired" => waiting::measure_expiry(rt, alloc, much),
         _ => bail!("`{part}` measures nothing"),
     }
 }

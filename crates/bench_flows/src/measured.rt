@@ -20,6 +20,16 @@ pub struct Compared {
     pub plain: Option<Measured>,
 }
 
+impl Compared {
+    /// What a part of the engine did, with nothing beside it.
+    pub fn alone(count: u64, took: u64) -> Compared {
+        Compared {
+            engine: Measured { count, took },
+            plain: None,
+        }
+    }
+}
+
 /// How many nanoseconds of the processor this process has had, and 0 where the system doesn't tell.
 pub fn processor_time<R: Files + Alloc<A = Global>>(rt: &R) -> u64 {
     let Ok(told) = fs::read_to_string(rt, PROCESSOR_TIME) else {

@@ -1,4 +1,4 @@
-use Rattle.std.proofs.Common.{◌+◌, ◌-◌, sym, subst, arith}
+use Rattle.std.proofs.Common.{◌-◌, sym, subst, arith}
 use Rattle.bench_flows.proofs.Reading.{LeaveRoom, all-read, with_one_more}
 use Rattle.bench_flows.proofs.files.taken.Goals as goal
 

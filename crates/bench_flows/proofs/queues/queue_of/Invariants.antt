@@ -1,6 +1,6 @@
 use Rattle.std.proofs.Common.{◌<◌}
 use Rattle.std.specs.Prelude.{All}
-use Rattle.bench_flows.proofs.queues.queue.Given as goal
+use Rattle.bench_flows.proofs.queues.queue_of.Given as goal
 
 -- the files so far have the places before this one
 abbrev pub invariant-loop-place : goal.invariant-loop-place
