@@ -17,7 +17,7 @@ use Rattle.flow_definition.specs.declared.made.Refusal.TheVariants.{NoType, Unre
 use Rattle.flow_definition.specs.declared.made.RefusedProcessor.{RefusedProcessor}
 use Rattle.flow_definition.specs.declared.rule.Rule.{Rule}
 use Rattle.flow_definition.specs.declared.rule.Rule.TheVariants.{UnknownType, BadPattern, BadExpression, PatternTooBig}
-use Rattle.flow_definition.specs.Judged.{part_at, refused_property, refused_processors, refused_with, is_processor_made, is_refusal, kept_of, processors_kept, processors_with, first_refused_in, refused_in, first_told}
+use Rattle.flow_definition.specs.Judged.{part_at, refused_property, refused_processors, refused_with, is_processor_made, is_refusal, kept_if_made, processors_kept, processors_with, first_refused_in, refused_in, first_told}
 use Rattle.flow_definition.specs.Made.{AreAllMade, AreMade, first_refused, processor_in, refused_part, rule_of}
 use Rattle.flow_definition.specs.Numbers.{rule_number}
 use Rattle.flow_definition.specs.Rules.{Path}
@@ -76,7 +76,7 @@ kept_none true false list = refl
 kept_none false b list = refl
 
 pub kept_push : (a : Bool) (place : ℕ) (ms : List Made) (m : Made)
-    → processors_with (processors_kept a ms) (kept_of (a && list_all is_processor_made ms) place m) ≡ processors_kept a (ms ++ m ∷ [])
+    → processors_with (processors_kept a ms) (kept_if_made (a && list_all is_processor_made ms) place m) ≡ processors_kept a (ms ++ m ∷ [])
 kept_push a place ms (made.Processor p) =
     kept_made a (list_all is_processor_made ms) (filter_map processor_in ms) p
     ∙ ap (λ list. cond (a && (list_all is_processor_made ms && true)) list []) (sym (all_push ms p))
@@ -86,12 +86,12 @@ kept_push a place ms (made.Refused r) =
     ∙ kept_none a (list_all is_processor_made ms) (filter_map processor_in (ms ++ made.Refused r ∷ [])))
 
 pub refused_kept : (a : Bool) (place : ℕ) (list : List RefusedProcessor) (m : Made)
-    → refused_with list (kept_of a place m) ≡ list ++ refused_processors place (m ∷ [])
+    → refused_with list (kept_if_made a place m) ≡ list ++ refused_processors place (m ∷ [])
 refused_kept true place list (made.Processor p) = sym (append-nil list)
 refused_kept false place list (made.Processor p) = sym (append-nil list)
 refused_kept a place list (made.Refused r) = refl
 
-pub made_kept : (a : Bool) (place : ℕ) (m : Made) → not (is_refusal (kept_of a place m)) ≡ is_processor_made m
+pub made_kept : (a : Bool) (place : ℕ) (m : Made) → not (is_refusal (kept_if_made a place m)) ≡ is_processor_made m
 made_kept true place (made.Processor p) = refl
 made_kept false place (made.Processor p) = refl
 made_kept a place (made.Refused r) = refl

@@ -61,16 +61,16 @@ processors_kept accepted made =
     if accepted && list_all is_processor_made made then filter_map processor_in made else []
 
 -- what is kept of one processor
-abbrev pub kept_of : (accepted : Bool) → (place : ℕ) → Made → Kept
-kept_of accepted place (made.Processor processor) = if accepted then kept.Processor processor else kept.Nothing
-kept_of accepted place (made.Refused refusal) = kept.Refused (refused_as place refusal)
+abbrev pub kept_if_made : (accepted : Bool) → (place : ℕ) → Made → Kept
+kept_if_made accepted place (made.Processor processor) = if accepted then kept.Processor processor else kept.Nothing
+kept_if_made accepted place (made.Refused refusal) = kept.Refused (refused_as place refusal)
 
 -- what becomes of one processor, and what the builder tells behind that; and what of it is kept
 pub record IsJudged (before now : Told) (accepted : Bool) (place : ℕ) (d : Data) (kept : Kept) : Type 0 where
   pub made : Made
   pub is_made : IsMade (HasRisen before.count now.count) d made
   pub told : now ≡ told_made before d made
-  pub is_kept : kept ≡ kept_of accepted place made
+  pub is_kept : kept ≡ kept_if_made accepted place made
 
 -- the refused ones and the processors, with what is kept of one more
 abbrev pub refused_with : List RefusedProcessor → Kept → List RefusedProcessor

@@ -1,6 +1,6 @@
 use Rattle.std.proofs.Common.{◌&&◌, not, [], ◌∷◌, ◌++◌, map, take, refl, sym, ap, ◌∙◌, subst, arith}
 use Rattle.serde_json.specs.View.{view}
-use Rattle.flow_definition.specs.Judged.{is_refusal, kept_of, processors_kept, processors_with, refused_processors, refused_with}
+use Rattle.flow_definition.specs.Judged.{is_refusal, kept_if_made, processors_kept, processors_with, refused_processors, refused_with}
 use Rattle.flow_definition.specs.Made.{AreMade, told_all, told_made}
 use Rattle.flow_definition.specs.Patterns.{HasRisen, Told, told_by_builder}
 use Rattle.flow_definition.proofs.Judged.{accepted_first, accepted_push, kept_first, kept_push, made_kept, made_place, refused_kept, refused_push}
@@ -59,7 +59,7 @@ items-preserved g c =
               (made_place (HasRisen first middle) view items place are.made c.items-test.true are.each));
           processors = c.in_ok-push.ensures.processors
               ∙ (λ i. processors_with (are.processors i) (is.is_kept i))
-              ∙ (λ i. processors_with (processors_kept accepted are.made) (kept_of (c.items.invariant.judged.1 i) place made))
+              ∙ (λ i. processors_with (processors_kept accepted are.made) (kept_if_made (c.items.invariant.judged.1 i) place made))
               ∙ kept_push accepted place are.made made;
         },
         c.in_ok-push.ensures.accepted
