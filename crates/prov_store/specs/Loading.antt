@@ -18,7 +18,7 @@ use Rattle.prov_store.specs.declared.read.Cursor.{Cursor}
 abbrev pub bytes_there : Files → Cursor → List ℕ
 bytes_there files cursor = drop cursor.at (files cursor.file)
 
--- fewer events than so many stand from a place on, and a whole block behind them
+-- fewer events than so many stand from a place on, and a whole block after them
 pub record HasWholeBehind (files : Files) (start : Cursor) (many : ℕ) : Type 0 where
   pub count : ℕ
   pub fewer : count < many

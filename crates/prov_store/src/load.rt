@@ -45,7 +45,7 @@ impl Events {
         // The first damage by the events' numbers is told, where there is one.
         ensures damaged { (damage : TheDamage) → IsErrOf result (BlockError.Damaged damage) → IsTrue D.tells
             → events_in (D.held disk.old) line end ≡ Err damage }
-        // What is damaged before the block, or the list, that memory is wanted for is told.
+        // Damage before the block that memory is wanted for is reported.
         ensures memory { IsErrOf result BlockError.Memory → IsTrue D.tells
             → LoadWantsMemory (D.held disk.old) line end }
         ensures stays { Stays D.held D.moment D.images disk.old disk.new }

@@ -1,4 +1,4 @@
--- Where reading a batch may want memory: at a block that stands whole, behind blocks that join one another.
+-- Where reading a batch may want memory: at a block that stands whole, after blocks that join one another.
 use Rattle.std.specs.Prelude.{◌≡◌, ◌⊎◌, ℕ, ◌+◌, ◌<◌, ◌≤◌, is_ok, IsTrue, List, [], length, drop, Some}
 use Rattle.flowfile_record.specs.declared.flow_file.FlowFile.{FlowFile}
 use Rattle.record_codec.specs.ActiveFile.{active_front_at}

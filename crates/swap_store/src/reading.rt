@@ -39,7 +39,7 @@ pub fn read_batch<D: Disk>(
     // The first damage is told, where there is one.
     ensures damaged { (damage : TheDamage) → IsErrOf result (BlockError.Damaged damage) → IsTrue D.tells
         → swapped_files_in (D.held disk.old) batch ≡ Err damage }
-    // What is damaged before the block that memory is wanted for is told, and of that block what can be told without.
+    // Damage before the block that memory is wanted for is reported, and of that block what can be seen without memory.
     ensures memory { IsErrOf result BlockError.Memory → IsTrue D.tells
         → BatchWantsMemory (D.held disk.old (swap_file batch)) }
     ensures stays { Stays D.held D.moment D.images disk.old disk.new }

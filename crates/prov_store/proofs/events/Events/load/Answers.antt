@@ -2,9 +2,9 @@ use Rattle.std.proofs.Common.{◌≡◌, ℕ, suc, ◌+◌, ◌*◌, ◌/◌, in
 use Rattle.std.specs.Prelude.{Err}
 use Rattle.std.proofs.lemmas.Result.{err_from_is_err_and}
 use Rattle.disk_trait.specs.Files.{Files}
-use Rattle.prov_store.specs.Events.{events_file, events_of_files}
+use Rattle.prov_store.specs.Events.{events_of_files}
 use Rattle.prov_store.specs.Loading.{EventsAreLoaded, LoadWantsMemory, loaded_state}
-use Rattle.prov_store.specs.State.{AreLonger, EventsState, HasStale, IsEventLine}
+use Rattle.prov_store.specs.State.{AreLonger, EventsState, HasStale}
 use Rattle.flowfile_record.specs.declared.limits.TheConstants.{EVENTS_PER_FILE}
 use Rattle.block_file.specs.declared.error.BlockError.TheVariants.{Damaged, Memory}
 use Rattle.prov_store.proofs.Listing.{none_longer}
