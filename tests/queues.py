@@ -4,9 +4,9 @@
     tests/queues.py [--calls N] [--queues N] [--seed N] [--bent]
 
 A program of flow_queue's own sources, tried without a proof (`rt try`), makes the calls on many queues of the four
-orders: put, check out, back, leave, swap out and in, enter a batch, and every question, at moments that lie on the
-limits too. With --bent it is tried again with three mistakes in turn, each of which some answer has to show. To build
-it takes a minute of the processor each time.
+orders: put, check out, back, leave one by one and many at once, swap out and in, enter a batch, and every question, at
+moments that lie on the limits too. With --bent it is tried again with one mistake after another, each of which some
+answer has to show, or that it stops. To build it takes a minute of the processor each time.
 """
 
 import os
@@ -112,11 +112,9 @@ fn changes(alloc: Global, queue: &mut Queue, call: &str, words: &[&str]) -> Resu
                 }
             }
         }
+        "leave_all" => queue.leave_all(numbers(alloc, words, 2)?.as_slice()),
         "swap_out" => {
-            let mut numbers = Vec::new(alloc);
-            for place in 3..words.len() {
-                numbers.push(number(words, place)?)?;
-            }
+            let numbers = numbers(alloc, words, 3)?;
             queue.reserve(0)?;
             queue.swap_out(number(words, 2)?, numbers.as_slice());
         }
@@ -192,6 +190,14 @@ fn number(words: &[&str], place: usize) -> Result<u64> {
     Ok(number)
 }
 
+fn numbers(alloc: Global, words: &[&str], from: usize) -> Result<Vec<u64>> {
+    let mut numbers = Vec::new(alloc);
+    for place in from..words.len() {
+        numbers.push(number(words, place)?)?;
+    }
+    Ok(numbers)
+}
+
 fn rule(words: &[&str]) -> Result<TakeRule> {
     match word(words, 3)? {
         "source" => Ok(TakeRule::Source),
@@ -249,6 +255,14 @@ const KEYS: [&str; 4] = [
 ];
 """
 
+# A call that takes the first file in the order too.
+TOO_MANY = """        self.leave_together(numbers);
+        if let Some(note) = self.by_rank.front() {
+            let number = note.number;
+            self.leave(number);
+        }
+"""
+
 # Mistakes that some answer has to show: lines of the sources, and what stands there instead.
 BENT = {
     "a file in flight is handed out":
@@ -258,6 +272,22 @@ BENT = {
     "a penalty ends a millisecond early":
         [("src/held.rt", "moment < self.file.penalty_end", "moment + 1 < self.file.penalty_end"),
          ("src/queue/ranked.rt", "moment < note.penalty_end", "moment + 1 < note.penalty_end")],
+    "files go by their arrival alone":
+        [("src/held.rt", "self.compare(other, order).is_lt()", "self.file.arrival < other.file.arrival")],
+    "the youngest file is asked whether one has expired":
+        [("src/queue/ages.rt", "ages.front()", "ages.back()")],
+    "a file that comes isn't counted for its whole":
+        [("src/queue/counts.rt", "self.put(WholeCount { number, files });",
+          "self.put(WholeCount { number, files: files.max(2) - 1 });")],
+    "files that leave together still count with their bytes":
+        [("src/queue/leaving.rt", "        self.bytes -= bytes;\n", "")],
+    "one file too many leaves":
+        [("src/queue/leaving.rt", "        self.leave_together(numbers);", TOO_MANY)],
+    "the highest batch comes back":
+        [("src/queue/swapping.rt", ".map(|batch| batch.number).min()", ".map(|batch| batch.number).max()")],
+    "a batch comes back without its last file":
+        [("src/queue/swapping.rt", "        for file in files {",
+          "        let mut files = files;\n        let _ = files.pop();\n        for file in files {")],
 }
 
 
@@ -389,8 +419,8 @@ class Caller:
     def __init__(self, count):
         self.lines, self.answers = [], []
         self.queues = [self.queue(place) for place in range(count)]
-        self.asked = dict.fromkeys(("put", "out", "back", "leave", "swap_out", "swap_in", "known", "best", "pick",
-                                    "expired", "out_batch", "in_due", "full", "end", "len"), 0)
+        self.asked = dict.fromkeys(("put", "out", "back", "leave", "leave_all", "swap_out", "swap_in", "known", "best",
+                                    "pick", "expired", "out_batch", "in_due", "full", "end", "len"), 0)
 
     def say(self, answer, *words):
         self.lines.append(" ".join(map(str, words)))
@@ -411,8 +441,9 @@ class Caller:
         queue = self.queues[place]
         few = len(queue.batches) < 6
         weights = {"put": 30 if len(queue.files) < 40 else 3, "out": 8, "back": 6, "leave": 6, "leave_many": 1,
-                   "swap_out": 3 if few else 0, "swap_in": 3 if few else 20, "known": 0.3 if few else 0, "best": 12,
-                   "pick": 16, "expired": 7, "out_batch": 4, "in_due": 4, "full": 4, "end": 6, "len": 2}
+                   "leave_all": 3, "swap_out": 3 if few else 0, "swap_in": 3 if few else 20,
+                   "known": 0.3 if few else 0, "best": 12, "pick": 16, "expired": 7, "out_batch": 4, "in_due": 4,
+                   "full": 4, "end": 6, "len": 2}
         name = random.choices(list(weights), list(weights.values()))[0]
         getattr(self, "make_" + name)(place, queue)
 
@@ -462,15 +493,19 @@ class Caller:
     def make_back(self, place, queue):
         self.mark(place, queue, False)
 
-    def make_leave(self, place, queue, most=1):
+    def make_leave(self, place, queue, most=1, name="leave"):
         files = random.sample(queue.files, min(most, len(queue.files)))
-        if files:
-            self.say("", "leave", place, *(file.number for file in files))
+        if files or name == "leave_all":
+            self.say("", name, place, *(file.number for file in files))
             queue.files = [file for file in queue.files if file not in files]
-            self.count("leave")
+            self.count(name)
 
     def make_leave_many(self, place, queue):
         self.make_leave(place, queue, random.randrange(2, 20))
+
+    def make_leave_all(self, place, queue):
+        # Mostly one, which of many leaves as if alone.
+        self.make_leave(place, queue, random.choice((0, 1, 1, 1, 1, 1, 1, 2, 5, 20, len(queue.files))), "leave_all")
 
     def free_batch(self, queue):
         return random.choice([n for n in range(30) if n not in queue.batches])
@@ -590,12 +625,15 @@ def write_program(folder, edits=()):
 
 
 def answers_of(folder, lines, edits=()):
+    """What the program answers; none if it stops at a call, as at one of a file that isn't there."""
     own = write_program(folder, edits)
     given = folder / "calls"
     given.write_text("".join(line + "\n" for line in lines))
     with given.open() as calls:
         ended = subprocess.run(["rt", "try", "--steps", str(STEPS), "--seconds", str(LONGEST), "--"], cwd=own,
                                stdin=calls, stdout=subprocess.PIPE, stderr=subprocess.PIPE, text=True, check=False)
+    if "run=fault" in ended.stderr:
+        return None
     if ended.returncode != 0:
         sys.exit(f"`rt try` ended with {ended.returncode}:\n{ended.stdout[-2_000:]}{ended.stderr[-4_000:]}")
     return ended.stdout.splitlines()
@@ -606,22 +644,24 @@ class Cases:
         self.folder, self.caller = folder, caller
 
     def difference(self, edits=()):
-        """The place of the first wrong answer, if there is one, and the answers."""
+        """The first wrong answer, if there is one, or that the program stops."""
         with new_folder(self.folder) as folder:
             answers = answers_of(folder, self.caller.lines, edits)
-        wanted = self.caller.answers
-        need(len(answers) == len(wanted), f"{len(answers)} answers to {len(wanted)} calls")
-        return next((place for place, pair in enumerate(zip(answers, wanted)) if pair[0] != pair[1]), None), answers
+        if answers is None:
+            return "it stops at a call"
+        lines, wanted = self.caller.lines, self.caller.answers
+        need(len(answers) == len(lines), f"{len(answers)} answers to {len(lines)} calls")
+        return next((f"{line}: {answer}, and not {right}" for line, answer, right in zip(lines, answers, wanted)
+                     if answer != right), None)
 
     def agree(self):
-        place, answers = self.difference()
-        if place is not None:
-            need(False, f"{self.caller.lines[place]}: {answers[place]}, and not {self.caller.answers[place]}")
+        wrong = self.difference()
+        need(wrong is None, wrong)
 
     def differ(self, edits):
-        place, answers = self.difference(edits)
-        need(place is not None, "every answer is the same")
-        return f"{self.caller.lines[place]}: {answers[place]}, and not {self.caller.answers[place]}"
+        wrong = self.difference(edits)
+        need(wrong is not None, "every answer is the same")
+        return wrong
 
 
 def main():
@@ -637,7 +677,7 @@ def main():
     report, cases = Report(), Cases(given.folder, caller)
     report.case(f"{given.calls} calls of {given.queues} queues", cases.agree)
     for name, edits in BENT.items() if given.bent else ():
-        report.case(f"an answer shows that {name}", cases.differ, edits)
+        report.case(f"it shows that {name}", cases.differ, edits)
     report.end()
 
 
