@@ -34,6 +34,10 @@ MANY = [{f"p{one:02}": f"name=([a-z]+);x={place:03}{one:02}" for one in range(64
 PATTERNS = sum(map(len, MANY))
 MOST_OF_A_PATTERN = 30_000
 MOST_OF_ONE_LET_GO = 3_000
+# Own patterns of one processor, far more than it may have, in some 0.9 MB of text. How many bytes of memory a run may
+# take for such a text.
+CROWD = {f"p{place:05}": f"name=([a-z]+);x={place:05}" for place in range(23_000)}
+MOST_OF_A_CROWD = 64_000_000
 
 
 def ring(penalty=0, more=(), **fields):
@@ -463,8 +467,8 @@ class Cases:
 
     def many_patterns(self):
         """Texts of many patterns that are refused: 3, in little time and memory. Where a pattern can't be read, those
-        of the processors before it are held until then. Behind it, and where another rule is broken, only those of one
-        processor at a time are."""
+        of the processors before it are held until then. Behind it, and where another rule is broken, only one at a
+        time is, also of a processor that has far more than it may."""
         bare = self.peak_of_patterns([{"p00": "("}, *({} for _ in MANY[1:])], 8, "/processors/1/properties/p00")
         held, gone = MOST_OF_A_PATTERN * PATTERNS, bare + MOST_OF_ONE_LET_GO * PATTERNS
         last = len(MANY) - 1
@@ -475,7 +479,13 @@ class Cases:
             own[place][name] = "("
             peaks.append(self.peak_of_patterns(own, 8, f"/processors/{place + 1}/properties/{name}"))
             need(peaks[-1] < most, f"{peaks[-1]:,} bytes with {name} of processor {place}, {bare:,} without patterns")
-        return f"{PATTERNS} patterns, {' '.join(f'{peak / 1e6:.1f}' for peak in (bare, *peaks))} MB"
+        unread = {**CROWD, max(CROWD): "("}
+        for own, rule, place in (([CROWD], 10, "/processors/1/properties"),
+                                 ([unread], 8, f"/processors/1/properties/{max(CROWD)}"),
+                                 ([{"p00": "("}, CROWD], 8, "/processors/1/properties/p00")):
+            peaks.append(self.peak_of_patterns(own, rule, place))
+            need(peaks[-1] < MOST_OF_A_CROWD, f"{peaks[-1]:,} bytes with {len(CROWD)} patterns of one processor")
+        return f"{PATTERNS} and {len(CROWD)} patterns, {' '.join(f'{peak / 1e6:.1f}' for peak in (bare, *peaks))} MB"
 
     def peak_of_patterns(self, own, rule, place, **fields):
         """The most memory, in bytes, that a text of these own patterns takes until it is refused."""
