@@ -1,6 +1,8 @@
-//! A run over devices in memory, stopped at every moment and begun anew, or ended by the limit of its journal.
+//! A run over devices in memory, stopped at every moment and begun anew, or ended by the limit of its journal; and a
+//! session that is committed after other files expired.
 ghost use Rattle.std.specs.Prelude.{◌-◌, ◌^◌, ◌<◌, IfOk};
 ghost use Rattle.flowfile_record.specs.Encoding.{IsDigest};
+ghost use Rattle.engine_steps.specs.Leaving.{MayGoOn};
 ghost use Rattle.machine_model.specs.Sound.{IsSound};
 
 use super::*;
@@ -8,6 +10,8 @@ use crate::command::run_over;
 use crate::opening::open;
 use crate::text::read;
 use disk_trait::{Disk, MemoryDisk, Pick};
+use engine_session::work;
+use engine_steps::{Checkout, Committed, Engine, Tended};
 use flow_definition::Builder;
 use flow_words::{DEFAULT_CHECKPOINT, DEFAULT_COMMITS};
 use flowfile_record::{Event, EventKind};
@@ -20,7 +24,8 @@ use std::sync::atomic::{AtomicU64, Ordering};
 use std::test::Fail;
 use store_core::{Limit, Which};
 use world_io::{
-    FreeGate, Gate, MemoryClock, MemoryInbox, MemoryOutbox, MemorySink, MemorySource, Name, Outbox,
+    FreeGate, Gate, Inbox, MemoryClock, MemoryInbox, MemoryOutbox, MemorySink, MemorySource, Name,
+    Outbox,
 };
 
 // What comes into the inbox goes out by the outbox.
@@ -224,7 +229,15 @@ fn beat(alloc: Global, files: u64) -> Result<Flow, Fail>
 {
     let [head, tail] = BEAT;
     let text = format!(in alloc; "{head}{files}{tail}")?;
-    let mut source = MemorySource::new(text.into_bytes(), Vec::new(alloc));
+    flow_of(alloc, text.into_bytes())
+}
+
+// The flow of a text.
+fn flow_of(alloc: Global, text: Vec<u8>) -> Result<Flow, Fail>
+    ensures sound { IfOk result IsSound }
+    ensures digest { IfOk result (λ flow. IsDigest flow.digest) }
+{
+    let mut source = MemorySource::new(text, Vec::new(alloc));
     let mut patterns = Builder::new(Vec::new(alloc));
     let Ok(flow) = read(alloc, &mut source, &mut patterns) else {
         return Err("a text that is no flow")?;
@@ -450,6 +463,59 @@ fn goes_by_logs(alloc: Global, run: LoggedRun, picks: &[Pick]) -> Result<(), Fai
     Ok(())
 }
 
+// A flow that makes a file, which waits for a second at most, and that receives files.
+const AGING: &str = r#"{"processors": [
+    {"id": "beat", "type": "GenerateFlowFile", "properties": {"Custom Text": "x", "Count": "1"}},
+    {"id": "get", "type": "GetFile"},
+    {"id": "put", "type": "PutFile", "terminated": ["success", "failure"]}
+], "connections": [
+    {"id": "made", "from": "beat", "to": "put", "relationships": ["success"], "expiration": 1000},
+    {"id": "arrived", "from": "get", "to": "put", "relationships": ["success"]}
+]}"#;
+
+// Works on the session that comes next, lets a file expire that has waited for too long by then, and commits the work.
+fn commits_behind_an_expiry<D: Disk, I: Inbox, O: Outbox>(
+    alloc: Global,
+    engine: &mut Engine<'_>,
+    disk: &mut D,
+    inbox: &mut I,
+    outbox: &mut O,
+) -> Result<(), Fail>
+    requires may { MayGoOn D.tells D.held D.moment D.images I.tells (I.left inbox.old) engine.old disk.old }
+{
+    let Ok(Checkout::Session(choice)) = engine.checkout(alloc, 1000) else {
+        return Err("no session comes")?;
+    };
+    let Ok(job) = engine.read(alloc, disk, inbox, outbox, 1000, choice) else {
+        return Err("a job that can't be read")?;
+    };
+    let done = work(alloc, engine.flow(), engine.store_id(), job, 0, &FreeGate)?;
+    let Ok(Tended::Expired) = engine.tend(alloc, disk, 3000) else {
+        return Err("no file expires")?;
+    };
+    let Ok(Committed::Acked { .. }) = engine.commit(alloc, disk, inbox, outbox, done) else {
+        return Err("a session that no expiry has to do with isn't acknowledged")?;
+    };
+    Ok(())
+}
+
+// A file was made, and another one is received while the first expires.
+fn receives_behind_an_expiry(alloc: Global) -> Result<(), Fail> {
+    let flow = flow_of(alloc, AGING.as_bytes().to_vec(alloc)?)?;
+    let mut disk = MemoryDisk::new(Vec::new(alloc));
+    goes_on(alloc, &mut disk, &flow, 1, DEFAULT_CHECKPOINT, &FreeGate)?;
+    let Ok(store) = open(alloc, 0, &mut disk, &flow) else {
+        return Err("a store that can't be opened")?;
+    };
+    let files = vec![in alloc; (Name::read(alloc, "a.txt")?, b"hi".to_vec(alloc)?)]?;
+    let mut inbox = MemoryInbox::new(files, Vec::new(alloc));
+    let mut outbox = MemoryOutbox::new(Vec::new(alloc), Vec::new(alloc));
+    let Ok(mut engine) = Engine::new(alloc, &flow, store, 9, DEFAULT_CHECKPOINT, &mut inbox) else {
+        return Err("an inbox that can't be listed")?;
+    };
+    commits_behind_an_expiry(alloc, &mut engine, &mut disk, &mut inbox, &mut outbox)
+}
+
 #[test]
 fn wherever_a_run_stops_the_next_one_delivers_the_file(rt: HostRuntime) -> Result<(), Fail> {
     let alloc = rt.alloc();
@@ -472,5 +538,6 @@ fn wherever_a_run_stops_the_next_one_delivers_the_file(rt: HostRuntime) -> Resul
     goes_by_logs(alloc, long, &[Pick::Torn(0x5a5a)])?;
     ends_at_its_limit(alloc)?;
     passes_the_gate(alloc)?;
+    receives_behind_an_expiry(alloc)?;
     Ok(())
 }
