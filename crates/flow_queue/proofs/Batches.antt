@@ -1,24 +1,18 @@
 -- The batches of a queue: the lowest, and how many files and bytes they have.
-use Rattle.std.proofs.Common.{◌≡◌, ◌≢◌, ℕ, ◌+◌, ◌-◌, ◌<◌, ◌≤◌, min, nat_le, inl, inr, true, false, cond, List, [], ◌∷◌, length, map, Option, Some, None, refl, sym, ap, ◌∙◌, subst, arith}
-use Rattle.std.specs.Prelude.{All, fold, slice_get, sum_by}
+use Rattle.std.proofs.Common.{◌≡◌, ℕ, ◌+◌, ◌-◌, ◌<◌, ◌≤◌, min, nat_le, inl, inr, true, false, cond, List, [], ◌∷◌, length, map, Option, Some, None, refl, sym, ap, ◌∙◌, arith}
+use Rattle.std.specs.Prelude.{fold, slice_get, sum_by}
 use Rattle.std.specs.List.{reduce}
 use Rattle.std.proofs.lemmas.Bool.{cases_lt, le-leb, le-ltb, lt-leb, lt-ltb}
 use Rattle.std.proofs.lemmas.List.{length-map}
-use Rattle.std.proofs.lemmas.List.Elements.{All-nil, All-cons, All-head, All-tail}
 use Rattle.std.proofs.lemmas.List.Sums.{sum_by-cons}
 use Rattle.std.proofs.lemmas.Simd.{map-map}
-use Rattle.flowfile_record.specs.NumberedItems.{with_items}
-use Rattle.flowfile_record.specs.declared.flow_file.FlowFile.{FlowFile}
 use Rattle.machine_model.specs.Due.{lowest_batch}
 use Rattle.machine_model.specs.Events.{ascending, put_ascending}
 use Rattle.machine_model.specs.View.{FileView, BatchView, byte_count, file_count}
-use Rattle.machine_model.proofs.Ordered.{pairs_head, pairs_tail}
 use Rattle.flow_queue.specs.declared.batch.Batch.{Batch}
 use Rattle.flow_queue.specs.declared.held.Held.{Held}
-use Rattle.flow_queue.specs.Queue.{QueueState, IsApart, queue_as_seen, queue_with_file, seen_batch, views_of, held_bytes, held_number, held_view}
-use Rattle.flow_queue.specs.Swapping.{AreTwo, MayComeIn, number_of_batch, rested}
-use Rattle.flow_queue.proofs.Fields.{same_state}
-use Rattle.flow_queue.proofs.ForCallers.{All-with_file}
+use Rattle.flow_queue.specs.Queue.{QueueState, queue_as_seen, seen_batch, views_of, held_bytes, held_view}
+use Rattle.flow_queue.specs.Swapping.{number_of_batch}
 
 -- ---- the lowest
 
@@ -70,38 +64,7 @@ sums-seen f (batch ∷ batches) =
     sum_by-cons f (seen_batch batch) (map seen_batch batches) ∙ ap (λ n. f (seen_batch batch) + n) (sums-seen f batches)
     ∙ sym (sum_by-cons (λ (b : Batch). f (seen_batch b)) batch batches)
 
--- ---- files come in one by one
-
-pub still-may : (queue after : QueueState) (files : List FlowFile) → after.files ≡ queue.files → MayComeIn queue files → MayComeIn after files
-still-may queue after files is may = record {
-  apart = subst (λ fs. All (λ other. IsApart other fs) files) (sym is) may.apart;
-  distinct = may.distinct;
-}
-
-pub next-comes : (queue after : QueueState) (file : FlowFile) (files : List FlowFile) → after.files ≡ queue_with_file file queue.files → MayComeIn queue (file ∷ files) → MayComeIn after files
-next-comes queue after file files is may = record {
-  apart = subst (λ fs. All (λ other. IsApart other fs) files) (sym is)
-      (apart-with files (pairs_head AreTwo file files may.distinct) (All-tail (λ other. IsApart other queue.files) file files may.apart));
-  distinct = pairs_tail AreTwo file files may.distinct;
-}
-  where
-    apart-with : (others : List FlowFile) → All (AreTwo file) others → All (λ other. IsApart other queue.files) others → All (λ other. IsApart other (queue_with_file file queue.files)) others
-    apart-with [] two apart = All-nil (λ other. IsApart other (queue_with_file file queue.files))
-    apart-with (other ∷ others) two apart =
-        All-cons (λ f. IsApart f (queue_with_file file queue.files)) other others
-        (All-with_file (λ (held : Held). (held.file.number ≢ other.number) × (held.file.arrival ≢ other.arrival)) file queue.files
-        (All-head (AreTwo file) other others two) (All-head (λ f. IsApart f queue.files) other others apart))
-        (apart-with others (All-tail (AreTwo file) other others two) (All-tail (λ f. IsApart f queue.files) other others apart))
-
--- a queue with these files, which no session works on
-abbrev pub comes_into : QueueState → List FlowFile → QueueState
-comes_into queue files = record queue { files = with_items held_number (map rested files) queue.files; spare = queue.spare - length files }
-
-pub comes-none : (queue : QueueState) → comes_into queue [] ≡ queue
-comes-none queue = same_state (comes_into queue []) queue refl refl refl (omega arith) refl refl
-
-pub comes-cons : (queue : QueueState) (file : FlowFile) (files : List FlowFile) → comes_into (record queue { files = queue_with_file file queue.files; spare = queue.spare - 1 }) files ≡ comes_into queue (file ∷ files)
-comes-cons queue file files = same_state _ _ refl refl refl (omega arith) refl refl
+-- ---- limits
 
 -- what is short of a limit without the batches is short of it with them
 pub same-test : (limit swapped active total : ℕ) → total ≡ active + swapped → nat_le (limit - swapped) active ≡ nat_le limit total

@@ -5,10 +5,12 @@ pub mod Bins
 pub mod Compared
 pub mod Counting
 pub mod Crosses
+pub mod Ends
 pub mod Expiring
 pub mod Fields
 pub mod ForCallers
 pub mod InOrder
+pub mod Joining
 pub mod NoWhole
 pub mod Numbered
 pub mod OutBatch

@@ -53,7 +53,7 @@ all-found order files up =
     All-weaker (Contains own) (Found files) (λ view h. found files view up (there_too order files view h)) own (All-contains_itself own)
 
 -- two files of one number are one
-same-number : (files : List Held) (one other : FileView) → Found files one → Found files other → one.number ≡ other.number → one ≡ other
+pub same-number : (files : List Held) (one other : FileView) → Found files one → Found files other → one.number ≡ other.number → one ≡ other
 same-number files one other f g same =
     let both : Some one ≡ Some other = sym f ∙ ap (λ n. option_map held_view (item_of held_number n files)) same ∙ g in
     cc

@@ -1,5 +1,6 @@
 pub mod Ages
 pub mod Counts
+pub mod Entering
 pub mod Fragments
 pub mod Inside
 pub mod Leaving

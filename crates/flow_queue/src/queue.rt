@@ -6,6 +6,7 @@ mod ages;
 mod bins;
 mod choosing;
 mod counts;
+mod entering;
 mod leaving;
 mod ranked;
 mod swapping;
@@ -13,6 +14,7 @@ mod wholes;
 
 use self::ages::{put_age, reserve_ages, take_age};
 use self::counts::Counts;
+use self::entering::put_file;
 use self::ranked::{Note, put_note, take_note};
 use crate::batch::Batch;
 use crate::held::Held;
@@ -116,7 +118,6 @@ impl Queue {
             file,
             in_flight: false,
         };
-        let size = held.size();
         put_note(&mut self.by_rank, &self.files, &self.order, &held);
         put_age(
             &mut self.by_age,
@@ -125,9 +126,7 @@ impl Queue {
             &self.oldest_first,
             &held,
         );
-        self.counts.enter(&held);
-        self.files.put(held);
-        self.bytes += u128::from(size);
+        put_file(&mut self.files, &mut self.counts, &mut self.bytes, held);
     }
 
     /// A session takes a file, which stays in the queue.

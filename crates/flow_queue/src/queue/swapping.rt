@@ -89,9 +89,7 @@ impl Queue {
         ensures { self.new ≡ swapped_into self.old batch files.items }
     {
         self.leave_batch(batch);
-        for file in files {
-            self.put(file);
-        }
+        self.put_all(files);
     }
 
     // A batch goes, which leaves room for one.

@@ -1,45 +1,14 @@
-use Rattle.std.proofs.Common.{◌≡◌, length, sym, ◌∙◌, ap, subst, arith}
-use Rattle.std.specs.Vec.Iter.{into_iter_items}
-use Rattle.std.proofs.lemmas.List.{nil_from_length}
-use Rattle.std.proofs.lemmas.List.Elements.{All-head}
+use Rattle.std.proofs.Common.{sym, ◌∙◌, ap, subst}
+use Rattle.std.specs.Prelude.{All}
+use Rattle.flow_queue.specs.Entering.{queue_joined_by}
 use Rattle.flow_queue.specs.Queue.{IsApart}
-use Rattle.flow_queue.specs.Swapping.{MayComeIn}
-use Rattle.flow_queue.proofs.Batches.{comes_into, comes-cons, comes-none, next-comes, still-may}
 use Rattle.flow_queue.proofs.queue.Queue.swap_in.Goals as goal
 
-pub put-requires-clause-room : goal.put-requires-clause-room
-put-requires-clause-room c = omega (arith, c.loop-file.invariant.room, ap length c.in-Some.ensures.steps.0)
-
-pub put-requires-clause-apart : goal.put-requires-clause-apart
-put-requires-clause-apart c =
-    let may = subst (MayComeIn c.loop-file.self) c.in-Some.ensures.steps.0 c.loop-file.invariant.may in
-    All-head (λ f. IsApart f c.loop-file.self.files) c.in-Some.file (into_iter_items c.next.new.self) may.apart
-
-pub loop-file-preserved : goal.loop-file-preserved
-loop-file-preserved c =
-    let queue = c.loop-file.self in
-    let later = into_iter_items c.next.new.self in
-    let split = c.in-Some.ensures.steps.0 in
-    let may = subst (MayComeIn queue) split c.loop-file.invariant.may in
-    record {
-      room = omega (arith, c.loop-file.invariant.room, ap length split, ap (λ q. q.spare) c.put.ensures);
-      may = next-comes queue c.put.new.self c.in-Some.file later (ap (λ q. q.files) c.put.ensures) may;
-      queue = ap (λ q. comes_into q later) c.put.ensures ∙ comes-cons queue c.in-Some.file later ∙ ap (comes_into queue) (sym split) ∙ c.loop-file.invariant.queue;
-    }
-
-pub loop-file-init : goal.loop-file-init
-loop-file-init c =
-    let files = c.args.files.items in
-    let queue = c.leave_batch.new.self in
-    let all : into_iter_items c.into_iter-file-iterator.result ≡ files = c.into_iter-file-iterator.ensures.into_iter_gives.0 in
-    record {
-      room = omega (arith, ap length all, c.requires.room, ap (λ q. q.spare) c.leave_batch.ensures);
-      may = subst (MayComeIn queue) (sym all) (still-may c.args.self.now queue files (ap (λ q. q.files) c.leave_batch.ensures) c.requires.files);
-      queue = ap (comes_into queue) all ∙ ap (λ q. comes_into q files) c.leave_batch.ensures;
-    }
+pub put_all-requires-clause-may : goal.put_all-requires-clause-may
+put_all-requires-clause-may c = record {
+  apart = subst (λ held. All (λ file. IsApart file held) c.args.files.items) (sym (ap (λ q. q.files) c.leave_batch.ensures)) c.requires.files.apart;
+  distinct = c.requires.files.distinct;
+}
 
 pub returns : goal.returns
-returns c =
-    let left = c.loop-file.file-iterator in
-    let none : length (into_iter_items left) ≡ 0 = omega (arith, left.rest.ok.0, c.in-None.ensures.steps.0) in
-    sym (comes-none c.loop-file.self) ∙ ap (comes_into c.loop-file.self) (sym (nil_from_length (into_iter_items left) none)) ∙ c.loop-file.invariant.queue
+returns c = c.put_all.ensures ∙ ap (queue_joined_by c.args.files.items) c.leave_batch.ensures

@@ -10,8 +10,8 @@ returns-clause-ranked c =
     let files = c.args.files.now.items in
     let notes = c.args.notes.now.items in
     let held = c.args.held.now in
-    let place = c.place_in_order-place.result in
-    let rank = c.place_in_order-place.ensures.rank in
+    let place = c.place_to_leave-place.result in
+    let rank = c.place_to_leave-place.ensures.rank in
     let lt = leave-within order files notes c.requires.apart c.requires.ranked held place c.requires.there rank in
     if_some c.remove.result _ _ (c.remove.ensures.succeeds (noted_as (held_view held)) (omega (arith, lt, c.args.notes.now.ok.0))) c.remove.ensures.items
     ∙ ranked-leave order files notes c.requires.apart c.requires.ranked held place c.requires.there rank
