@@ -7,8 +7,6 @@ mod answer;
 mod found;
 mod kin;
 mod query;
-#[cfg(test)]
-mod tests;
 mod told;
 mod walk;
 
