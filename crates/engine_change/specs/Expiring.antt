@@ -1,5 +1,5 @@
 -- What files that expire ask of a store, and what they make of its state.
-use Rattle.std.specs.Prelude.{◌≡◌, ℕ, ◌+◌, ◌<◌, true, List, [], length, map, All, Some, slice_get}
+use Rattle.std.specs.Prelude.{◌≡◌, ℕ, ◌+◌, ◌<◌, true, false, List, [], length, map, All, Some, slice_get}
 use Rattle.std.specs.List.{filter_map, list_all}
 use Rattle.disk_trait.specs.Files.{Files}
 use Rattle.sha2.specs.Sha256.{sha256}
@@ -21,7 +21,7 @@ use Rattle.machine_model.specs.Events.{Draft, ascending, numbered_from}
 use Rattle.machine_model.specs.Files.{queue_at, queues_of, view_of}
 use Rattle.machine_model.specs.State.{World}
 use Rattle.machine_model.specs.Stepping.{expired, files_of, step}
-use Rattle.machine_model.specs.View.{is_expired}
+use Rattle.machine_model.specs.View.{FileView, QueueView, is_expired}
 use Rattle.store_core.specs.Flow.{flow_in}
 use Rattle.store_core.specs.State.{live_contents, state_with}
 use Rattle.store_core.specs.Store.{StoreState, kept_by, FilesHold}
@@ -118,13 +118,22 @@ pub record HasExpiryStep (flow : Flow) (world : World) (contents : ContentRef �
         world = world;
       })
 
--- what the machine has due may expire
+-- a file as it is seen, whether it is in flight or not
+abbrev pub without_flight : FileView → FileView
+without_flight file = record file { in_flight = false }
+
+-- The queues show the same files as these others, in the same order, but for which of them are in flight.
+pub record ShowFilesOf (queues others : ℕ → QueueView) : Type 0 where
+  pub files : (place : ℕ) → map without_flight (queues place).active ≡ map without_flight (others place).active
+
+-- what is due by queues that show the machine's files, whichever are in flight, may expire
 abbrev pub DueExpiriesMayExpire : Type 0
 DueExpiriesMayExpire =
-    (flow : Flow) (world : World) (contents : ContentRef → List ℕ) (events : List Event) (k : Kept) (place : ℕ)
-    (numbers : List ℕ) (moment : ℕ)
+    (flow : Flow) (world : World) (contents : ContentRef → List ℕ) (events : List Event) (k : Kept)
+    (queues : ℕ → QueueView) (place : ℕ) (numbers : List ℕ) (moment : ℕ)
     → IsConsistent k → k.batches ≡ [] → flow_in k ≡ identity_of flow → AreEventsUpTo k.last_event events
-    → due_expiry flow (queues_of (state_with contents events k)) moment ≡ Some (place, numbers)
+    → ShowFilesOf queues (queues_of (state_with contents events k))
+    → due_expiry flow queues moment ≡ Some (place, numbers)
     → HasExpiryStep flow world contents events k place numbers moment
 
 -- files that hold what a store has in memory have each live content in its size and its digest

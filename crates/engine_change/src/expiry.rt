@@ -13,7 +13,7 @@ use crate::ended_session::have_texts;
 use flowfile_record::{
     ActiveFile, Event, EventKind, EventList, Numbers, PlacedList, Settled, Stored, Text,
 };
-use machine_model::{Flow, due_has_a_step};
+use machine_model::Flow;
 use std::alloc::{AllocError, Global};
 use store_core::{SettledExpiry, Store, what_is_kept_is_a_state};
 
@@ -115,11 +115,11 @@ pub fn expiries_are_steps()
     what_is_kept_is_a_state();
 }
 
-/// What the machine has due may expire, and there is a step for it.
+/// What is due by queues that show the machine's files may expire, whichever files are in flight, and there is a step
+/// for it.
 pub fn due_expiries_may_expire()
     ensures { DueExpiriesMayExpire }
 {
-    due_has_a_step();
     what_is_kept_is_a_state();
 }
 

@@ -13,6 +13,7 @@ use Rattle.machine_model.specs.declared.flow.Flow.{Flow}
 use Rattle.machine_model.specs.declared.flow.Processor.{Processor}
 use Rattle.machine_model.specs.declared.flow.QueueLimits.{QueueLimits}
 use Rattle.machine_model.specs.State.{State, World}
+use Rattle.machine_model.specs.Stepping.{without_name}
 use Rattle.machine_model.specs.Due.{due_expiry, due_swap_out, due_swap_in}
 use Rattle.machine_model.specs.Files.{queues_of}
 use Rattle.machine_model.specs.Order.{eligible_files}
@@ -22,7 +23,7 @@ use Rattle.flow_queue.specs.Queue.{QueueState}
 use Rattle.store_core.specs.State.{state_with}
 use Rattle.store_core.specs.Store.{StoreState, kept_by, FilesHold}
 use Rattle.engine_queues.specs.Beside.{beside, is_out}
-use Rattle.engine_queues.specs.Listing.{Left, with_mark}
+use Rattle.engine_queues.specs.Listing.{Left, AreDistinct, names_left, with_mark}
 use Rattle.engine_queues.specs.Queues.{AreQueuesOf, queue_seen}
 use Rattle.engine_queues.specs.Views.{HaveSizes, kept_queues}
 
@@ -118,12 +119,21 @@ BlockedIsSeen =
 
 -- ---- names of an inbox
 
--- a listing is as it was before once a name that was taken is given back, and names may be given back in any order
+-- a listing is as it was before once a name that was taken is given back, and names may be taken and given back in any
+-- order
 pub record GoBack (listing : Left) : Type 0 where
   pub as_before : (place : ℕ) → slice_get listing.taken place ≡ Some false
       → with_mark false place (with_mark true place listing) ≡ listing
-  pub in_any_order : (one other : ℕ) → one ≢ other
-      → with_mark false other (with_mark false one listing) ≡ with_mark false one (with_mark false other listing)
+  pub in_any_order : (one other : ℕ) (is_one is_other : Bool) → one ≢ other
+      → with_mark is_other other (with_mark is_one one listing)
+      ≡ with_mark is_one one (with_mark is_other other listing)
 
 abbrev pub NamesGoBack : Type 0
 NamesGoBack = (listing : Left) → GoBack listing
+
+-- where each name is listed once, a name that is left and is then taken is gone from those that are left
+abbrev pub NamesLeave : Type 0
+NamesLeave =
+    (listing : Left) (place : ℕ) (name : List ℕ) → AreDistinct listing.listed
+    → slice_get listing.listed place ≡ Some name → slice_get listing.taken place ≡ Some false
+    → names_left (with_mark true place listing) ≡ without_name (names_left listing) name

@@ -1,3 +1,4 @@
+pub mod Chosen
 pub mod Ends
 pub mod Handed
 pub mod EachKind
@@ -5,6 +6,10 @@ pub mod Lookups
 pub mod Machines
 pub mod Names
 pub mod Outbox
+pub mod Picks
 pub mod Sends
 pub mod SessionSteps
+pub mod Stays
+pub mod StillThere
 pub mod Stepping
+pub mod TakenSessions

@@ -33,11 +33,11 @@ use Rattle.engine_session.specs.Laws.{AreLiveFiles, MachinesFilesAreLive}
 use Rattle.engine_session.proofs.Lookups.{distinct_as, found_active}
 
 -- what is kept, as the machine sees it
-record Seen (k : Kept) (bytes : ContentRef → List ℕ) (events : List Event) : Type 0 where
-  flow : Flow
-  valid : IsValid flow (state_with bytes events k)
-  consistent : IsConsistent k
-  live : QueuedFilesAreLive
+pub record Seen (k : Kept) (bytes : ContentRef → List ℕ) (events : List Event) : Type 0 where
+  pub flow : Flow
+  pub valid : IsValid flow (state_with bytes events k)
+  pub consistent : IsConsistent k
+  pub live : QueuedFilesAreLive
 
 some_same : {A : Type 0} (x y : A) → ◌≡◌ {A = Option A} (Some x) (Some y) → x ≡ y
 some_same x y is = cc
@@ -57,7 +57,7 @@ record IsFound (queue : List QueuedFile) (number : ℕ) : Type 0 where
   there : Among file queue
   named : file.number ≡ number
 
-find-among : {X : Type 0} (p : X → Bool) (xs : List X) (x : X) → find p xs ≡ Some x → Among x xs
+pub find-among : {X : Type 0} (p : X → Bool) (xs : List X) (x : X) → find p xs ≡ Some x → Among x xs
 find-among p [] x is = absurd cc
 find-among {X} p (y ∷ xs) x is =
     elim (cases_Bool (p y)) [
@@ -101,7 +101,7 @@ module _ (k : Kept) (bytes : ContentRef → List ℕ) (events : List Event) (see
 
   -- ---- all of them
 
-  all_active : (connection : ℕ) (numbers : List ℕ) → are_active (queue_at state connection) numbers ≡ true → are_active_in k.files connection numbers ≡ true
+  pub all_active : (connection : ℕ) (numbers : List ℕ) → are_active (queue_at state connection) numbers ≡ true → are_active_in k.files connection numbers ≡ true
   all_active connection [] all = refl
   all_active connection (number ∷ numbers) all =
       let one = head_same connection number numbers all in
@@ -109,7 +109,7 @@ module _ (k : Kept) (bytes : ContentRef → List ℕ) (events : List Event) (see
       (ap (is_in_connection connection) one.found ∙ eq-eqb one.active.connection connection one.place)
       (all_active connection numbers (rest_active connection number numbers all))
 
-  all_same : (connection : ℕ) (numbers : List ℕ) → are_active (queue_at state connection) numbers ≡ true
+  pub all_same : (connection : ℕ) (numbers : List ℕ) → are_active (queue_at state connection) numbers ≡ true
       → files_of (queue_at state connection) numbers ≡ map (queued_file bytes) (live_files k numbers)
   all_same connection [] all = refl
   all_same connection (number ∷ numbers) all =

@@ -21,6 +21,7 @@ MayWorkOn flow store job = MayWork flow job.processor (taken_with_contents store
 
 -- It is what the job's processor makes of it, by the definition, and what stays of what it was handed.
 pub record IsWorkOn (flow : Flow) (store : ℕ) (job : Job) (done : Done) : Type 0 where
+  pub session : done.session ≡ job.session
   pub processor : done.processor ≡ job.processor
   pub connection : done.connection ≡ job.connection
   pub numbers : done.numbers ≡ job.numbers
@@ -65,6 +66,7 @@ IsReceivedAs outcome given = ReceivesAs outcome given.file given.bytes
 -- The job's processor worked on the job's files, which stood as they stand in it, with the job's contents, and was given
 -- what the job gives.
 pub record IsSame (done : Done) (job : Job) : Type 0 where
+  pub session : done.session ≡ job.session
   pub processor : done.processor ≡ job.processor
   pub connection : done.connection ≡ job.connection
   pub numbers : done.numbers ≡ job.numbers

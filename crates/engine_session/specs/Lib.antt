@@ -5,4 +5,5 @@ pub mod Job
 pub mod Laws
 pub mod Sending
 pub mod Steps
+pub mod Taken
 pub mod Working

@@ -73,6 +73,7 @@ pub fn session_change(
     worlds_follow_steps();
     let stored = store.state();
     let Done {
+        session: _,
         processor,
         connection,
         numbers: _,

@@ -14,6 +14,7 @@ use world_io::Gate;
 /// What a session's processor made of its job, with what stays of the files that it took. It is made by [`work`] alone.
 #[derive(Drop)]
 pub struct Done {
+    pub session: u64,
     pub processor: u16,
     pub(crate) connection: u16,
     pub(crate) numbers: Numbers,
@@ -61,12 +62,12 @@ pub fn work<G: Gate>(
     flow: &Flow,
     store: u64,
     job: Job,
-    session: u64,
     gate: &G,
 ) -> Result<Done, AllocError>
     requires { MayWorkOn flow.now store job }
     ensures { IfOk result (IsWorkOn flow.now store job) }
 {
+    let session = job.session;
     gate.enter(session);
     let done = work_inside(alloc, flow, store, job);
     gate.leave(session);
@@ -79,6 +80,7 @@ fn work_inside(alloc: Global, flow: &Flow, store: u64, job: Job) -> Result<Done,
     ensures { IfOk result (IsWorkOn flow.now store job) }
 {
     let Job {
+        session,
         processor,
         connection,
         numbers,
@@ -89,6 +91,7 @@ fn work_inside(alloc: Global, flow: &Flow, store: u64, job: Job) -> Result<Done,
     let taken = taken_from(alloc, store, files.as_slice(), contents)?;
     let (outcome, sources) = work_at(alloc, flow, processor, taken, &mut given)?;
     Ok(Done {
+        session,
         processor,
         connection,
         numbers,
@@ -126,7 +129,8 @@ pub fn step_done(alloc: Global, done: &Done) -> Result<Step, AllocError>
 pub fn is_work_on(done: &Done, job: &Job) -> bool
     ensures { IsTrue result ↔ IsSame done.now job.now }
 {
-    done.processor == job.processor
+    done.session == job.session
+        && done.processor == job.processor
         && done.connection == job.connection
         && done.numbers.as_slice() == job.numbers.as_slice()
         && are_same_files(done.files.as_slice(), job.files.as_slice())

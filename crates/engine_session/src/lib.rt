@@ -8,6 +8,7 @@ mod ending;
 mod handing;
 mod job;
 mod laws;
+mod taken;
 mod working;
 
 pub use change::{Changed, Sending, session_change};
@@ -15,3 +16,4 @@ pub use done::{Done, are_same_files, is_work_on, step_done, work};
 pub use handing::{ReadList, fit_a_content, live_files};
 pub use job::Job;
 pub use laws::{sessions_are_steps, taken_files_are_handed, taken_files_are_live};
+pub use taken::{chosen_files_are_taken, taken_files_are_sessions, taken_files_stay};

@@ -1,5 +1,5 @@
-use Rattle.engine_queues.proofs.GivenBack.{names-go-back}
+use Rattle.engine_queues.proofs.GivenBack.{names-go-back, names-leave}
 use Rattle.engine_queues.proofs.laws.names_go_back.Goals as goal
 
 pub returns : goal.returns
-returns c = names-go-back
+returns c = record { back = names-go-back; leave = names-leave }
