@@ -36,6 +36,7 @@ module _ {A : Type 0} (result : Result A EngineError) where
       by (Err EngineError.Put) is = other EngineError.Put is (λ e. cc)
       by (Err (EngineError.Limit limit)) is = other (EngineError.Limit limit) is (λ e. cc)
       by (Err EngineError.MustReopen) is = other EngineError.MustReopen is (λ e. cc)
+      by (Err EngineError.NoSession) is = other EngineError.NoSession is (λ e. cc)
       by (Err EngineError.Memory) is = other EngineError.Memory is (λ e. cc)
 
   -- where the disk didn't fail the engine is as it was

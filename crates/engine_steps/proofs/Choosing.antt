@@ -40,6 +40,7 @@ use Rattle.machine_model.specs.Placing.{EndedSession}
 use Rattle.machine_model.specs.State.{Machine, QueuedFile, State, World}
 use Rattle.machine_model.specs.Stepping.{as_taken, given_in, is_there, may_generate, may_get, same_bool, session_after, step, taken_files}
 use Rattle.machine_model.specs.Valid.{IsValid}
+use Rattle.machine_model.specs.View.{QueueView}
 use Rattle.machine_model.proofs.Options.{if_and_then, if_at, if_when}
 use Rattle.machine_model.proofs.Took.{Took, taken-took}
 use Rattle.flow_queue.specs.Queue.{QueueState}
@@ -47,9 +48,10 @@ use Rattle.store_core.specs.Flow as store
 use Rattle.store_core.specs.Flow.{flow_in}
 use Rattle.store_core.specs.Store.{FilesHold, StoreState, kept_by}
 use Rattle.engine_change.specs.Committing.{identity_of}
+use Rattle.engine_queues.specs.Beside.{beside}
 use Rattle.engine_queues.specs.Laws.{HeldContentsHaveSizes, QueuesAreSeen, SeesTheSame}
 use Rattle.engine_queues.specs.Queues.{AreQueuesOf, queue_seen}
-use Rattle.engine_choice.specs.Choice.{coming_of, next_choice, known_alone}
+use Rattle.engine_choice.specs.Choice.{coming_of, known_alone, known_by, next_choice}
 use Rattle.engine_choice.specs.Laws.{ChoicesAreSeen, ChoicesAreSessions, IsSessionAt, given_for, numbers_in}
 use Rattle.engine_choice.specs.declared.choice.Choice.{Choice}
 use Rattle.engine_choice.specs.declared.choice.Taking.{Taking}
@@ -58,20 +60,23 @@ use Rattle.engine_session.specs.Steps.{SessionsAreSteps}
 use Rattle.run_law.specs.Run.{IsStateOf}
 use Rattle.run_law.specs.Turns.{ComesNext, step_moment}
 use Rattle.engine_steps.specs.Checkout.{choice_in}
+use Rattle.engine_steps.specs.Flights.{busy_by, given_back, names_to_come, taken_by}
 use Rattle.engine_steps.specs.Showing.{EngineShowsState}
+use Rattle.engine_steps.specs.declared.flight.InFlight.{InFlight}
 use Rattle.engine_queues.specs.Listing.{names_left}
-use Rattle.engine_queues.proofs.ForCallers.{seen_alone}
+use Rattle.engine_queues.proofs.Besides.{none-is-out}
 use Rattle.engine_choice.proofs.ForCallers.{alone_known}
 use Rattle.engine_steps.specs.Engine.{EngineState}
 
 -- ---- the queues are the machine's
 
-pub sees : QueuesAreSeen → HeldContentsHaveSizes → (flow : Flow) (s : StoreState) (files : Files) (queues : List QueueState) (m : Machine) → FilesHold s files → IsConsistent (kept_by s) → flow_in (kept_by s) ≡ identity_of flow
-    → AreQueuesOf flow (kept_by s) [] queues → IsStateOf m (content_in files) (kept_by s) → SeesTheSame flow (queue_seen queues) (queues_of m.state)
-sees law sizes flow s files queues m holds consistent flow_is are tied =
+-- beside the sessions in flight
+sees : QueuesAreSeen → HeldContentsHaveSizes → (flow : Flow) (s : StoreState) (files : Files) (out : List ℕ) (queues : List QueueState) (m : Machine) → FilesHold s files → IsConsistent (kept_by s)
+    → flow_in (kept_by s) ≡ identity_of flow → AreQueuesOf flow (kept_by s) out queues → IsStateOf m (content_in files) (kept_by s) → SeesTheSame flow (queue_seen queues) (beside out (queues_of m.state))
+sees law sizes flow s files out queues m holds consistent flow_is are tied =
     let count : length (kept_by s).connections ≡ length flow.connections = ap (λ (f : store.Flow). length f.connections) flow_is ∙ length-map flow.connections (λ c. c.id) in
-    subst (λ (t : State). SeesTheSame flow (queue_seen queues) (queues_of t)) tied.is
-    (seen_alone law flow (content_in files) m.state.events (kept_by s) queues consistent (sizes s files holds) count are)
+    subst (λ (t : State). SeesTheSame flow (queue_seen queues) (beside out (queues_of t))) tied.is
+    (law flow (content_in files) m.state.events (kept_by s) out queues consistent (sizes s files holds) count are)
 
 -- ---- a choice is a step
 
@@ -181,25 +186,35 @@ session_step law flow last m moment choice nothing chosen s =
       });
     }
 
--- .. and so the machine goes on where one comes and no file has expired
-pub goes_on : ChoicesAreSessions → ChoicesAreSeen → SessionsAreSteps → (e : EngineState) (m : Machine) (moment : ℕ) (choice : Choice) → IsValid e.flow m.state → SeesTheSame e.flow (queue_seen e.queues) (queues_of m.state)
-    → (kept_by e.store).counts ≡ m.state.counts → coming_of m.world ≡ (names_left e.listing) → due_expiry e.flow (queue_seen e.queues) moment ≡ None → choice_in e moment ≡ Some choice → HasStep e.flow e.last moment m
-goes_on choices seen_so steps e m moment choice valid seen counts coming nothing is =
+-- where no session is in flight, the queues are seen as the machine's
+seen_at_rest : (e : EngineState) (m : Machine) → e.out ≡ [] → SeesTheSame e.flow (queue_seen e.queues) (beside (taken_by e.out) (queues_of m.state)) → SeesTheSame e.flow (queue_seen e.queues) (queues_of m.state)
+seen_at_rest e m alone seen =
+    subst (λ (views : ℕ → QueueView). SeesTheSame e.flow (queue_seen e.queues) views) (ap (λ (out : List InFlight). beside (taken_by out) (queues_of m.state)) alone ∙ none-is-out (queues_of m.state)) seen
+
+-- .. and so the machine goes on where one comes, none is in flight and no file has expired
+pub goes_on : ChoicesAreSessions → ChoicesAreSeen → SessionsAreSteps → (e : EngineState) (m : Machine) (moment : ℕ) (choice : Choice) → e.out ≡ [] → IsValid e.flow m.state
+    → SeesTheSame e.flow (queue_seen e.queues) (beside (taken_by e.out) (queues_of m.state)) → (kept_by e.store).counts ≡ m.state.counts → coming_of m.world ≡ names_to_come e
+    → due_expiry e.flow (queue_seen e.queues) moment ≡ None → choice_in e moment ≡ Some choice → HasStep e.flow e.last moment m
+goes_on choices seen_so steps e m moment choice alone valid seen counts coming nothing is =
+    let k = kept_by e.store in
     let known = known_alone (queue_seen e.queues) m.state.counts (coming_of m.world) moment in
+    let at_rest = seen_at_rest e m alone seen in
+    let left : coming_of m.world ≡ names_left e.listing = coming ∙ ap (λ (out : List InFlight). names_left (given_back out e.listing)) alone in
     let chosen : next_choice e.flow known e.last ≡ Some choice =
     ap (λ (made : List ℕ). next_choice e.flow (known_alone (queue_seen e.queues) made (coming_of m.world) moment) e.last) (sym counts)
-    ∙ ap (λ (names : List (List ℕ)). next_choice e.flow (known_alone (queue_seen e.queues) (kept_by e.store).counts names moment) e.last) coming ∙ is in
-    session_step steps e.flow e.last m moment choice (sym (seen.expiry moment) ∙ nothing)
-    (sym (seen_so e.flow known (queues_of m.state) e.last seen) ∙ chosen)
-    (choices e.flow m.state m.world [] known e.last choice valid (alone_known e.flow m.state m.world (queue_seen e.queues) moment seen) chosen).0
+    ∙ ap (λ (names : List (List ℕ)). next_choice e.flow (known_alone (queue_seen e.queues) k.counts names moment) e.last) left
+    ∙ sym (ap (λ (out : List InFlight). next_choice e.flow (known_by e.queues k.counts (busy_by e.flow out) e.listing moment) e.last) alone) ∙ is in
+    session_step steps e.flow e.last m moment choice (sym (at_rest.expiry moment) ∙ nothing)
+    (sym (seen_so e.flow known (queues_of m.state) e.last at_rest) ∙ chosen)
+    (choices e.flow m.state m.world [] known e.last choice valid (alone_known e.flow m.state m.world (queue_seen e.queues) moment at_rest) chosen).0
 
 -- ---- an engine shows the machine's state
 
-pub shown : QueuesAreSeen → HeldContentsHaveSizes → (e : EngineState) (s : StoreState) (files : Files) (m : Machine) → s ≡ e.store → flow_in (kept_by e.store) ≡ identity_of e.flow → AreQueuesOf e.flow (kept_by e.store) [] e.queues
-    → FilesHold s files → IsConsistent (kept_by s) → IsStateOf m (content_in files) (kept_by s) → EngineShowsState e m
+pub shown : QueuesAreSeen → HeldContentsHaveSizes → (e : EngineState) (s : StoreState) (files : Files) (m : Machine) → s ≡ e.store → flow_in (kept_by e.store) ≡ identity_of e.flow
+    → AreQueuesOf e.flow (kept_by e.store) (taken_by e.out) e.queues → FilesHold s files → IsConsistent (kept_by s) → IsStateOf m (content_in files) (kept_by s) → EngineShowsState e m
 shown law sizes e s files m is flow queues holds consistent tied =
     let same = subst (λ (t : StoreState). IsStateOf m (content_in files) (kept_by t)) is tied in
     record {
-      seen = sees law sizes e.flow e.store files e.queues m (subst (λ (t : StoreState). FilesHold t files) is holds) (subst (λ (t : StoreState). IsConsistent (kept_by t)) is consistent) flow queues same;
+      seen = sees law sizes e.flow e.store files (taken_by e.out) e.queues m (subst (λ (t : StoreState). FilesHold t files) is holds) (subst (λ (t : StoreState). IsConsistent (kept_by t)) is consistent) flow queues same;
       counts = ap (λ (t : State). t.counts) same.is;
     }

@@ -1,8 +1,8 @@
 -- What the commit of a session's change leaves, in the machine's words.
-use Rattle.std.proofs.Common.{◌≡◌, ◌⊎◌, inl, inr, ⊎_elim, ℕ, Bool, true, false, List, length, refl, sym, ◌∙◌, ap, subst}
+use Rattle.std.proofs.Common.{◌≡◌, ◌⊎◌, inl, inr, ⊎_elim, ℕ, Bool, true, false, List, [], length, refl, sym, ◌∙◌, ap, subst}
 use Rattle.std.proofs.lemmas.Bool.{false≢true}
 use Rattle.std.specs.Prelude.{◌↔◌, Option, None, Some, Result, Ok, Err, IsErrOf}
-use Rattle.std.proofs.lemmas.List.{length-set}
+use Rattle.std.proofs.lemmas.List.{length-map, length-set}
 use Rattle.disk_trait.specs.Files.{Files}
 use Rattle.disk_trait.specs.Images.{Since, Stays}
 use Rattle.disk_trait.proofs.Moments.{wider}
@@ -17,13 +17,15 @@ use Rattle.content_repo.specs.Claims.{content_in, HasSizes}
 use Rattle.flowfile_wal.specs.Calls.{InEach}
 use Rattle.kept_state.specs.Applied.{applied}
 use Rattle.flowfile_record.specs.Counts.{with_count}
-use Rattle.kept_state.specs.Changes.{entry_of_change, no_files}
+use Rattle.kept_state.specs.Changes.{MaySettleAs, entry_of_change, no_files}
 use Rattle.kept_state.specs.Fits.{are_active_in}
 use Rattle.kept_state.specs.declared.limit.Limit.{Limit}
 use Rattle.machine_model.specs.declared.flow.Flow.{Flow}
 use Rattle.machine_model.specs.Changing.{state_after}
 use Rattle.machine_model.specs.State.{Machine, State}
 use Rattle.prov_store.specs.State.{IsTrimmed}
+use Rattle.flow_queue.specs.Queue.{QueueState}
+use Rattle.checkpoint_store.specs.Consistent.{IsConsistent}
 use Rattle.store_core.specs.Change.{IsLimitOf, MayChange}
 use Rattle.store_core.specs.Committed.{HasChange, PreparedChange}
 use Rattle.store_core.specs.Flow as store
@@ -32,11 +34,11 @@ use Rattle.store_core.specs.State.{stands_for}
 use Rattle.store_core.specs.Store.{EachStandsFor, IsKeptOn, StoreState, kept_by}
 use Rattle.store_core.specs.declared.error.StoreError.{StoreError}
 use Rattle.engine_change.specs.Committing.{identity_of}
-use Rattle.engine_queues.specs.Settling.{IsKeptAfter}
+use Rattle.engine_queues.specs.Settling.{IsKeptAfter, MaySettleOver}
 use Rattle.run_law.specs.Going.{IsBetween, IsStepped}
 use Rattle.run_law.specs.Run.{StandsFor}
 use Rattle.run_law.specs.Work.{IsAtWork, IsRefused}
-use Rattle.engine_steps.specs.Committing.{with_room}
+use Rattle.engine_steps.specs.Committing.{IsAtWorkWithQueues, with_room}
 use Rattle.engine_steps.specs.Errors.{engine_error}
 use Rattle.engine_steps.specs.declared.error.EngineError.{EngineError}
 
@@ -166,6 +168,18 @@ kept_after p s t u room settled connection same changed entry active = record {
   entry = changed.entry;
   same = changed.same ∙ ap placeless_entry entry;
   kept = changed.kept ∙ ap (λ (v : StoreState). applied no_files (kept_by v) changed.entry) same;
+}
+
+-- the session may be settled over the queues, beside the files that are taken
+pub settles_over : (tells : Bool) {D : Type 0} (held : D → Files) (moment : D → ℕ) (images : D → ℕ → Files → Type 0) (flow : Flow) (s : StoreState) (taken : List ℕ) (queues : List QueueState) (disk : D) (settled : Settled)
+    → IsAtWorkWithQueues flow tells held moment images s taken queues disk → IsConsistent (kept_by s) → (kept_by s).batches ≡ [] → MaySettleAs (kept_by s) settled → MaySettleOver flow (kept_by s) taken settled queues
+settles_over tells held moment images flow s taken queues disk settled queued consistent none may = record {
+  of_kept = queued.are;
+  live = queued.live;
+  connections = ap (λ (f : store.Flow). length f.connections) queued.work.flow_is ∙ length-map flow.connections (λ c. c.id);
+  consistent = consistent;
+  no_batches = none;
+  may = may;
 }
 
 -- a call that ended well met no fault

@@ -1,133 +1,162 @@
--- What stands of a session that is entered into the journal.
-use Rattle.std.proofs.Common.{◌≡◌, ℕ, Bool, List, [], length, ◌<◌, refl, sym, ap, subst, ◌∙◌}
-use Rattle.std.specs.Prelude.{Option, None, Some, IfSome, IsTrue, IsSome, slice_get}
-use Rattle.std.proofs.lemmas.Option.{slice_get_within}
+-- What stands of a session in flight that is entered into the journal.
+use Rattle.std.proofs.Common.{◌≡◌, ℕ, ◌≤◌, Bool, true, List, [], ◌∷◌, length, map, refl, sym, ap, subst, ◌∙◌}
+use Rattle.std.specs.Prelude.{find, Option, None, Some, IfSome, IsTrue, IsSome}
 use Rattle.disk_trait.specs.Files.{Files}
 use Rattle.flowfile_record.specs.NamedFile.{NamedFile, bytes_of}
+use Rattle.flowfile_record.specs.Stored.{Kept}
+use Rattle.flowfile_record.specs.declared.TheConstants.{CONTENT_MAX}
+use Rattle.flowfile_record.specs.declared.flow_file.FlowFile.{FlowFile}
 use Rattle.flowfile_wal.specs.Calls.{InEach}
 use Rattle.checkpoint_store.specs.Consistent.{IsConsistent}
 use Rattle.content_repo.specs.Claims.{content_in}
+use Rattle.kept_state.specs.Fits.{are_active_in}
 use Rattle.machine_model.specs.declared.flow.Flow.{Flow}
-use Rattle.machine_model.specs.declared.flow.Processor.{Processor}
 use Rattle.machine_model.specs.declared.given.Given.{Given}
 use Rattle.machine_model.specs.declared.journal.Step.TheVariants.{Session}
 use Rattle.machine_model.specs.State.{Machine}
 use Rattle.store_core.specs.Store.{FilesHold, kept_by}
-use Rattle.engine_queues.specs.Laws.{HeldContentsHaveSizes, QueuesAreSeen, QueuesShowKept}
-use Rattle.engine_choice.specs.Laws.{TakingsAreSessions}
-use Rattle.engine_queues.specs.Listing.{first_passed, names_left}
-use Rattle.engine_choice.specs.declared.choice.Choice.{Choice}
-use Rattle.engine_session.specs.Handing.{AreTaken}
-use Rattle.engine_session.specs.Laws.{MachinesFilesAreLive}
-use Rattle.run_law.specs.Journal.{TakesFromInbox}
-use Rattle.run_law.specs.Run.{IsStateOf, StandsFor}
-use Rattle.run_law.specs.Work.{IsAtWork}
-use Rattle.engine_session.specs.Change.{IsStepOf, MakesStep, step_of}
-use Rattle.engine_steps.specs.Checkout.{ChoiceStands}
-use Rattle.engine_steps.specs.Commit.{StandsSo}
-use Rattle.engine_steps.specs.OwnJob.{IsJobOf}
+use Rattle.engine_queues.specs.Laws.{HeldContentsHaveSizes}
+use Rattle.engine_choice.specs.Laws.{given_for}
+use Rattle.engine_choice.specs.declared.choice.Taking.{Taking}
+use Rattle.engine_choice.specs.declared.choice.Taking.TheVariants.{Files as OfFiles, Generate, Receive}
+use Rattle.engine_session.specs.Change.{IsStepOf, MakesStep, TellsOfWork, step_of}
 use Rattle.engine_session.specs.Done.{IsWorkOn, step_done}
-use Rattle.engine_steps.specs.Engine.{AreTakeable, EngineState}
-use Rattle.engine_steps.specs.Ready.{EngineIsReady}
-use Rattle.engine_steps.specs.Handing.{JobIsHanded, IsHandedAs, received_in}
+use Rattle.engine_session.specs.Handing.{AreTaken, live_files}
 use Rattle.engine_session.specs.Job.{MayHand}
-use Rattle.engine_steps.specs.Running.{IsRunning}
+use Rattle.engine_session.specs.Laws.{MachinesFilesAreLive}
+use Rattle.engine_session.specs.Taken.{TakenAreSessions}
 use Rattle.engine_session.specs.declared.change.Changed.{Changed}
 use Rattle.engine_session.specs.declared.done.Done.{Done}
 use Rattle.engine_session.specs.declared.job.Job.{Job}
-use Rattle.engine_steps.proofs.Chosen.{IsNext, job_receives, next_first, next_is_left, next_takes_it, next_there_is}
-use Rattle.engine_steps.proofs.Goes.{takes_received}
+use Rattle.engine_session.proofs.Lookups.{live_head, live_one, live_rest}
+use Rattle.run_law.specs.Journal.{TakesFromInbox}
 use Rattle.run_law.specs.Puts.{Outgoing, Start}
+use Rattle.run_law.specs.Run.{IsStateOf, StandsFor}
+use Rattle.run_law.specs.Work.{IsAtWork}
+use Rattle.engine_steps.specs.Commit.{IndexIsNext, StandsSo}
+use Rattle.engine_steps.specs.Engine.{AreTakeable, EngineState}
+use Rattle.engine_steps.specs.Flights.{files_of_flight, has_session, names_to_come}
+use Rattle.engine_steps.specs.Handing.{JobIsHanded, MayBeReceived}
+use Rattle.engine_steps.specs.OwnJob.{IsJobOf}
+use Rattle.engine_steps.specs.Ready.{EngineIsReady}
+use Rattle.engine_steps.specs.Running.{IsRunning}
+use Rattle.engine_steps.specs.declared.flight.InFlight.{InFlight}
+use Rattle.engine_steps.proofs.Files.{some_and}
+use Rattle.engine_steps.proofs.Flights.{received_in, the_flight}
+use Rattle.engine_steps.proofs.Goes.{takes_received}
 use Rattle.engine_steps.proofs.Stands.{all_told}
-use Rattle.engine_steps.proofs.Steps.{next_there, step_so}
+use Rattle.engine_steps.proofs.Steps.{is_received, steps}
 
-module _ (tells : Bool) {D : Type 0} (held : D → Files) (moment : D → ℕ) (images : D → ℕ → Files → Type 0) (v e : EngineState) (is : v ≡ e) (disk : D) (ready : EngineIsReady tells held moment images e disk)
-    (consistent : IsConsistent (kept_by v.store)) (in_tells out_tells : Bool) (left : List NamedFile) (out : Outgoing) (done : Done)
-    (stands : StandsSo tells in_tells out_tells e (content_in (held disk)) left out.standing done) where
-  abbrev pub job_in : Job
-  job_in = stands.1
+-- ---- what a session is handed, by what it takes
 
-  abbrev pub choice_at : Choice
-  choice_at = stands.0
+-- the job has the name that is received
+job_receives : (moment : ℕ) (taking : Taking) (given : Given) → record given { bytes = None } ≡ given_for moment given.there taking → given.file ≡ received_in taking
+job_receives moment (Receive name) given is = ap (λ (g : Given). g.file) is
+job_receives moment (OfFiles connection numbers) given is = ap (λ (g : Given). g.file) is
+job_receives moment (Generate index) given is = ap (λ (g : Given). g.file) is
 
-  own_at : IsJobOf tells in_tells out_tells e (content_in (held disk)) left out.standing done.given.moment choice_at job_in
-  own_at = stands.2
+-- its file is left
+is_left : (left : List NamedFile) (taking : Taking) → MayBeReceived left taking → IfSome (received_in taking) (λ name. IsSome (bytes_of left name))
+is_left left (Receive name) may = (some_and (λ bytes. length bytes ≤ CONTENT_MAX) (bytes_of left name) may).0
+is_left left (OfFiles connection numbers) may = tt
+is_left left (Generate index) may = tt
 
-  work_at : IsWorkOn e.flow (kept_by e.store).store job_in done
-  work_at = stands.3
+-- the files are those of the numbers
+live_numbers : (k : Kept) (connection : ℕ) (numbers : List ℕ) → are_active_in k.files connection numbers ≡ true → map (λ (file : FlowFile). file.number) (live_files k numbers) ≡ numbers
+live_numbers k connection [] all = refl
+live_numbers k connection (number ∷ numbers) all =
+    let has = live_head k.files connection number numbers all in
+    ap (map (λ (file : FlowFile). file.number)) (live_one k connection number numbers has)
+    ∙ (λ i. has.named i ∷ live_numbers k connection numbers (live_rest k.files connection number numbers all) i)
 
-  chosen_at : ChoiceStands e done.given.moment choice_at
-  chosen_at = own_at.stands
+taken_numbers : (k : Kept) (flight : InFlight) (job : Job) → JobIsHanded k flight job → map (λ (file : FlowFile). file.number) job.files ≡ files_of_flight flight
+taken_numbers k flight job handed =
+    ap (map (λ (file : FlowFile). file.number)) handed.taken.are ∙ live_numbers k job.connection job.numbers handed.taken.active ∙ handed.numbers
 
-  pub may_in : MayHand v.flow (kept_by v.store) job_in
-  may_in = subst (λ (x : EngineState). MayHand x.flow (kept_by x.store) job_in) (sym is) own_at.may
+-- ---- work whose job stands
 
-  pub work_in : IsWorkOn v.flow (kept_by v.store).store job_in done
-  work_in = subst (λ (x : EngineState). IsWorkOn x.flow (kept_by x.store).store job_in done) (sym is) work_at
+module _ (tells : Bool) {D : Type 0} (held : D → Files) (moment : D → ℕ) (images : D → ℕ → Files → Type 0) (e : EngineState) (disk : D) (ready : EngineIsReady tells held moment images e disk) (in_tells out_tells : Bool)
+    (left : List NamedFile) (out : Outgoing) (done : Done) (stands : StandsSo tells in_tells out_tells e (content_in (held disk)) left out.standing done) where
+  abbrev pub flight_at : InFlight
+  flight_at = stands.0
 
-  pub handed_in : JobIsHanded (kept_by v.store) done.given.moment choice_at job_in
-  handed_in = subst (λ (x : EngineState). JobIsHanded (kept_by x.store) done.given.moment choice_at job_in) (sym is) own_at.handed
+  abbrev pub job_at : Job
+  job_at = stands.1
 
-  told_in : IsHandedAs tells in_tells out_tells (kept_by v.store) (content_in (held disk)) left out.standing choice_at job_in
-  told_in = subst (λ (x : EngineState). IsHandedAs tells in_tells out_tells (kept_by x.store) (content_in (held disk)) left out.standing choice_at job_in) (sym is) own_at.told
+  next_at : IndexIsNext e flight_at
+  next_at = stands.2
 
-  -- where the disk tells, the files of the job stand so
-  pub read_in : IsTrue tells → AreTaken (kept_by v.store) job_in.connection job_in.numbers (content_in (held disk)) job_in.files job_in.contents
-  read_in = told_in.read
+  own_at : IsJobOf tells in_tells out_tells e (content_in (held disk)) left out.standing flight_at job_at
+  own_at = stands.3
 
-  pub next_in : QueuesShowKept → IsNext v.flow (kept_by v.store) (names_left v.listing) done.given.moment choice_at
-  next_in shown = next_there tells held moment images v e is disk ready consistent done.given.moment choice_at chosen_at shown
+  work_at : IsWorkOn e.flow (kept_by e.store).store job_at done
+  work_at = stands.4
 
-  pub processor_in : done.processor ≡ choice_at.processor
-  processor_in = work_at.processor ∙ own_at.handed.processor
-
-  pub file_in : done.given.file ≡ job_in.given.file
-  file_in = ap (λ (g : Given). g.file) work_at.given.but_bytes
-
-  pub received_is : done.given.file ≡ received_in choice_at.taking
-  received_is = file_in ∙ job_receives done.given.moment choice_at.taking job_in own_at.handed.given
+  pub found_at : find (has_session done.session) e.out ≡ Some flight_at
+  found_at =
+      subst (λ (session : ℕ). find (has_session session) e.out ≡ Some flight_at) (sym (work_at.session ∙ own_at.handed.session))
+      (the_flight e.out flight_at own_at.flying ready.memory.flights.apart)
 
   -- the entry is the step of its job
-  pub step_in : step_of job_in ≡ step_done done
-  step_in =
-      let given : record job_in.given { bytes = None } ≡ record done.given { bytes = None } = sym (ap (λ (g : Given). record g { bytes = None }) work_at.given.but_bytes) in
-      let time : job_in.given.moment ≡ done.given.moment = sym (ap (λ (g : Given). g.moment) work_at.given.but_bytes) in
+  pub step_at : step_of job_at ≡ step_done done
+  step_at =
+      let given : record job_at.given { bytes = None } ≡ record done.given { bytes = None } = sym (ap (λ (g : Given). record g { bytes = None }) work_at.given.but_bytes) in
+      let time : job_at.given.moment ≡ done.given.moment = sym (ap (λ (g : Given). g.moment) work_at.given.but_bytes) in
       λ i. Session (sym work_at.processor i) (sym work_at.numbers i) (time i) (given i)
 
-  -- what it makes is a step
-  pub steps_in : QueuesShowKept → QueuesAreSeen → HeldContentsHaveSizes → TakingsAreSessions → MachinesFilesAreLive → (kept_by v.store).batches ≡ [] → FilesHold v.store (held disk)
-      → ((flow : Flow) → IsAtWork flow tells held moment images v.store disk → (m : Machine) → InEach (images disk (moment disk)) (StandsFor flow v.store.lot m) → IsStateOf m (content_in (held disk)) (kept_by v.store))
-      → IsTrue tells → IsTrue in_tells → IsTrue out_tells → (opened : Machine) (first : D) (start : Start) (time : ℕ) (run : IsRunning moment images e opened first start time disk left out) → (changed : Changed)
-      → ((job : Job) → MayHand v.flow (kept_by v.store) job → IsWorkOn v.flow (kept_by v.store).store job done → MakesStep v.flow (kept_by v.store) job changed)
-      → IsStepOf e.flow (content_in (held disk)) run.reached job_in changed × IsStateOf run.reached (content_in (held disk)) (kept_by v.store)
-  steps_in shown seen sizes sessions live no_batches holds tied telling in_telling out_telling opened first start time run changed makes =
-      step_so tells held moment images v e is disk ready consistent done.given.moment choice_at chosen_at shown seen sizes sessions live
-      no_batches holds tied v.store refl opened first start time left out run job_in changed
-      handed_in (all_told told_in telling in_telling out_telling) (makes job_in may_in work_in)
+  -- the files that are gone are those that it took
+  pub gone_at : (changed : Changed) → TellsOfWork done changed → changed.settled.gone ≡ files_of_flight flight_at
+  gone_at changed told =
+      told.session.gone ∙ ap (map (λ (file : FlowFile). file.number)) work_at.files ∙ taken_numbers (kept_by e.store) flight_at job_at own_at.handed
 
   -- ---- the file that it receives
 
-  -- its processor is one of the flow's
-  pub within_in : QueuesShowKept → (among : Flow) → among ≡ v.flow → done.processor < length among.processors
-  within_in shown among same =
-      let next = next_in shown in
-      subst (λ (n : ℕ). n < length among.processors) (sym processor_in)
-      (subst (λ (f : Flow). choice_at.processor < length f.processors) (sym same) (slice_get_within v.flow.processors choice_at.processor next.processor next.found))
+  pub file_at : done.given.file ≡ job_at.given.file
+  file_at = ap (λ (g : Given). g.file) work_at.given.but_bytes
 
-  pub first_in : QueuesShowKept → (among : Flow) → among ≡ v.flow → (received : Option (List ℕ)) → received ≡ done.given.file
-      → IfSome received (λ name. (p : Processor) → slice_get among.processors done.processor ≡ Some p → first_passed p.kind (names_left v.listing) ≡ Some name)
-  first_in shown among same received copy =
-      subst (λ (place : ℕ). IfSome received (λ name. (p : Processor) → slice_get among.processors place ≡ Some p → first_passed p.kind (names_left v.listing) ≡ Some name)) (sym processor_in)
-      (next_first v.flow among (kept_by v.store) (names_left v.listing) done.given.moment choice_at received same (copy ∙ received_is) (next_in shown))
+  pub received_at : done.given.file ≡ received_in flight_at.choice.taking
+  received_at = file_at ∙ job_receives flight_at.moment flight_at.choice.taking job_at.given own_at.handed.given
 
-  pub left_in : QueuesShowKept → (IsTrue in_tells → AreTakeable left (names_left e.listing)) → (received : Option (List ℕ)) → received ≡ done.given.file
-      → IfSome received (λ name. IsTrue in_tells → IsSome (bytes_of left name))
-  left_in shown takeable received copy =
-      next_there_is in_tells left left choice_at.taking received refl (copy ∙ received_is)
-      (λ told. next_is_left (kept_by v.store) left (names_left v.listing) done.given.moment (next_in shown).processor.kind choice_at.taking
-      (subst (λ (x : EngineState). AreTakeable left (names_left x.listing)) (sym is) (takeable told)) (next_in shown).takes)
+  pub left_at : (IsTrue in_tells → AreTakeable left (names_to_come e)) → (received : Option (List ℕ)) → received ≡ done.given.file → IfSome received (λ name. IsTrue in_tells → IsSome (bytes_of left name))
+  left_at takeable received copy =
+      subst (λ (o : Option (List ℕ)). IfSome o (λ name. IsTrue in_tells → IsSome (bytes_of left name))) (sym (copy ∙ received_at))
+      (where_told (received_in flight_at.choice.taking)
+      (λ telling. is_left left flight_at.choice.taking (is_received tells held moment images e disk ready flight_at own_at.flying left (takeable telling))))
+    where
+      where_told : (o : Option (List ℕ)) → (IsTrue in_tells → IfSome o (λ name. IsSome (bytes_of left name))) → IfSome o (λ name. IsTrue in_tells → IsSome (bytes_of left name))
+      where_told None all = tt
+      where_told (Some name) all = all
 
-  pub takes_in : QueuesShowKept → (name : List ℕ) → done.given.file ≡ Some name → TakesFromInbox e.flow (step_of job_in) name
-  takes_in shown name file =
-      let it = next_takes_it v.flow (kept_by v.store) (names_left v.listing) done.given.moment choice_at job_in name (next_in shown) handed_in (sym received_is ∙ file) in
-      subst (λ (x : EngineState). TakesFromInbox x.flow (step_of job_in) name) is (takes_received v.flow job_in it.0 (names_left v.listing) name it.1 it.2 it.3)
+  pub takes_at : (name : List ℕ) → done.given.file ≡ Some name → TakesFromInbox e.flow (step_of job_at) name
+  takes_at name file = takes_received e.flow (kept_by e.store) job_at name own_at.may (sym file_at ∙ file)
+
+  -- ---- where the engine's fields are those of its value
+
+  module _ (v : EngineState) (is : v ≡ e) where
+    pub may_in : MayHand v.flow (kept_by v.store) job_at
+    may_in = subst (λ (x : EngineState). MayHand x.flow (kept_by x.store) job_at) (sym is) own_at.may
+
+    pub work_in : IsWorkOn v.flow (kept_by v.store).store job_at done
+    work_in = subst (λ (x : EngineState). IsWorkOn x.flow (kept_by x.store).store job_at done) (sym is) work_at
+
+    -- where the disk tells, the files of the job stand so
+    pub read_in : IsTrue tells → AreTaken (kept_by v.store) job_at.connection job_at.numbers (content_in (held disk)) job_at.files job_at.contents
+    read_in telling =
+        subst (λ (x : EngineState). AreTaken (kept_by x.store) job_at.connection job_at.numbers (content_in (held disk)) job_at.files job_at.contents) (sym is) (own_at.told.read telling)
+
+    -- what it makes is a step
+    pub steps_in : HeldContentsHaveSizes → TakenAreSessions → MachinesFilesAreLive → IsConsistent (kept_by v.store) × ((kept_by v.store).batches ≡ []) → FilesHold v.store (held disk)
+        → ((flow : Flow) → IsAtWork flow tells held moment images v.store disk → (m : Machine) → InEach (images disk (moment disk)) (StandsFor flow v.store.lot m) → IsStateOf m (content_in (held disk)) (kept_by v.store))
+        → IsTrue tells → IsTrue in_tells → IsTrue out_tells → (opened : Machine) (first : D) (start : Start) (time : ℕ) (run : IsRunning moment images e opened first start time disk left out) → (changed : Changed)
+        → ((job : Job) → MayHand v.flow (kept_by v.store) job → IsWorkOn v.flow (kept_by v.store).store job done → MakesStep v.flow (kept_by v.store) job changed)
+        → IsStepOf e.flow (content_in (held disk)) run.reached job_at changed × IsStateOf run.reached (content_in (held disk)) (kept_by e.store)
+    steps_in sizes sessions live kept holds tied telling in_telling out_telling opened first start time run changed makes =
+        let tie = tied e.flow (subst (λ (x : EngineState). IsAtWork e.flow tells held moment images x.store disk) (sym is) ready.work) run.reached
+        (subst (λ (x : EngineState). InEach (images disk (moment disk)) (StandsFor e.flow x.store.lot run.reached)) (sym is) run.to.run.holds) in
+        let tie_now = subst (λ (x : EngineState). IsStateOf run.reached (content_in (held disk)) (kept_by x.store)) is tie in
+        let kept_now = subst (λ (x : EngineState). IsConsistent (kept_by x.store) × ((kept_by x.store).batches ≡ [])) is kept in (
+          steps tells held moment images e disk ready flight_at own_at.flying sessions sizes live kept_now.0 kept_now.1 (subst (λ (x : EngineState). FilesHold x.store (held disk)) is holds) next_at opened first start time left out run
+              tie_now job_at changed own_at.handed (all_told own_at.told telling in_telling out_telling)
+              (subst (λ (x : EngineState). MakesStep x.flow (kept_by x.store) job_at changed) is (makes job_at may_in work_in)),
+          tie_now,
+        )

@@ -17,13 +17,13 @@ use Rattle.machine_model.specs.State.{World}
 use Rattle.machine_model.specs.Stepping.{is_there}
 use Rattle.machine_model.proofs.Among.{among_contained, contains_among, makes}
 use Rattle.store_core.specs.State.{live_contents}
-use Rattle.engine_choice.specs.declared.choice.Choice.{Choice}
 use Rattle.engine_choice.specs.declared.choice.Taking.{Taking}
 use Rattle.engine_choice.specs.declared.choice.Taking.TheVariants.{Generate, Receive}
 use Rattle.engine_session.specs.Handing.{AreReadOf, AreTaken, files_fit_a_content, live_files}
 use Rattle.engine_session.proofs.Lookups.{live_there}
 use Rattle.engine_steps.specs.Handing.{JobIsHanded}
 use Rattle.engine_session.specs.declared.job.Job.{Job}
+use Rattle.engine_steps.specs.declared.flight.InFlight.{InFlight}
 
 pub some_and : {A : Type 0} (P : A → Type 0) (o : Option A) → IsSomeAnd o P → IsSome o × IfSome o P
 some_and P None is = absurd is
@@ -55,27 +55,37 @@ pub there_so : (world : World) (standing : List ℕ → Option (List ℕ)) (cont
 there_so world standing contents [] there same is = is
 there_so world standing contents (file ∷ files) there same is = is ∙ ap (λ (s : List ℕ → Option (List ℕ)). option_map_or (λ name. is_some (s name)) (name_in file.attributes) false) (sym same)
 
--- ---- a job without files
+-- ---- the job of a session
+
+-- .. by what the session takes
+abbrev with_taking : Taking → InFlight → InFlight
+with_taking taking flight = record flight { choice = record flight.choice { taking = taking } }
+
+pub handed_as : (k : Kept) (flight : InFlight) (taking : Taking) (job : Job) → flight.choice.taking ≡ taking → JobIsHanded k (with_taking taking flight) job → JobIsHanded k flight job
+handed_as k flight taking job takes handed = subst (λ (t : Taking). JobIsHanded k (with_taking t flight) job) (sym takes) handed
 
 none_taken : (k : Kept) → AreTaken k 0 [] (λ at. []) [] []
 none_taken k = record { active = refl; distinct = refl; are = refl; read = tt }
 
-abbrev without_files : (processor : ℕ) → Given → Job
-without_files processor given = record { processor = processor; connection = 0; numbers = []; files = []; contents = []; given = given }
+abbrev without_files : InFlight → Given → Job
+without_files flight given =
+    record { session = flight.session; processor = flight.choice.processor; connection = 0; numbers = []; files = []; contents = []; given = given }
 
-pub handed_index : (k : Kept) (moment index : ℕ) (choice : Choice) (job : Job) → choice.taking ≡ Generate index
-    → job ≡ without_files choice.processor (record { moment = moment; index = index; there = false; file = None; bytes = None }) → JobIsHanded k moment choice job
-handed_index k moment index choice job takes is =
-    subst (λ (j : Job). JobIsHanded k moment choice j) (sym is)
-    (subst (λ (t : Taking). JobIsHanded k moment (record { processor = choice.processor; taking = t }) (without_files choice.processor (record { moment = moment; index = index; there = false; file = None; bytes = None }))) (sym takes)
-    (record { processor = refl; connection = refl; numbers = refl; given = refl; has = refl; bytes = λ at. []; taken = none_taken k }))
+pub handed_index : (k : Kept) (index : ℕ) (flight : InFlight) (job : Job) → flight.choice.taking ≡ Generate index
+    → job ≡ without_files flight (record { moment = flight.moment; index = index; there = false; file = None; bytes = None }) → JobIsHanded k flight job
+handed_index k index flight job takes is =
+    subst (λ (j : Job). JobIsHanded k flight j) (sym is)
+    (handed_as k flight (Generate index) (without_files flight (record { moment = flight.moment; index = index; there = false; file = None; bytes = None })) takes
+    (record { session = refl; processor = refl; connection = refl; numbers = refl; given = refl; has = refl; bytes = λ at. []; taken = none_taken k }))
 
-pub handed_name : (k : Kept) (moment : ℕ) (name bytes : List ℕ) (choice : Choice) (job : Job) → choice.taking ≡ Receive name → length bytes ≤ CONTENT_MAX
-    → job ≡ without_files choice.processor (record { moment = moment; index = 0; there = false; file = Some name; bytes = Some bytes }) → JobIsHanded k moment choice job
-handed_name k moment name bytes choice job takes most is =
-    subst (λ (j : Job). JobIsHanded k moment choice j) (sym is)
-    (subst (λ (t : Taking). JobIsHanded k moment (record { processor = choice.processor; taking = t }) (without_files choice.processor (record { moment = moment; index = 0; there = false; file = Some name; bytes = Some bytes }))) (sym takes)
-    (record { processor = refl; connection = refl; numbers = refl; given = refl; has = most; bytes = λ at. []; taken = none_taken k }))
+pub handed_name : (k : Kept) (name file bytes : List ℕ) (flight : InFlight) (job : Job) → flight.choice.taking ≡ Receive name → file ≡ name → length bytes ≤ CONTENT_MAX
+    → job ≡ without_files flight (record { moment = flight.moment; index = 0; there = false; file = Some file; bytes = Some bytes }) → JobIsHanded k flight job
+handed_name k name file bytes flight job takes same most is =
+    let as_named : job ≡ without_files flight (record { moment = flight.moment; index = 0; there = false; file = Some name; bytes = Some bytes }) =
+    is ∙ ap (λ (n : List ℕ). without_files flight (record { moment = flight.moment; index = 0; there = false; file = Some n; bytes = Some bytes })) same in
+    subst (λ (j : Job). JobIsHanded k flight j) (sym as_named)
+    (handed_as k flight (Receive name) (without_files flight (record { moment = flight.moment; index = 0; there = false; file = Some name; bytes = Some bytes })) takes
+    (record { session = refl; processor = refl; connection = refl; numbers = refl; given = refl; has = most; bytes = λ at. []; taken = none_taken k }))
 
 pub if_ok : {A E : Type 0} (r : Result A E) (P Q : A → Type 0) → ((a : A) → P a → Q a) → IfOk r P → IfOk r Q
 if_ok (Ok a) P Q to is = to a is

@@ -1,11 +1,12 @@
 -- How a run goes on by a session, and how it stops within one.
 use Rattle.std.proofs.Common.{◌≡◌, ◌⊎◌, inl, inr, ℕ, ◌≤◌, Bool, List, [], ◌∷◌, ◌++◌, refl, sym, ap, subst, ◌∙◌, arith}
-use Rattle.std.specs.Prelude.{Option, None, Some, Result, Ok, Err, IfOk, OnOk, IsSome, IsTrue, Contains, slice_get}
-use Rattle.std.specs.Option.{option_map_or}
+use Rattle.std.specs.Prelude.{Option, None, Some, Result, Ok, Err, IfOk, OnOk, IsSome, IsTrue, Contains}
+use Rattle.std.specs.Option.{option_map_or, option_to_list}
 use Rattle.disk_trait.specs.Files.{Files}
 use Rattle.disk_trait.specs.Images.{Stays}
 use Rattle.disk_trait.proofs.Moments.{nothing, only_read, wider}
 use Rattle.flowfile_record.specs.NamedFile.{NamedFile, with_file, without}
+use Rattle.flowfile_record.specs.Stored.{Kept}
 use Rattle.flowfile_record.specs.declared.content.ContentRef.{ContentRef}
 use Rattle.flowfile_wal.specs.Calls.{InEach}
 use Rattle.content_repo.specs.Claims.{content_in}
@@ -16,14 +17,11 @@ use Rattle.flow_queue.specs.Queue.{QueueState}
 use Rattle.machine_model.specs.Acknowledged.{steps}
 use Rattle.machine_model.specs.declared.journal.Entry.{Entry}
 use Rattle.machine_model.specs.declared.journal.Step.{Step}
-use Rattle.machine_model.specs.declared.kind.Kind.{Kind}
-use Rattle.machine_model.specs.declared.kind.Kind.TheVariants.{GetFile}
 use Rattle.machine_model.specs.Changing.{state_after}
 use Rattle.machine_model.specs.Laws.{names_of_step, received_name}
 use Rattle.flowfile_record.specs.declared.change.Settled.{Settled}
 use Rattle.machine_model.specs.State.{Machine}
 use Rattle.machine_model.specs.Stepping.{step}
-use Rattle.engine_queues.specs.Listing.{first_passed, names_left}
 use Rattle.store_core.specs.Change.{IsLimitOf, MayChange}
 use Rattle.store_core.specs.Store.{StoreState, kept_by}
 use Rattle.run_law.specs.Going.{IsBetween, IsRunningAt, IsSpared, IsStepped}
@@ -39,14 +37,17 @@ use Rattle.run_law.specs.declared.ended.Fault.TheVariants as fault
 use Rattle.engine_session.specs.Change.{IsSentBy, IsStepOf, names_without, step_of, with_sending, without_received}
 use Rattle.engine_steps.specs.Committing.{HasWritten, IsLeftBySend, with_room}
 use Rattle.engine_steps.specs.Engine.{EngineState}
+use Rattle.engine_steps.specs.Flights.{names_to_come}
 use Rattle.engine_steps.specs.Journal.{journaled}
 use Rattle.engine_steps.specs.Running.{IsRunning, Stops, undone_step}
 use Rattle.engine_session.specs.declared.change.Changed.{Changed}
 use Rattle.engine_session.specs.declared.change.Sending.{Sending}
 use Rattle.engine_steps.specs.declared.error.EngineError.{EngineError}
+use Rattle.engine_session.specs.Job.{MayHand}
 use Rattle.engine_session.specs.declared.job.Job.{Job}
 use Rattle.engine_steps.proofs.Commits.{work_roomy}
 use Rattle.engine_steps.proofs.LastWorker.{last_behind}
+use Rattle.engine_steps.proofs.Readied.{no_entry}
 use Rattle.engine_steps.proofs.RunsOn.{spared_by_none}
 use Rattle.run_law.specs.Puts.{IsPutBy, Outgoing, Start}
 use Rattle.engine_steps.proofs.Steps.{runs_on}
@@ -56,17 +57,10 @@ IsNoLimit error = (limit : Limit) → error ≡ EngineError.Limit limit → ⊥
 
 -- ---- the name that a session receives
 
-received_so : (kind : Kind) (names : List (List ℕ)) (name : List ℕ) → first_passed kind names ≡ Some name → received_name kind (Some name) ≡ name ∷ []
-received_so (GetFile filter) names name first = refl
-received_so kind names name first = absurd cc
-
-pub takes_received : (flow : Flow) (job : Job) (processor : Processor) (names : List (List ℕ)) (name : List ℕ) → slice_get flow.processors job.processor ≡ Some processor → first_passed processor.kind names ≡ Some name
-    → job.given.file ≡ Some name → TakesFromInbox flow (step_of job) name
-takes_received flow job processor names name found first file =
+pub takes_received : (flow : Flow) (k : Kept) (job : Job) (name : List ℕ) → MayHand flow k job → job.given.file ≡ Some name → TakesFromInbox flow (step_of job) name
+takes_received flow k job name may file =
     let is : names_of_step flow (step_of job) ≡ name ∷ [] =
-    ap (λ (f : Option (List ℕ)). option_map_or (λ p. received_name p.kind f) (slice_get flow.processors job.processor) []) file
-    ∙ ap (λ (p : Option Processor). option_map_or (λ p. received_name p.kind (Some name)) p []) found
-    ∙ received_so processor.kind names name first in
+    ap (λ (p : Option Processor). option_map_or (λ p. received_name p.kind job.given.file) p []) may.found ∙ may.file ∙ ap option_to_list file in
     subst (λ (l : List (List ℕ)). Contains l name) (sym is) (0, omega arith, refl)
 
 module _ (tells : Bool) {D : Type 0} (held : D → Files) (moment : D → ℕ) (images : D → ℕ → Files → Type 0) where
@@ -130,6 +124,7 @@ module _ (tells : Bool) {D : Type 0} (held : D → Files) (moment : D → ℕ) (
         of EngineError.Put none = ends fault.Outbox
         of (EngineError.Limit limit) none = absurd (none limit refl)
         of EngineError.MustReopen none = ends fault.Disk
+        of EngineError.NoSession none = ends fault.Disk
         of EngineError.Memory none = ends fault.Memory
 
     pub stops_unmoved : FaultsEnd tells held moment images → f.journal ≡ e.journal → IsSpared e.flow moment images e.store.lot run.reached old new → (error : EngineError) → IsNoLimit error
@@ -194,7 +189,7 @@ module _ (tells : Bool) {D : Type 0} (held : D → Files) (moment : D → ℕ) (
 
       -- a limit, before the put
       pub stops_at_limit : SparedRunsGoOn moment images → (limit : Limit)
-          → IsSpared e.flow moment images e.store.lot run.reached old new → f.journal ≡ e.journal → (names_left f.listing) ≡ (names_left e.listing) → f.last ≡ e.last
+          → IsSpared e.flow moment images e.store.lot run.reached old new → f.journal ≡ e.journal → names_to_come f ≡ names_to_come e → f.last ≡ e.last
           → images new (moment new) (held new)
           → IsAtStoreLimit e.flow tells held moment images limit run.reached one s.after new ⊎ IsAtJournalLimit limit e.journal
           → Stops (EngineError.Limit limit) tells held moment images f opened first start time new left out (Some one)
@@ -223,7 +218,7 @@ module _ (tells : Bool) {D : Type 0} (held : D → Files) (moment : D → ℕ) (
           → IsStepped e.flow moment images e.store.lot run.reached s.after old new
           → (now_left : List NamedFile) → now_left ≡ without_received job.given.file left
           → (now_out : Outgoing) → now_out ≡ with_sending changed.sending out
-          → f.last ≡ worker_behind None one → (names_left f.listing) ≡ names_without job.given.file (names_left e.listing)
+          → f.last ≡ worker_behind None one → names_to_come f ≡ names_without job.given.file (names_to_come e)
           → worker_behind (last_worker None (steps e.journal)) one ≡ worker_behind None one
           → IsRunning moment images f opened first start time new now_left now_out
       enters law journal_is stepped now_left lies now_out stands last names worked =
@@ -294,7 +289,7 @@ module _ (tells : Bool) {D : Type 0} (held : D → Files) (moment : D → ℕ) (
       journal_now = journal_is ∙ ap (λ (r : Result ℕ EngineError). journaled r one e.journal) is ∙ ap (λ (n : ℕ). e.journal ++ record { step = one; acked = Some n } ∷ []) moment_now
 
       pub enters_written : SteppedRunsGoOn moment images → (now_left : List NamedFile) → now_left ≡ without_received job.given.file left
-          → f.last ≡ worker_behind None one → (names_left f.listing) ≡ names_without job.given.file (names_left e.listing) → worker_behind (last_worker None (steps e.journal)) one ≡ worker_behind None one
+          → f.last ≡ worker_behind None one → names_to_come f ≡ names_without job.given.file (names_to_come e) → worker_behind (last_worker None (steps e.journal)) one ≡ worker_behind None one
           → IsRunning moment images f opened first start time new now_left now_out
       enters_written law now_left lies last names worked =
           enters e f opened first start time mid new left out run flow_is (lot_is ∙ lot_now) (content_in (held mid)) job changed s one one_is within law journal_now stepped_now now_left lies now_out sent_now last names worked
@@ -312,20 +307,10 @@ module _ (tells : Bool) {D : Type 0} (held : D → Files) (moment : D → ℕ) (
 
       -- the journal stays where the commit hadn't begun
       unjournaled : (error ≡ EngineError.Disk → ⊥) → f.journal ≡ e.journal
-      unjournaled other = journal_is ∙ ap (λ (r : Result ℕ EngineError). journaled r one e.journal) is ∙ stays error other
-        where
-          stays : (er : EngineError) → (er ≡ EngineError.Disk → ⊥) → journaled (Err er) one e.journal ≡ e.journal
-          stays (EngineError.Damaged damage) apart = refl
-          stays EngineError.Disk apart = absurd (apart refl)
-          stays EngineError.Inbox apart = refl
-          stays EngineError.Outbox apart = refl
-          stays EngineError.Put apart = refl
-          stays (EngineError.Limit limit) apart = refl
-          stays EngineError.MustReopen apart = refl
-          stays EngineError.Memory apart = refl
+      unjournaled other = journal_is ∙ ap (λ (r : Result ℕ EngineError). journaled r one e.journal) is ∙ no_entry error one e.journal other
 
       -- where the commit hadn't begun and nothing was put, the run goes on
-      pub goes_on_unwritten : SparedRunsGoOn moment images → (names_left f.listing) ≡ (names_left e.listing) → f.last ≡ e.last → (error ≡ EngineError.Disk → ⊥) → (error ≡ EngineError.Put → ⊥)
+      pub goes_on_unwritten : SparedRunsGoOn moment images → names_to_come f ≡ names_to_come e → f.last ≡ e.last → (error ≡ EngineError.Disk → ⊥) → (error ≡ EngineError.Put → ⊥)
           → IsRunning moment images f opened first start time new left now_out
       goes_on_unwritten law names last disk outbox =
           subst (λ (d : D). IsRunning moment images f opened first start time d left now_out) (sym (written.unwritten error is disk).0)
@@ -363,7 +348,7 @@ module _ (tells : Bool) {D : Type 0} (held : D → Files) (moment : D → ℕ) (
         (unjournaled EngineError.Put is f flow_is store_is journal_is other) still now_out (written.put is out_telling))
 
     module _ (spared : SparedRunsGoOn moment images) (image : images mid (moment mid) (held mid)) (may : MayChange (kept_by was) changed.settled) (limit : Limit) (f : EngineState)
-        (flow_is : f.flow ≡ e.flow) (store_is : f.store ≡ t) (names : (names_left f.listing) ≡ (names_left e.listing)) (last : f.last ≡ e.last) where
+        (flow_is : f.flow ≡ e.flow) (store_is : f.store ≡ t) (names : names_to_come f ≡ names_to_come e) (last : f.last ≡ e.last) where
       stops_past : (is : result ≡ Err (EngineError.Limit limit)) → f.journal ≡ journaled result one e.journal
           → Stops (EngineError.Limit limit) tells held moment images f opened first start time new left now_out (Some one)
       stops_past is journal_is =
@@ -379,13 +364,14 @@ module _ (tells : Bool) {D : Type 0} (held : D → Files) (moment : D → ℕ) (
 
     -- whichever error it is
     pub stops_written : FaultsEnd tells held moment images → DiskFaultsEnd tells held moment images → OutboxFaultsEnd tells held moment images → SparedRunsGoOn moment images → images mid (moment mid) (held mid)
-        → MayChange (kept_by was) changed.settled → (error : EngineError) → result ≡ Err error → (f : EngineState) → f.flow ≡ e.flow → f.store ≡ t → f.journal ≡ journaled result one e.journal → (names_left f.listing) ≡ (names_left e.listing) → f.last ≡ e.last
+        → MayChange (kept_by was) changed.settled → (error : EngineError) → result ≡ Err error → (f : EngineState) → f.flow ≡ e.flow → f.store ≡ t → f.journal ≡ journaled result one e.journal → names_to_come f ≡ names_to_come e → f.last ≡ e.last
         → Stops error tells held moment images f opened first start time new left now_out (undone_step error (Some one))
     stops_written between disk outbox spared image may (EngineError.Damaged damage) is f flow_is store_is journal_is names last =
         stops_unwritten (EngineError.Damaged damage) is f flow_is store_is journal_is between (λ limit e. cc) (λ e. cc) (λ e. cc) None
     stops_written between disk outbox spared image may EngineError.Inbox is f flow_is store_is journal_is names last = stops_unwritten EngineError.Inbox is f flow_is store_is journal_is between (λ limit e. cc) (λ e. cc) (λ e. cc) None
     stops_written between disk outbox spared image may EngineError.Outbox is f flow_is store_is journal_is names last = stops_unwritten EngineError.Outbox is f flow_is store_is journal_is between (λ limit e. cc) (λ e. cc) (λ e. cc) None
     stops_written between disk outbox spared image may EngineError.MustReopen is f flow_is store_is journal_is names last = stops_unwritten EngineError.MustReopen is f flow_is store_is journal_is between (λ limit e. cc) (λ e. cc) (λ e. cc) None
+    stops_written between disk outbox spared image may EngineError.NoSession is f flow_is store_is journal_is names last = stops_unwritten EngineError.NoSession is f flow_is store_is journal_is between (λ limit e. cc) (λ e. cc) (λ e. cc) None
     stops_written between disk outbox spared image may EngineError.Memory is f flow_is store_is journal_is names last = stops_unwritten EngineError.Memory is f flow_is store_is journal_is between (λ limit e. cc) (λ e. cc) (λ e. cc) None
     stops_written between disk outbox spared image may EngineError.Disk is f flow_is store_is journal_is names last = stops_cut_off disk is f flow_is (ap (λ (u : StoreState). u.lot) store_is ∙ lot_now) journal_is
     stops_written between disk outbox spared image may EngineError.Put is f flow_is store_is journal_is names last = stops_put between outbox is f flow_is store_is journal_is

@@ -1,34 +1,15 @@
 -- The names that are to come, and the files that are left, with one less.
-use Rattle.std.proofs.Common.{◌≡◌, ◌≢◌, inl, inr, ℕ, Bool, true, false, cond, not, List, [], ◌∷◌, true≢false, refl, sym, ap, subst, ◌∙◌, arith}
-use Rattle.std.specs.Prelude.{◌<◌, IfSome, slice_get, Option, None, Some, find, bytes_eq, length, ◌≤◌}
+use Rattle.std.proofs.Common.{◌≡◌, ℕ, Bool, true, false, cond, not, List, [], ◌∷◌, true≢false, refl, sym, subst, ◌∙◌}
+use Rattle.std.specs.Prelude.{Option, None, Some, bytes_eq, length, ◌≤◌}
 use Rattle.std.specs.Option.{IsSomeAnd}
 use Rattle.std.proofs.lemmas.Slice.Eq.{bytes_eq-Decides}
 use Rattle.std.proofs.lemmas.List.Elements.{All-cons, All-head, All-tail, All-nil}
-use Rattle.std.proofs.lemmas.List.Kept.{AllPairs-filter}
 use Rattle.flowfile_record.specs.NamedFile.{NamedFile, bytes_of, without}
 use Rattle.flowfile_record.specs.declared.TheConstants.{CONTENT_MAX}
 use Rattle.machine_model.specs.Stepping.{without_name}
-use Rattle.machine_model.proofs.Among.{Among}
 use Rattle.world_io.proofs.Without.{bytes_of-without}
-use Rattle.machine_model.specs.declared.flow.Processor.{Processor}
-use Rattle.std.proofs.lemmas.Option.{same_Some, slice_get_cases}
-use Rattle.machine_model.specs.declared.kind.Kind.{Kind}
-use Rattle.engine_queues.specs.Listing.{AreDistinct, Left, TakesFrom, first_passed, names_left}
 use Rattle.engine_session.specs.Change.{names_without, without_received}
 use Rattle.engine_steps.specs.Engine.{AreTakeable}
-
--- what is found stands there
-pub found_among : {X : Type 0} (test : X → Bool) (xs : List X) (x : X) → find test xs ≡ Some x → Among x xs
-found_among test [] x is = absurd cc
-found_among {X} test (y ∷ xs) x is = by_test (test y) is (λ later. found_among test xs x later)
-  where
-    by_test : (b : Bool) → cond b (Some y) (find test xs) ≡ Some x → (find test xs ≡ Some x → Among x xs) → Among x (y ∷ xs)
-    by_test true is rest = let same : y ≡ x = cc in inl same
-    by_test false is rest = inr (rest is)
-
-pub distinct_without : (received : Option (List ℕ)) (names : List (List ℕ)) → AreDistinct names → AreDistinct (names_without received names)
-distinct_without None names distinct = distinct
-distinct_without (Some name) names distinct = AllPairs-filter (λ one other. one ≢ other) (λ other. not (bytes_eq other name)) names distinct
 
 abbrev MayCome : List NamedFile → List ℕ → Type 0
 MayCome left name = IsSomeAnd (bytes_of left name) (λ bytes. length bytes ≤ CONTENT_MAX)
@@ -72,28 +53,3 @@ fewer name left (other ∷ names) all = by_test (bytes_eq other name) (fewer nam
 pub takeable_fewer : (received : Option (List ℕ)) (left : List NamedFile) (names : List (List ℕ)) → AreTakeable left names → AreTakeable left (names_without received names)
 takeable_fewer None left names all = all
 takeable_fewer (Some name) left names all = fewer name left names all
-
--- what is left without the name that its processor takes first
-pub record IsWithout (received : Option (List ℕ)) (listing after : Left) : Type 0 where
-  pub names : names_left after ≡ names_without received (names_left listing)
-  pub rest : (after.flow ≡ listing.flow) × (after.too_large ≡ listing.too_large)
-
-took_first : (kind : Kind) (answer : Option ℕ) (listing after : Left) (name : List ℕ) → first_passed kind (names_left listing) ≡ Some name → TakesFrom kind answer listing after → IsWithout (Some name) listing after
-took_first kind None listing after name first takes = absurd (cc (takes.0, first))
-took_first kind (Some place) listing after name first takes =
-    let same : takes.name ≡ name = same_Some takes.name name (sym takes.first ∙ first) in
-    record {
-      names = takes.others ∙ ap (without_name (names_left listing)) same;
-      rest = (ap (λ (l : Left). l.flow) takes.new_is, ap (λ (l : Left). l.too_large) takes.new_is);
-    }
-
-pub taken_first : (listing after : Left) (place : ℕ) (answer : Option ℕ) (received : Option (List ℕ)) (name : List ℕ) → place < length listing.flow.processors → received ≡ Some name
-    → IfSome received (λ name. (p : Processor) → slice_get listing.flow.processors place ≡ Some p → first_passed p.kind (names_left listing) ≡ Some name)
-    → ((p : Processor) → slice_get listing.flow.processors place ≡ Some p → TakesFrom p.kind answer listing after) → IsWithout received listing after
-taken_first listing after place answer received name within is first takes = elim (slice_get_cases listing.flow.processors place).1 [
-  | inl there ↦
-      let P : Option (List ℕ) → Type 0 = λ o. IfSome o (λ name. (p : Processor) → slice_get listing.flow.processors place ≡ Some p → first_passed p.kind (names_left listing) ≡ Some name) in
-      let named : first_passed there.0.kind (names_left listing) ≡ Some name = (subst P is first) there.0 there.2 in
-      subst (λ (o : Option (List ℕ)). IsWithout o listing after) (sym is) (took_first there.0.kind answer listing after name named (takes there.0 there.2))
-  | inr past ↦ absurd (omega (arith, within, past.0))
-]

@@ -1,5 +1,5 @@
 -- What stands where a disk was read and nothing else was done.
-use Rattle.std.proofs.Common.{◌≡◌, ℕ, ◌≤◌, Bool, List, sym, subst, ◌∙◌, arith}
+use Rattle.std.proofs.Common.{◌≡◌, ℕ, ◌≤◌, Bool, List, refl, sym, subst, ◌∙◌, arith}
 use Rattle.std.specs.Prelude.{Result}
 use Rattle.disk_trait.specs.Faults.{CountsFaults}
 use Rattle.disk_trait.specs.Files.{Files}
@@ -13,6 +13,7 @@ use Rattle.engine_steps.specs.Engine.{EngineState}
 use Rattle.engine_steps.specs.Entering.{IsReread}
 use Rattle.engine_steps.specs.Errors.{CountsEachFault, IsReadBy}
 use Rattle.engine_steps.specs.declared.error.EngineError.{EngineError}
+use Rattle.engine_steps.specs.Leaving.{MayGoOn}
 use Rattle.engine_steps.specs.Ready.{EngineIsReady}
 use Rattle.engine_steps.specs.Running.{IsRunning}
 use Rattle.engine_session.specs.declared.done.Done.{Done}
@@ -26,15 +27,17 @@ module _ (tells : Bool) {D : Type 0} (held : D → Files) (moment : D → ℕ) (
   still_ready e f same ready =
       subst (λ (x : EngineState). EngineIsReady tells held moment images x new) (sym same)
       (record {
-        sound = ready.sound;
         work = work_read e.flow tells held moment images e.store old new stays ready.work;
-        queues = ready.queues;
-        listing = ready.listing;
-        distinct = ready.distinct;
-        most = ready.most;
-        entries = ready.entries;
-        due = ready.due;
+        memory = ready.memory;
       })
+
+  -- .. and it may go on
+  pub still_goes_on : (e f : EngineState) → f ≡ e → (in_tells : Bool) (left now_left : List NamedFile) → now_left ≡ left → MayGoOn tells held moment images in_tells left e old
+      → MayGoOn tells held moment images in_tells now_left f new
+  still_goes_on e f same in_tells left now_left lies may =
+      subst (λ (x : EngineState). MayGoOn tells held moment images in_tells now_left x new) (sym same)
+      (subst (λ (l : List NamedFile). MayGoOn tells held moment images in_tells l e new) (sym lies)
+      (record { ready = still_ready e e refl may.ready; works = may.works; left = may.left }))
 
   -- the run is where it was
   pub still_runs : SparedRunsGoOn moment images → (e f : EngineState) → f ≡ e → (opened : Machine) (first : D) (start : Start) (time later : ℕ) → time ≤ later

@@ -30,7 +30,7 @@ use Rattle.engine_steps.specs.Running.{IsLimited, IsRunning, IsRunningTo, Stops,
 use Rattle.engine_steps.specs.Tending.{GoesTo, IsCutOff, StepIsDone}
 use Rattle.engine_steps.specs.declared.error.EngineError.{EngineError}
 use Rattle.run_law.specs.Puts.{IsPutBy, Outgoing, Start, puts_of_step}
-use Rattle.engine_queues.specs.Listing.{names_left}
+use Rattle.engine_steps.specs.Flights.{names_to_come}
 use Rattle.engine_steps.proofs.LastWorker.{last_behind}
 
 -- a step of a queue is no session
@@ -86,22 +86,22 @@ module _ {D : Type 0} (tells : Bool) (held : D → Files) (moment : D → ℕ) (
         (subst (λ (flow : Flow). HasRun flow ended start later tells held moment images e.store.lot opened first new left out journal next) (sym same.flow) has))
 
     -- calls that leave what the disk stands for
-    runs_to : SparedRunsGoOn moment images → (later : ℕ) → time ≤ later → f.journal ≡ e.journal → f.listing ≡ e.listing → f.last ≡ e.last
+    runs_to : SparedRunsGoOn moment images → (later : ℕ) → time ≤ later → f.journal ≡ e.journal → names_to_come f ≡ names_to_come e → f.last ≡ e.last
         → (reached : Machine) → (StandsIn e old reached → IsSpared e.flow moment images e.store.lot reached old new)
         → IsRunningTo moment images e opened first start time old left out reached → IsRunningTo moment images f opened first start later new left out reached
     runs_to law later by journal names last reached spared to = record {
       run = runs_at later e.journal reached journal (law e.flow start time later e.store.lot opened reached first old new e.journal left out to.run by (spared to.run.holds));
-      coming = to.coming ∙ sym (ap (λ l. (names_left l)) names);
+      coming = to.coming ∙ sym names;
       last = last ∙ to.last ∙ ap (λ (j : List Entry). last_worker None (steps j)) (sym journal);
     }
 
-    pub runs_spared : SparedRunsGoOn moment images → (later : ℕ) → time ≤ later → f.journal ≡ e.journal → f.listing ≡ e.listing → f.last ≡ e.last
+    pub runs_spared : SparedRunsGoOn moment images → (later : ℕ) → time ≤ later → f.journal ≡ e.journal → names_to_come f ≡ names_to_come e → f.last ≡ e.last
         → ((m : Machine) → StandsIn e old m → IsSpared e.flow moment images e.store.lot m old new)
         → IsRunning moment images e opened first start time old left out → IsRunning moment images f opened first start later new left out
     runs_spared law later by journal names last spared run = record { reached = run.reached; to = runs_to law later by journal names last run.reached (spared run.reached) run.to }
 
     -- or none was made
-    pub runs_unwritten : SparedRunsGoOn moment images → (later : ℕ) → time ≤ later → new ≡ old → f.journal ≡ e.journal → f.listing ≡ e.listing → f.last ≡ e.last
+    pub runs_unwritten : SparedRunsGoOn moment images → (later : ℕ) → time ≤ later → new ≡ old → f.journal ≡ e.journal → names_to_come f ≡ names_to_come e → f.last ≡ e.last
         → IsRunning moment images e opened first start time old left out → IsRunning moment images f opened first start later new left out
     runs_unwritten law later by disk journal names last run =
         runs_spared law later by journal names last (λ m stands. subst (λ (d : D). IsSpared e.flow moment images e.store.lot m old d) (sym disk) (spared_by_none e.flow e.store.lot m old stands)) run
@@ -128,7 +128,7 @@ module _ {D : Type 0} (tells : Bool) (held : D → Files) (moment : D → ℕ) (
 
     -- a step of a queue
     module _ (leaves : QueuesLeaveTheWorld) (one : Step) (queue : IsOfQueue one) (by : time ≤ step_moment one) where
-      pub runs_stepped : SteppedRunsGoOn moment images → f.journal ≡ e.journal ++ record { step = one; acked = Some (moment new) } ∷ [] → f.listing ≡ e.listing → f.last ≡ e.last
+      pub runs_stepped : SteppedRunsGoOn moment images → f.journal ≡ e.journal ++ record { step = one; acked = Some (moment new) } ∷ [] → names_to_come f ≡ names_to_come e → f.last ≡ e.last
           → ((m : Machine) → StandsIn e old m → StepIsDone e.flow moment images e.store.lot m one old new)
           → IsRunning moment images e opened first start time old left out → IsRunning moment images f opened first start (step_moment one) new left out
       runs_stepped law journal names last done run =
@@ -142,7 +142,7 @@ module _ {D : Type 0} (tells : Bool) (held : D → Files) (moment : D → ℕ) (
                   (law e.flow start time (step_moment one) e.store.lot opened run.reached it.after first old new e.journal one left left out out run.to.run by
                   (made_behind e opened first old start time (step_moment one) left out one run by (omega arith)) it.goes it.is_so
                   (run.to.run.lies ∙ ap inbox_left (sym world)) (put_by_queue e.flow run.reached it.after one out queue world run.to.run.stands.standing));
-              coming = ap coming_of world ∙ run.to.coming ∙ sym (ap (λ l. (names_left l)) names);
+              coming = ap coming_of world ∙ run.to.coming ∙ sym names;
               last = last ∙ run.to.last ∙ sym (ap (λ (j : List Entry). last_worker None (steps j)) journal ∙ last_behind None e.journal entry ∙ queues_leave_the_worker (last_worker None (steps e.journal)) one queue);
             };
           }
@@ -171,7 +171,7 @@ module _ {D : Type 0} (tells : Bool) (held : D → Files) (moment : D → ℕ) (
           (subst (λ (lot : ℕ). IsAtLimit f.flow start (step_moment one) tells held moment images lot e.journal (Some one) m limit old) (sym same.lot)
           (subst (λ (flow : Flow). IsAtLimit flow start (step_moment one) tells held moment images e.store.lot e.journal (Some one) m limit old) (sym same.flow) met)))
 
-      pub stops_limited : SparedRunsGoOn moment images → new ≡ old → f.journal ≡ e.journal → f.listing ≡ e.listing → f.last ≡ e.last
+      pub stops_limited : SparedRunsGoOn moment images → new ≡ old → f.journal ≡ e.journal → names_to_come f ≡ names_to_come e → f.last ≡ e.last
           → ((m : Machine) → StandsIn e old m → GoesTo e.flow m one (IsMet m))
           → IsRunning moment images e opened first start time old left out → IsLimited tells held moment images f limit opened first start (step_moment one) new left out (Some one)
       stops_limited law disk journal names last limited run =
@@ -193,7 +193,7 @@ module _ {D : Type 0} (tells : Bool) (held : D → Files) (moment : D → ℕ) (
     -- a step of a queue that failed
     module _ (leaves : QueuesLeaveTheWorld) (one : Step) (queue : IsOfQueue one) (by : time ≤ step_moment one)
         (law : SparedRunsGoOn moment images) (between : FaultsEnd tells held moment images) (disk_fails : DiskFaultsEnd tells held moment images) (error : EngineError)
-        (names : f.listing ≡ e.listing) (last : f.last ≡ e.last) (open_journal : error ≡ EngineError.Disk → f.journal ≡ e.journal ++ record { step = one; acked = None } ∷ [])
+        (names : names_to_come f ≡ names_to_come e) (last : f.last ≡ e.last) (open_journal : error ≡ EngineError.Disk → f.journal ≡ e.journal ++ record { step = one; acked = None } ∷ [])
         (cut : error ≡ EngineError.Disk → (m : Machine) → StandsIn e old m → IsCutOff e.flow moment images e.store.lot m one old new) (unwritten : (error ≡ EngineError.Disk → ⊥) → (new ≡ old) × (f.journal ≡ e.journal))
         (limited : (limit : Limit) → error ≡ EngineError.Limit limit → (m : Machine) → StandsIn e old m
         → GoesTo e.flow m one (λ after. StandsFor e.flow e.store.lot m (held old) × IsAtStoreLimit e.flow tells held moment images limit m one after old))

@@ -19,7 +19,7 @@ use Rattle.run_law.specs.declared.ended.Ended.TheVariants as ended
 use Rattle.engine_steps.specs.Errors.{ended_by}
 use Rattle.engine_steps.specs.Ready.{is_log_due}
 use Rattle.engine_steps.specs.declared.error.EngineError.{EngineError}
-use Rattle.engine_steps.specs.declared.error.EngineError.TheVariants.{Damaged, Disk, Inbox, Outbox, Put, Limit, MustReopen, Memory}
+use Rattle.engine_steps.specs.declared.error.EngineError.TheVariants.{Damaged, Disk, Inbox, Outbox, Put, Limit, MustReopen, NoSession, Memory}
 
 -- ---- of files, by what a store has in memory
 
@@ -79,6 +79,7 @@ not_quiet Outbox is = cc
 not_quiet Put is = cc
 not_quiet (Limit limit) is = cc
 not_quiet MustReopen is = cc
+not_quiet NoSession is = cc
 not_quiet Memory is = cc
 
 not_blocked : (error : EngineError) (place : ℕ) → ended_by error ≡ ended.Blocked place → ⊥
@@ -89,6 +90,7 @@ not_blocked Outbox place is = cc
 not_blocked Put place is = cc
 not_blocked (Limit limit) place is = cc
 not_blocked MustReopen place is = cc
+not_blocked NoSession place is = cc
 not_blocked Memory place is = cc
 
 pub no_rest : (error : EngineError) (end : Ended) → end ≡ ended_by error → IsQuietOrBlocked end → ⊥

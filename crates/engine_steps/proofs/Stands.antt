@@ -1,8 +1,7 @@
--- What a session is handed that may be made stands in the machine's state and world.
+-- What a session in flight is handed stands in the machine's state and world.
 use Rattle.std.proofs.Common.{◌≡◌, ℕ, Bool, true, false, cond, ◌≤◌, List, [], ◌∷◌, length, map, true≢false, refl, sym, ap, subst, ◌∙◌}
 use Rattle.std.specs.Prelude.{IsTrue, Option, None, Some, filter, slice_get, slice_index, bytes_eq, option_and_then}
 use Rattle.std.specs.Option.{IsSomeAnd}
-use Rattle.std.proofs.lemmas.List.{length-map}
 use Rattle.std.proofs.lemmas.Slice.Eq.{bytes_eq-Decides}
 use Rattle.flowfile_record.specs.NamedFile.{NamedFile, bytes_of}
 use Rattle.flowfile_record.specs.Stored.{Kept}
@@ -16,33 +15,26 @@ use Rattle.machine_model.specs.declared.kind.Kind.{Kind}
 use Rattle.machine_model.specs.declared.kind.Kind.TheVariants.{GetFile, GenerateFlowFile, PutFile}
 use Rattle.machine_model.specs.declared.pattern.Pattern.{Pattern}
 use Rattle.machine_model.specs.Changing.{queued_file}
-use Rattle.machine_model.specs.Files.{queues_of}
 use Rattle.machine_model.specs.Kinds.{is_among, take_rule_of}
 use Rattle.machine_model.specs.State.{Machine, QueuedFile, State, World}
 use Rattle.machine_model.specs.Stepping.{given_in, is_there, may_generate, may_get, same_bool, taken_files}
-use Rattle.machine_model.specs.Valid.{IsValid}
-use Rattle.flow_queue.specs.Queue.{QueueState}
+use Rattle.machine_model.specs.Sound.{IsSound}
 use Rattle.store_core.specs.Flow.{flow_in}
-use Rattle.store_core.specs.Flow as store
 use Rattle.engine_change.specs.Committing.{identity_of}
-use Rattle.engine_queues.specs.Laws.{QueuesAreSeen, SeesTheSame}
-use Rattle.engine_queues.specs.Queues.{AreQueuesOf, queue_seen}
 use Rattle.engine_queues.specs.Views.{HaveSizes}
-use Rattle.engine_choice.specs.Choice.{ProcessorTakes, coming_of, known_alone}
-use Rattle.engine_choice.specs.Laws.{TakingsAreSessions, given_for, numbers_in}
-use Rattle.engine_choice.specs.declared.choice.Choice.{Choice}
+use Rattle.engine_choice.specs.Choice.{coming_of}
+use Rattle.engine_choice.specs.Laws.{IsSessionAt, given_for, numbers_in}
 use Rattle.engine_choice.specs.declared.choice.Taking.{Taking}
 use Rattle.engine_choice.specs.declared.choice.Taking.TheVariants.{Files, Generate, Receive}
 use Rattle.engine_session.specs.Handing.{live_files}
 use Rattle.engine_session.specs.Laws.{MachinesFilesAreLive}
+use Rattle.engine_session.specs.Taken.{IsAmong, IsNextIndex, MayStillTake, TakenAreSessions, TakesStill}
 use Rattle.run_law.specs.Journal.{inbox_left}
 use Rattle.run_law.specs.Run.{IsStateOf}
 use Rattle.engine_steps.specs.Handing.{HasBytes, HasBytesOf, JobIsHanded, IsHandedAs}
 use Rattle.engine_session.specs.Job.{JobStandsIn}
 use Rattle.engine_session.specs.declared.job.Job.{Job}
-use Rattle.engine_queues.proofs.ForCallers.{seen_alone}
-use Rattle.engine_choice.proofs.ForCallers.{alone_known}
-use Rattle.engine_steps.proofs.Chosen.{IsNext, TakesSo}
+use Rattle.engine_steps.specs.declared.flight.InFlight.{InFlight}
 
 -- ---- a file that is left
 
@@ -81,14 +73,14 @@ got_so : (b : Bool) (given handed : Given) → cond b (Some given) None ≡ Some
 got_so true given handed is = cc
 got_so false given handed is = absurd cc
 
-given_back : (kind : Kind) (place : ℕ) (state : State) (world : World) (files : List QueuedFile) (given handed : Given) → given.file ≡ None → given_in kind place state world files given ≡ Some handed → given ≡ handed
-given_back (GetFile filter) place state world files given handed none is =
+handed_alike : (kind : Kind) (place : ℕ) (state : State) (world : World) (files : List QueuedFile) (given handed : Given) → given.file ≡ None → given_in kind place state world files given ≡ Some handed → given ≡ handed
+handed_alike (GetFile filter) place state world files given handed none is =
     let F : List ℕ → Option Given = λ name. cond (may_get filter world name) (Some (record given { bytes = bytes_of world.inbox name })) None in
     let nothing : option_and_then F None ≡ Some handed = ap (option_and_then F) (sym none) ∙ is in
     absurd cc
-given_back (GenerateFlowFile count text) place state world files given handed none is = got_so (may_generate count (slice_index state.counts place) given.index) given handed is
-given_back (PutFile conflict) place state world files given handed none is = got_so (same_bool given.there (is_there world files)) given handed is
-given_back kind place state world files given handed none is = cc
+handed_alike (GenerateFlowFile count text) place state world files given handed none is = got_so (may_generate count (slice_index state.counts place) given.index) given handed is
+handed_alike (PutFile conflict) place state world files given handed none is = got_so (same_bool given.there (is_there world files)) given handed is
+handed_alike kind place state world files given handed none is = cc
 
 received_back : (filter : Option Pattern) (place : ℕ) (state : State) (world : World) (files : List QueuedFile) (given handed : Given) (name : List ℕ) → given.file ≡ Some name
     → given_in (GetFile filter) place state world files given ≡ Some handed → record given { bytes = bytes_of world.inbox name } ≡ handed
@@ -101,21 +93,21 @@ bytes_in : (left : List NamedFile) (world : World) (name : List ℕ) (bytes : Op
 bytes_in left world name None lies some is = absurd some
 bytes_in left world name (Some bytes) lies some is = (found_left world name bytes (ap (λ (l : List NamedFile). bytes_of l name) (sym lies) ∙ is)).1
 
-module _ (k : Kept) (names : List (List ℕ)) (moment place : ℕ) (state : State) (world : World) (files : List QueuedFile) (left : List NamedFile) (lies : left ≡ inbox_left world) (given handed : Given) where
-  pub handed_so : (kind : Kind) (taking : Taking) → TakesSo k names moment kind taking → record given { bytes = None } ≡ given_for moment given.there taking → HasBytes taking given.bytes
+module _ (flow : Flow) (k : Kept) (moment place : ℕ) (state : State) (world : World) (files : List QueuedFile) (left : List NamedFile) (lies : left ≡ inbox_left world) (given handed : Given) where
+  pub handed_so : (kind : Kind) (taking : Taking) → MayStillTake flow k moment place kind taking → record given { bytes = None } ≡ given_for moment given.there taking → HasBytes taking given.bytes
       → HasBytesOf left taking given.bytes → given_in kind place state world files (record given { bytes = None }) ≡ Some handed → handed ≡ given
   handed_so (GetFile filter) (Receive name) takes is has bytes gives =
       let back = received_back filter place state world files (record given { bytes = None }) handed name (ap (λ (g : Given). g.file) is) gives in
       sym back ∙ (λ i. record given { bytes = bytes_in left world name given.bytes lies has bytes i })
   handed_so kind (Files connection numbers) takes is has bytes gives =
-      sym (given_back kind place state world files (record given { bytes = None }) handed (ap (λ (g : Given). g.file) is) gives) ∙ (λ i. record given { bytes = sym has i })
+      sym (handed_alike kind place state world files (record given { bytes = None }) handed (ap (λ (g : Given). g.file) is) gives) ∙ (λ i. record given { bytes = sym has i })
   handed_so kind (Generate index) takes is has bytes gives =
-      sym (given_back kind place state world files (record given { bytes = None }) handed (ap (λ (g : Given). g.file) is) gives) ∙ (λ i. record given { bytes = sym has i })
-  handed_so kind (Receive name) takes is has bytes gives = absurd (cc (takes.named.1))
+      sym (handed_alike kind place state world files (record given { bytes = None }) handed (ap (λ (g : Given). g.file) is) gives) ∙ (λ i. record given { bytes = sym has i })
+  handed_so kind (Receive name) takes is has bytes gives = absurd takes
 
 -- where all devices tell
-pub all_told : {tells in_tells out_tells : Bool} {k : Kept} {contents : ContentRef → List ℕ} {left : List NamedFile} {standing : List ℕ → Option (List ℕ)} {choice : Choice} {job : Job}
-    → IsHandedAs tells in_tells out_tells k contents left standing choice job → IsTrue tells → IsTrue in_tells → IsTrue out_tells → IsHandedAs true true true k contents left standing choice job
+pub all_told : {tells in_tells out_tells : Bool} {k : Kept} {contents : ContentRef → List ℕ} {left : List NamedFile} {standing : List ℕ → Option (List ℕ)} {taking : Taking} {job : Job}
+    → IsHandedAs tells in_tells out_tells k contents left standing taking job → IsTrue tells → IsTrue in_tells → IsTrue out_tells → IsHandedAs true true true k contents left standing taking job
 all_told told telling in_telling out_telling =
     record { read = λ all. told.read telling; received = λ all. told.received in_telling; there = λ all. told.there out_telling }
 
@@ -124,34 +116,33 @@ moment_of moment there (Files connection numbers) = refl
 moment_of moment there (Generate index) = refl
 moment_of moment there (Receive name) = refl
 
-module _ (sessions : TakingsAreSessions) (seen : QueuesAreSeen) (live : MachinesFilesAreLive) (flow : Flow) (k : Kept) (queues : List QueueState) (names : List (List ℕ)) (moment : ℕ) (choice : Choice)
-    (contents : ContentRef → List ℕ) (m : Machine) (left : List NamedFile) (standing : List ℕ → Option (List ℕ)) (job : Job) where
-  pub stands_in : IsConsistent k → k.batches ≡ [] → flow_in k ≡ identity_of flow → AreQueuesOf flow k [] queues → HaveSizes contents k
-      → ProcessorTakes flow (known_alone (queue_seen queues) k.counts names moment) choice → IsNext flow k names moment choice
-      → IsStateOf m contents k → IsValid flow m.state → coming_of m.world ≡ names → left ≡ inbox_left m.world → standing ≡ m.world.outbox
-      → JobIsHanded k moment choice job → IsHandedAs true true true k contents left standing choice job → JobStandsIn flow k contents m job
-  stands_in consistent no_batches flow_is are sizes chosen next tied valid coming lies stands handed told =
-      let count = ap (λ (f : store.Flow). length f.connections) flow_is ∙ length-map flow.connections (λ c. c.id) in
-      let sees : SeesTheSame flow (queue_seen queues) (queues_of m.state) =
-      subst (λ (s : State). SeesTheSame flow (queue_seen queues) (queues_of s)) tied.is (seen_alone seen flow contents m.state.events k queues consistent sizes count are) in
-      let known = known_alone (queue_seen queues) m.state.counts (coming_of m.world) moment in
-      let takes_there : ProcessorTakes flow known choice =
-      subst (λ (counts : List ℕ). ProcessorTakes flow (known_alone (queue_seen queues) counts (coming_of m.world) moment) choice) (ap (λ (s : State). s.counts) tied.is)
-      (subst (λ (names : List (List ℕ)). ProcessorTakes flow (known_alone (queue_seen queues) k.counts names moment) choice) (sym coming) chosen) in
-      let at = (sessions flow m.state m.world [] known choice valid (alone_known flow m.state m.world (queue_seen queues) moment sees) takes_there).0 in
-      let both : Some at.processor ≡ Some next.processor = sym at.found ∙ next.found in
-      let same : next.processor ≡ at.processor = cc in
-      let takes = subst (λ (p : Processor). TakesSo k names moment p.kind choice.taking) same next.takes in
+module _ (sessions : TakenAreSessions) (live : MachinesFilesAreLive) (flow : Flow) (k : Kept) (flight : InFlight) (contents : ContentRef → List ℕ) (m : Machine) (left : List NamedFile)
+    (standing : List ℕ → Option (List ℕ)) (job : Job) where
+  abbrev place : ℕ
+  place = flight.choice.processor
+
+  abbrev taking : Taking
+  taking = flight.choice.taking
+
+  pub stands_in : IsSound flow → IsConsistent k → k.batches ≡ [] → flow_in k ≡ identity_of flow → HaveSizes contents k → TakesStill flow k flight.moment flight.choice → IsNextIndex k.counts place taking
+      → IsAmong (coming_of m.world) taking → IsStateOf m contents k → left ≡ inbox_left m.world → standing ≡ m.world.outbox
+      → JobIsHanded k flight job → IsHandedAs true true true k contents left standing taking job → JobStandsIn flow k contents m job
+  stands_in sound consistent no_batches flow_is sizes still next comes tied lies stands handed told =
+      let at = subst (λ (s : State). IsSessionAt flow s m.world flight.moment flight.choice) tied.is
+      (sessions flow contents m.state.events k m.world flight.moment flight.choice sound consistent no_batches flow_is tied.events sizes still next comes) in
+      let both : Some still.processor ≡ Some at.processor = sym still.there ∙ at.found in
+      let same : still.processor ≡ at.processor = cc in
+      let takes = subst (λ (p : Processor). MayStillTake flow k flight.moment place p.kind taking) same still.takes in
       let rule = take_rule_of at.processor.kind in
-      let are_live = live flow k contents m.state.events choice.processor rule (numbers_in choice.taking) moment at.files flow_is consistent no_batches tied.events
-      (ap (λ (s : State). taken_files flow s choice.processor rule (numbers_in choice.taking) moment) tied.is ∙ at.taken) in
+      let are_live = live flow k contents m.state.events place rule (numbers_in taking) flight.moment at.files flow_is consistent no_batches tied.events
+      (ap (λ (s : State). taken_files flow s place rule (numbers_in taking) flight.moment) tied.is ∙ at.taken) in
       let files : at.files ≡ map (queued_file contents) job.files =
       are_live.are ∙ ap (map (queued_file contents)) (ap (live_files k) (sym handed.numbers) ∙ sym handed.taken.are) in
-      let time : job.given.moment ≡ moment = ap (λ (g : Given). g.moment) handed.given ∙ moment_of moment job.given.there choice.taking in
+      let time : job.given.moment ≡ flight.moment = ap (λ (g : Given). g.moment) handed.given ∙ moment_of flight.moment job.given.there taking in
       let there : job.given.there ≡ is_there m.world at.files = told.there refl m.world (sym stands) ∙ ap (is_there m.world) (sym files) in
-      let gives : given_in at.processor.kind choice.processor m.state m.world at.files (record job.given { bytes = None }) ≡ Some at.handed =
-      ap (given_in at.processor.kind choice.processor m.state m.world at.files) (handed.given ∙ ap (λ b. given_for moment b choice.taking) there) ∙ at.given in
-      let back = handed_so k names moment choice.processor m.state m.world at.files left lies job.given at.handed at.processor.kind choice.taking takes handed.given handed.has (told.received refl) gives in
+      let gives : given_in at.processor.kind place m.state m.world at.files (record job.given { bytes = None }) ≡ Some at.handed =
+      ap (given_in at.processor.kind place m.state m.world at.files) (handed.given ∙ ap (λ b. given_for flight.moment b taking) there) ∙ at.given in
+      let back = handed_so flow k flight.moment place m.state m.world at.files left lies job.given at.handed at.processor.kind taking takes handed.given handed.has (told.received refl) gives in
       record {
         processor = at.processor;
         found = ap (slice_get flow.processors) handed.processor ∙ at.found;

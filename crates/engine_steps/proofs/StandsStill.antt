@@ -1,6 +1,6 @@
 -- What a session was handed is what it would be handed again, where it stands as it stood.
 use Rattle.std.proofs.Common.{◌≡◌, ℕ, Bool, true, List, [], ◌∷◌, length, map, refl, sym, ap, subst, ◌∙◌}
-use Rattle.std.specs.Prelude.{All, Contains, IsTrue, IfSome, Option, None, Some}
+use Rattle.std.specs.Prelude.{All, Contains, IsTrue, IfSome, Option, None, Some, find}
 use Rattle.std.proofs.lemmas.List.Elements.{All-nil}
 use Rattle.sha2.specs.Sha256.{sha256}
 use Rattle.flowfile_record.specs.NamedFile.{NamedFile}
@@ -16,7 +16,6 @@ use Rattle.process_session.specs.declared.file.Source.{Source}
 use Rattle.store_core.specs.State.{live_contents}
 use Rattle.store_core.specs.Store.{kept_by}
 use Rattle.engine_choice.specs.Laws.{given_for, numbers_in}
-use Rattle.engine_choice.specs.declared.choice.Choice.{Choice}
 use Rattle.engine_choice.specs.declared.choice.Taking.{Taking}
 use Rattle.engine_choice.specs.declared.choice.Taking.TheVariants.{Files, Generate, Receive}
 use Rattle.engine_session.specs.Done.{HasBytesFrom, IsWorkOn, WorkIsDone}
@@ -24,13 +23,17 @@ use Rattle.engine_session.specs.Handing.{AreReadOf, AreTaken, IsReadContent, fil
 use Rattle.engine_session.specs.Job.{MayHand}
 use Rattle.engine_session.specs.declared.done.Done.{Done}
 use Rattle.engine_session.specs.declared.job.Job.{Job}
-use Rattle.engine_steps.specs.Checkout.{ChoiceStands}
-use Rattle.engine_steps.specs.Commit.{StandsSo}
+use Rattle.engine_steps.specs.Commit.{IndexIsNext, StandsSo}
 use Rattle.engine_steps.specs.Engine.{EngineState}
-use Rattle.engine_steps.specs.Handing.{HasBytes, HasBytesOf, JobIsHanded, IsHandedAs, MayBeTaken, connection_in, received_in}
+use Rattle.engine_steps.specs.Flights.{has_session}
+use Rattle.engine_steps.specs.Handing.{HasBytes, HasBytesOf, JobIsHanded, IsHandedAs, MayBeTaken, connection_in}
 use Rattle.engine_steps.specs.OwnJob.{IsJobOf}
+use Rattle.engine_steps.specs.Ready.{IsReadyInMemory}
 use Rattle.engine_steps.specs.Standing.{HandedStands}
+use Rattle.engine_steps.specs.declared.flight.InFlight.{InFlight}
 use Rattle.engine_steps.proofs.Files.{all_are_live}
+use Rattle.engine_steps.proofs.Flights.{found_flies, received_in}
+use Rattle.engine_steps.proofs.OwnJob.{flight_may_hand, flight_takes}
 
 -- ---- what is taken
 
@@ -99,23 +102,26 @@ bytes_from in_tells left (Generate index) file bytes is has of = subst (λ (f : 
 bytes_from in_tells left (Receive name) file bytes is has of = subst (λ (f : Option (List ℕ)). HasBytesFrom in_tells left f bytes) (sym is) (has, of)
 
 -- the work on a job is done on what was read
-pub work_is_done : (tells in_tells out_tells : Bool) (e : EngineState) (contents : ContentRef → List ℕ) (left : List NamedFile) (standing : List ℕ → Option (List ℕ)) (moment : ℕ) (choice : Choice) (job : Job) (done : Done)
-    → IsJobOf tells in_tells out_tells e contents left standing moment choice job → IsWorkOn e.flow (kept_by e.store).store job done → WorkIsDone e.flow (kept_by e.store).store in_tells left done
-work_is_done tells in_tells out_tells e contents left standing moment choice job done next work = record {
+pub work_is_done : (tells in_tells out_tells : Bool) (e : EngineState) (contents : ContentRef → List ℕ) (left : List NamedFile) (standing : List ℕ → Option (List ℕ)) (flight : InFlight) (job : Job) (done : Done)
+    → IsJobOf tells in_tells out_tells e contents left standing flight job → IsWorkOn e.flow (kept_by e.store).store job done → WorkIsDone e.flow (kept_by e.store).store in_tells left done
+work_is_done tells in_tells out_tells e contents left standing flight job done own work = record {
   job = job;
-  read = (next.handed.bytes, next.handed.taken.read);
-  received = bytes_from in_tells left choice.taking job.given.file job.given.bytes (file_given moment job.given.there choice.taking job.given next.handed.given) next.handed.has next.told.received;
+  read = (own.handed.bytes, own.handed.taken.read);
+  received = bytes_from in_tells left flight.choice.taking job.given.file job.given.bytes (file_given flight.moment job.given.there flight.choice.taking job.given own.handed.given) own.handed.has own.told.received;
   work = work;
 }
 
 -- ---- the job
 
-module _ (tells in_tells out_tells : Bool) (e : EngineState) (contents : ContentRef → List ℕ) (left : List NamedFile) (standing : List ℕ → Option (List ℕ)) (choice : Choice) (done : Done)
-    (of : WorkIsDone e.flow (kept_by e.store).store in_tells left done) (chosen : ChoiceStands e done.given.moment choice)
-    (stands : HandedStands tells out_tells (kept_by e.store) contents standing choice done) (may : MayBeTaken (kept_by e.store) choice.taking)
-    (hand : (job : Job) → JobIsHanded (kept_by e.store) done.given.moment choice job → MayHand e.flow (kept_by e.store) job) where
+module _ (tells in_tells out_tells : Bool) (e : EngineState) (contents : ContentRef → List ℕ) (left : List NamedFile) (standing : List ℕ → Option (List ℕ)) (flight : InFlight) (done : Done)
+    (of : WorkIsDone e.flow (kept_by e.store).store in_tells left done) (flying : Contains e.out flight) (next : IndexIsNext e flight)
+    (stands : HandedStands tells out_tells (kept_by e.store) contents standing flight done) (may : MayBeTaken (kept_by e.store) flight.choice.taking)
+    (hand : (job : Job) → JobIsHanded (kept_by e.store) flight job → MayHand e.flow (kept_by e.store) job) where
   abbrev k : Kept
   k = kept_by e.store
+
+  abbrev taking : Taking
+  taking = flight.choice.taking
 
   abbrev job : Job
   job = of.job
@@ -129,33 +135,34 @@ module _ (tells in_tells out_tells : Bool) (e : EngineState) (contents : Content
   there_is : job.given.there ≡ done.given.there
   there_is = ap (λ (g : Given). g.there) but_bytes
 
-  given_is : record job.given { bytes = None } ≡ given_for done.given.moment job.given.there choice.taking
-  given_is = but_bytes ∙ stands.of.given ∙ ap (λ (there : Bool). given_for done.given.moment there choice.taking) (sym there_is)
+  given_is : record job.given { bytes = None } ≡ given_for flight.moment job.given.there taking
+  given_is = but_bytes ∙ stands.of.given ∙ ap (λ (there : Bool). given_for flight.moment there taking) (sym there_is)
 
-  file_is : job.given.file ≡ received_in choice.taking
-  file_is = file_given done.given.moment job.given.there choice.taking job.given given_is
+  file_is : job.given.file ≡ received_in taking
+  file_is = file_given flight.moment job.given.there taking job.given given_is
 
-  connection_is : job.connection ≡ connection_in choice.taking
+  connection_is : job.connection ≡ connection_in taking
   connection_is = sym work.connection ∙ stands.of.connection
 
-  numbers_are : job.numbers ≡ numbers_in choice.taking
+  numbers_are : job.numbers ≡ numbers_in taking
   numbers_are = sym work.numbers ∙ stands.of.numbers
 
   taken_so : (bytes : ContentRef → List ℕ) → AreReadOf bytes (files_fit_a_content job.files) job.files job.contents → AreTaken k job.connection job.numbers bytes job.files job.contents
   taken_so bytes read = record {
-    active = (λ i. are_active_in k.files (connection_is i) (numbers_are i)) ∙ (may_take k choice.taking may).0;
-    distinct = ap are_distinct_numbers numbers_are ∙ (may_take k choice.taking may).1;
+    active = (λ i. are_active_in k.files (connection_is i) (numbers_are i)) ∙ (may_take k taking may).0;
+    distinct = ap are_distinct_numbers numbers_are ∙ (may_take k taking may).1;
     are = sym work.files ∙ stands.files ∙ ap (live_files k) work.numbers;
     read = read;
   }
 
-  handed : JobIsHanded k done.given.moment choice job
+  handed : JobIsHanded k flight job
   handed = record {
+    session = sym work.session ∙ stands.of.session;
     processor = sym work.processor ∙ stands.of.processor;
     connection = connection_is;
     numbers = numbers_are;
     given = given_is;
-    has = has_bytes in_tells left job.given.file job.given.bytes of.received choice.taking file_is;
+    has = has_bytes in_tells left job.given.file job.given.bytes of.received taking file_is;
     bytes = of.read.0;
     taken = taken_so of.read.0 of.read.1;
   }
@@ -170,16 +177,24 @@ module _ (tells in_tells out_tells : Bool) (e : EngineState) (contents : Content
       ∙ stands.bytes telling
       ∙ ap (λ (files : List FlowFile). map (λ (file : FlowFile). Some (contents file.content)) files) work.files
 
-  told : IsHandedAs tells in_tells out_tells k contents left standing choice job
+  told : IsHandedAs tells in_tells out_tells k contents left standing taking job
   told = record {
     read = λ telling. taken_so contents (stands_as_read of.read.0 contents (files_fit_a_content job.files) job.files job.contents of.read.1 (contents_are telling));
-    received = λ telling. has_bytes_of in_tells left job.given.file job.given.bytes of.received telling choice.taking file_is;
+    received = λ telling. has_bytes_of in_tells left job.given.file job.given.bytes of.received telling taking file_is;
     there = λ telling world same. there_is ∙ stands.there telling world same ∙ ap (λ (files : List FlowFile). is_there world (map (queued_file contents) files)) work.files;
   }
 
-  own : IsJobOf tells in_tells out_tells e contents left standing done.given.moment choice job
-  own = record { stands = chosen; handed = handed; told = told; may = by }
+  own : IsJobOf tells in_tells out_tells e contents left standing flight job
+  own = record { flying = flying; handed = handed; told = told; may = by }
 
-  -- the choice's job is the one that was worked on
-  pub stands_so : StandsSo tells in_tells out_tells e contents left standing done
-  stands_so = (choice, job, own, work)
+  -- the session's job is the one that was worked on
+  stands_so : StandsSo tells in_tells out_tells e contents left standing done
+  stands_so = (flight, job, next, own, work)
+
+-- .. of a session in flight of an engine that is ready
+pub flight_stands_so : (tells in_tells out_tells : Bool) (e : EngineState) (contents : ContentRef → List ℕ) (left : List NamedFile) (standing : List ℕ → Option (List ℕ)) (session : ℕ) (flight : InFlight) (done : Done)
+    → IsReadyInMemory e → find (has_session session) e.out ≡ Some flight → IndexIsNext e flight → WorkIsDone e.flow (kept_by e.store).store in_tells left done
+    → HandedStands tells out_tells (kept_by e.store) contents standing flight done → StandsSo tells in_tells out_tells e contents left standing done
+flight_stands_so tells in_tells out_tells e contents left standing session flight done ready is next of stands =
+    stands_so tells in_tells out_tells e contents left standing flight done of (found_flies session e.out flight is).0 next stands
+    (flight_takes e ready session flight is) (flight_may_hand e ready session flight is)

@@ -1,52 +1,66 @@
--- A session that may be made is a step of the machine that a run is at.
-use Rattle.std.proofs.Common.{◌≡◌, ℕ, ◌≤◌, Bool, true, List, [], sym, subst}
+-- A session in flight whose job stands is a step of the machine that a run is at.
+use Rattle.std.proofs.Common.{◌≡◌, ℕ, ◌≤◌, Bool, true, List, [], refl, sym, subst}
+use Rattle.std.specs.Prelude.{Contains}
 use Rattle.disk_trait.specs.Files.{Files}
 use Rattle.flowfile_record.specs.NamedFile.{NamedFile}
-use Rattle.flowfile_wal.specs.Calls.{InEach}
 use Rattle.checkpoint_store.specs.Consistent.{IsConsistent}
 use Rattle.content_repo.specs.Claims.{content_in}
 use Rattle.content_repo.proofs.Ranges.{contents-have-ranges}
-use Rattle.machine_model.specs.declared.flow.Flow.{Flow}
 use Rattle.machine_model.specs.State.{Machine}
-use Rattle.store_core.specs.Store.{FilesHold, StoreState, kept_by}
-use Rattle.engine_queues.specs.Laws.{HeldContentsHaveSizes, QueuesAreSeen, QueuesShowKept}
-use Rattle.engine_choice.specs.Laws.{TakingsAreSessions}
-use Rattle.engine_choice.specs.declared.choice.Choice.{Choice}
-use Rattle.engine_session.specs.Laws.{MachinesFilesAreLive}
-use Rattle.run_law.specs.Going.{IsSpared}
-use Rattle.run_law.specs.Laws.{SparedRunsGoOn}
-use Rattle.run_law.specs.Run.{IsStateOf, StandsFor}
-use Rattle.run_law.specs.Work.{IsAtWork}
+use Rattle.machine_model.proofs.Among.{contains_among}
+use Rattle.store_core.specs.Store.{FilesHold, kept_by}
+use Rattle.engine_queues.specs.Laws.{HeldContentsHaveSizes}
+use Rattle.engine_choice.specs.declared.choice.Taking.{Taking}
+use Rattle.engine_choice.specs.declared.choice.Taking.TheVariants.{Files as OfFiles, Generate, Receive}
 use Rattle.engine_session.specs.Change.{IsStepOf, MakesStep}
-use Rattle.engine_steps.specs.Checkout.{ChoiceStands}
-use Rattle.engine_steps.specs.Engine.{EngineState}
-use Rattle.engine_steps.specs.Ready.{EngineIsReady}
-use Rattle.engine_steps.specs.Handing.{JobIsHanded, IsHandedAs}
-use Rattle.engine_steps.specs.Running.{IsRunning}
+use Rattle.engine_session.specs.Laws.{MachinesFilesAreLive}
+use Rattle.engine_session.specs.Taken.{IsAmong, TakenAreSessions}
 use Rattle.engine_session.specs.declared.change.Changed.{Changed}
 use Rattle.engine_session.specs.declared.job.Job.{Job}
-use Rattle.engine_steps.proofs.Chosen.{IsNext, next_takes}
+use Rattle.run_law.specs.Going.{IsSpared}
+use Rattle.run_law.specs.Laws.{SparedRunsGoOn}
 use Rattle.run_law.specs.Puts.{Outgoing, Start}
-use Rattle.engine_queues.specs.Listing.{names_left}
+use Rattle.run_law.specs.Run.{IsStateOf}
+use Rattle.engine_steps.specs.Commit.{IndexIsNext}
+use Rattle.engine_steps.specs.Engine.{AreTakeable, EngineState}
+use Rattle.engine_steps.specs.Flights.{HoldsInFlight, names_to_come}
+use Rattle.engine_steps.specs.Handing.{JobIsHanded, IsHandedAs, MayBeReceived}
+use Rattle.engine_steps.specs.Ready.{EngineIsReady}
+use Rattle.engine_steps.specs.Running.{IsRunning}
+use Rattle.engine_steps.specs.declared.flight.InFlight.{InFlight}
+use Rattle.engine_steps.proofs.Flights.{in_flight_at}
+use Rattle.engine_steps.proofs.NamesToCome.{may_be_received, name_comes}
 use Rattle.engine_steps.proofs.Stands.{stands_in}
 
 module _ (tells : Bool) {D : Type 0} (held : D → Files) (moment : D → ℕ) (images : D → ℕ → Files → Type 0) (e : EngineState) (disk : D) (ready : EngineIsReady tells held moment images e disk)
-    (consistent : IsConsistent (kept_by e.store)) (time : ℕ) (choice : Choice)
-    (chosen : ChoiceStands e time choice) where
-  pub next : QueuesShowKept → IsNext e.flow (kept_by e.store) (names_left e.listing) time choice
-  next shown = next_takes shown e.flow (kept_by e.store) e.queues (names_left e.listing) time choice consistent ready.work.flow_is ready.sound ready.queues chosen
+    (flight : InFlight) (flying : Contains e.out flight) where
+  in_flight : HoldsInFlight e.flow (kept_by e.store) e.listing e.next_session flight
+  in_flight = in_flight_at e.flow (kept_by e.store) e.listing e.next_session e.out flight ready.memory.flights flying
+
+  -- a name that it receives is to come
+  is_to_come : IsAmong (names_to_come e) flight.choice.taking
+  is_to_come = by_taking flight.choice.taking refl
+    where
+      by_taking : (taking : Taking) → flight.choice.taking ≡ taking → IsAmong (names_to_come e) taking
+      by_taking (OfFiles connection numbers) is = tt
+      by_taking (Generate index) is = tt
+      by_taking (Receive name) is = contains_among name (names_to_come e) (name_comes e.out e.listing flight name flying is in_flight.holds)
+
+  -- .. and its file is left
+  pub is_received : (left : List NamedFile) → AreTakeable left (names_to_come e) → MayBeReceived left flight.choice.taking
+  is_received left all = may_be_received left e.out e.listing flight all flying in_flight.holds
 
   -- what it makes of what it was handed is a step
-  pub steps : QueuesShowKept → QueuesAreSeen → HeldContentsHaveSizes → TakingsAreSessions → MachinesFilesAreLive
-      → (kept_by e.store).batches ≡ [] → FilesHold e.store (held disk)
+  pub steps : TakenAreSessions → HeldContentsHaveSizes → MachinesFilesAreLive → IsConsistent (kept_by e.store) → (kept_by e.store).batches ≡ [] → FilesHold e.store (held disk) → IndexIsNext e flight
       → (opened : Machine) (first : D) (start : Start) (since : ℕ) (left : List NamedFile) (out : Outgoing) (run : IsRunning moment images e opened first start since disk left out)
       → IsStateOf run.reached (content_in (held disk)) (kept_by e.store) → (job : Job) (changed : Changed)
-      → JobIsHanded (kept_by e.store) time choice job → IsHandedAs true true true (kept_by e.store) (content_in (held disk)) left out.standing choice job
+      → JobIsHanded (kept_by e.store) flight job → IsHandedAs true true true (kept_by e.store) (content_in (held disk)) left out.standing flight.choice.taking job
       → MakesStep e.flow (kept_by e.store) job changed → IsStepOf e.flow (content_in (held disk)) run.reached job changed
-  steps shown seen sizes sessions live no_batches holds opened first start since left out run tied job changed handed told makes =
+  steps sessions sizes live consistent no_batches holds next opened first start since left out run tied job changed handed told makes =
+      let comes = subst (λ (names : List (List ℕ)). IsAmong names flight.choice.taking) (sym run.to.coming) is_to_come in
       makes (content_in (held disk)) run.reached (contents-have-ranges (held disk)) tied run.to.run.valid
-      (stands_in sessions seen live e.flow (kept_by e.store) e.queues (names_left e.listing) time choice (content_in (held disk)) run.reached left out.standing job
-      consistent no_batches ready.work.flow_is ready.queues (sizes e.store (held disk) holds) chosen (next shown) tied run.to.run.valid run.to.coming run.to.run.lies run.to.run.stands.standing handed told)
+      (stands_in sessions live e.flow (kept_by e.store) flight (content_in (held disk)) run.reached left out.standing job ready.memory.sound consistent no_batches ready.memory.flow_is
+      (sizes e.store (held disk) holds) in_flight.takes next comes tied run.to.run.lies run.to.run.stands.standing handed told)
 
 -- calls that leave what the disk stands for, and time that goes by
 abbrev pub runs_on : {D : Type 0} (moment : D → ℕ) (images : D → ℕ → Files → Type 0) → SparedRunsGoOn moment images → (e : EngineState) (opened : Machine) (first : D) (start : Start) (time later : ℕ) (old new : D) (left : List NamedFile)
@@ -60,37 +74,3 @@ runs_on moment images law e opened first start time later old new left out run n
     last = run.to.last;
   };
 }
-
--- ---- where the engine's fields are those of its value
-
-module _ (tells : Bool) {D : Type 0} (held : D → Files) (moment : D → ℕ) (images : D → ℕ → Files → Type 0) (v e : EngineState) (is : v ≡ e) (disk : D) (ready : EngineIsReady tells held moment images e disk)
-    (consistent : IsConsistent (kept_by v.store)) (time : ℕ) (choice : Choice)
-    (chosen : ChoiceStands e time choice) where
-  ready_there : EngineIsReady tells held moment images v disk
-  ready_there = subst (λ (x : EngineState). EngineIsReady tells held moment images x disk) (sym is) ready
-
-  pub next_there : QueuesShowKept → IsNext v.flow (kept_by v.store) (names_left v.listing) time choice
-  next_there shown =
-      next tells held moment images v disk ready_there consistent time choice
-      (subst (λ (x : EngineState). ChoiceStands x time choice) (sym is) chosen) shown
-
-  pub step_so : QueuesShowKept → QueuesAreSeen → HeldContentsHaveSizes → TakingsAreSessions → MachinesFilesAreLive
-      → (kept_by v.store).batches ≡ [] → FilesHold v.store (held disk)
-      → ((flow : Flow) → IsAtWork flow tells held moment images v.store disk → (m : Machine) → InEach (images disk (moment disk)) (StandsFor flow v.store.lot m) → IsStateOf m (content_in (held disk)) (kept_by v.store))
-      → (t : StoreState) → t ≡ v.store
-      → (opened : Machine) (first : D) (start : Start) (since : ℕ) (left : List NamedFile) (out : Outgoing) (run : IsRunning moment images e opened first start since disk left out)
-      → (job : Job) (changed : Changed)
-      → JobIsHanded (kept_by v.store) time choice job → IsHandedAs true true true (kept_by v.store) (content_in (held disk)) left out.standing choice job
-      → MakesStep v.flow (kept_by t) job changed
-      → IsStepOf e.flow (content_in (held disk)) run.reached job changed × IsStateOf run.reached (content_in (held disk)) (kept_by v.store)
-  step_so shown seen sizes sessions live no_batches holds tied t same opened first start since left out run job changed handed told makes =
-      let tie = tied e.flow (subst (λ (x : EngineState). IsAtWork e.flow tells held moment images x.store disk) (sym is) ready.work) run.reached
-      (subst (λ (x : EngineState). InEach (images disk (moment disk)) (StandsFor e.flow x.store.lot run.reached)) (sym is) run.to.run.holds) in (
-        steps tells held moment images e disk ready (subst (λ (x : EngineState). IsConsistent (kept_by x.store)) is consistent) time choice chosen shown seen sizes sessions live
-            (subst (λ (x : EngineState). (kept_by x.store).batches ≡ []) is no_batches) (subst (λ (x : EngineState). FilesHold x.store (held disk)) is holds) opened first start since left out run
-            (subst (λ (x : EngineState). IsStateOf run.reached (content_in (held disk)) (kept_by x.store)) is tie) job changed
-            (subst (λ (x : EngineState). JobIsHanded (kept_by x.store) time choice job) is handed)
-            (subst (λ (x : EngineState). IsHandedAs true true true (kept_by x.store) (content_in (held disk)) left out.standing choice job) is told)
-            (subst (λ (x : EngineState). MakesStep x.flow (kept_by x.store) job changed) is (subst (λ (s : StoreState). MakesStep v.flow (kept_by s) job changed) same makes)),
-        tie,
-      )

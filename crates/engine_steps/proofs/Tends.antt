@@ -96,6 +96,7 @@ journaled_kept EngineError.Outbox one journal other = refl
 journaled_kept EngineError.Put one journal other = refl
 journaled_kept (EngineError.Limit limit) one journal other = refl
 journaled_kept EngineError.MustReopen one journal other = refl
+journaled_kept EngineError.NoSession one journal other = refl
 journaled_kept EngineError.Memory one journal other = refl
 
 -- ---- what the files stand for

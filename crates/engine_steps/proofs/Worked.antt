@@ -4,6 +4,7 @@ use Rattle.std.specs.Prelude.{Option, None, Some, slice_get}
 use Rattle.std.specs.Option.{option_to_list}
 use Rattle.flowfile_record.specs.NamedFile.{NamedFile}
 use Rattle.flowfile_record.specs.Stored.{Kept}
+use Rattle.flowfile_record.specs.declared.content.ContentRef.{ContentRef}
 use Rattle.flowfile_record.specs.declared.flow_file.FlowFile.{FlowFile}
 use Rattle.flowfile_record.specs.declared.worked.Outcome.{Outcome}
 use Rattle.machine_model.specs.declared.flow.Flow.{Flow}
@@ -17,6 +18,7 @@ use Rattle.process_session.specs.Bench.{taken_source}
 use Rattle.process_session.specs.declared.file.Source.{Source}
 use Rattle.process_session.specs.declared.file.Taken.{Taken}
 use Rattle.processor_api.specs.Acts.{IsOutcomeOf, KeepsGiven}
+use Rattle.store_core.specs.Store.{kept_by}
 use Rattle.engine_session.specs.Handing.{live_files, taken_as, taken_with_contents}
 use Rattle.engine_session.specs.Working.{IsWorkOf}
 use Rattle.engine_choice.specs.Laws.{given_for}
@@ -27,6 +29,9 @@ use Rattle.engine_steps.specs.Handing.{HasBytes, JobIsHanded}
 use Rattle.engine_session.specs.Job.{MayHand}
 use Rattle.engine_session.specs.declared.done.Done.{Done}
 use Rattle.engine_session.specs.declared.job.Job.{Job}
+use Rattle.engine_steps.specs.Engine.{EngineState}
+use Rattle.engine_steps.specs.OwnJob.{IsJobOf}
+use Rattle.engine_steps.specs.declared.flight.InFlight.{InFlight}
 
 -- ---- what is given
 
@@ -36,8 +41,8 @@ bytes_by moment (Receive name) given is has none = let both : Some name ≡ None
 bytes_by moment (Files connection numbers) given is has none = has
 bytes_by moment (Generate index) given is has none = has
 
-pub none_given : (k : Kept) (moment : ℕ) (choice : _) (job : Job) → JobIsHanded k moment choice job → job.given.file ≡ None → job.given.bytes ≡ None
-none_given k moment choice job handed none = bytes_by moment choice.taking job.given handed.given handed.has none
+pub none_given : (k : Kept) (flight : InFlight) (job : Job) → JobIsHanded k flight job → job.given.file ≡ None → job.given.bytes ≡ None
+none_given k flight job handed none = bytes_by flight.moment flight.choice.taking job.given handed.given handed.has none
 
 -- ---- what was taken, by what stays of it
 
@@ -129,6 +134,7 @@ module _ (flow : Flow) (store : ℕ) (k : Kept) (in_tells : Bool) (left : List N
   -- it is the work on the job that it was compared with
   pub same_work : IsWorkOn flow store again done
   same_work = record {
+    session = same.session;
     processor = same.processor;
     connection = same.connection;
     numbers = same.numbers;
@@ -138,3 +144,9 @@ module _ (flow : Flow) (store : ℕ) (k : Kept) (in_tells : Bool) (left : List N
         (subst (λ (taken : List Taken). IsWorkOf processor.kind taken first.given (done.outcome, done.sources)) taken_are
         (work.work processor (ap (slice_get flow.processors) (sym work.processor ∙ same.processor) ∙ at)));
   }
+
+-- work that is the same as that on the job of a session in flight is the work on it
+pub work_on_flight : (tells in_tells out_tells : Bool) (e : EngineState) (contents : ContentRef → List ℕ) (left : List NamedFile) (standing : List ℕ → Option (List ℕ)) (flight : InFlight) (job : Job) (done : Done)
+    → WorkIsDone e.flow (kept_by e.store).store in_tells left done → IsJobOf tells in_tells out_tells e contents left standing flight job → IsSame done job → IsWorkOn e.flow (kept_by e.store).store job done
+work_on_flight tells in_tells out_tells e contents left standing flight job done of own same =
+    same_work e.flow (kept_by e.store).store (kept_by e.store) in_tells left done job of same own.may (none_given (kept_by e.store) flight job own.handed)

@@ -1,9 +1,10 @@
 -- What is left where a change was sent and committed, by the call that refused.
-use Rattle.std.proofs.Common.{◌≡◌, ◌⊎◌, inl, inr, ℕ, Bool, false, List, refl, sym, ◌∙◌, ap, subst, []}
-use Rattle.std.specs.Prelude.{Result, Err, IsTrue}
+use Rattle.std.proofs.Common.{◌≡◌, ◌⊎◌, inl, inr, ℕ, Bool, false, List, refl, sym, ◌∙◌, ap, subst}
+use Rattle.std.specs.Prelude.{All, Result, Err, IsSome, IsTrue}
 use Rattle.disk_trait.specs.Files.{Files}
 use Rattle.flowfile_wal.specs.Calls.{InEach}
 use Rattle.content_repo.specs.Claims.{content_in}
+use Rattle.kept_state.specs.Fits.{active_of}
 use Rattle.kept_state.specs.declared.limit.Limit.{Limit as TheLimit}
 use Rattle.machine_model.specs.declared.flow.Flow.{Flow}
 use Rattle.machine_model.specs.Changing.{state_after}
@@ -50,7 +51,7 @@ module _ {D : Type 0} (tells : Bool) (held : D → Files) (moment : D → ℕ) (
   Written result = HasWritten result tells held moment images out_tells s t queues now_queues changed out now_out old new
 
   -- an error before the commit
-  pub unwritten_by : (error : EngineError) → IsBefore error → new ≡ old → t ≡ with_room t.memory.room s → ((flow : Flow) → AreQueuesOf flow (kept_by s) [] queues → AreQueuesOf flow (kept_by s) [] now_queues)
+  pub unwritten_by : (error : EngineError) → IsBefore error → new ≡ old → t ≡ with_room t.memory.room s → ((flow : Flow) (taken : List ℕ) → AreQueuesOf flow (kept_by s) taken queues → AreQueuesOf flow (kept_by s) taken now_queues)
       → ((error ≡ Put → ⊥) → now_out ≡ out) → (error ≡ Put → IsTrue out_tells → IsLeftBySend changed.sending out now_out)
       → ((limit : TheLimit) → error ≡ Limit limit → IsLimitOf s changed.settled limit) → (result : Result ℕ EngineError) → result ≡ Err error → Written result
   unwritten_by error before same roomy still unsent put passes result was = subst Written (sym was) (record {
@@ -64,10 +65,12 @@ module _ {D : Type 0} (tells : Bool) (held : D → Files) (moment : D → ℕ) (
     put = λ is. put (same_error error Put is);
     passes = λ limit is. passes limit (same_error error (Limit limit) is);
     kinds = before_kinds error before;
-    work = λ not flow queued. record {
+    work = λ not flow taken queued. record {
       work = subst (λ (d : D). IsAtWork flow tells held moment images t d) (sym same) (work_roomy flow tells held moment images s t t.memory.room old roomy queued.work);
-      are = subst (λ (u : StoreState). AreQueuesOf flow (kept_by u) [] now_queues) (sym roomy) (still flow queued.are);
+      are = subst (λ (u : StoreState). AreQueuesOf flow (kept_by u) taken now_queues) (sym roomy) (still flow taken queued.are);
+      live = subst (λ (u : StoreState). All (λ number. IsSome (active_of number (kept_by u).files)) taken) (sym roomy) queued.live;
     };
+    stay = λ not number other live. ap (λ (u : StoreState). active_of number (kept_by u).files) roomy;
     lot = (ap (λ (u : StoreState). u.lot) roomy, ap (λ (u : StoreState). u.log.number) roomy);
     id = ap (λ (u : StoreState). (kept_by u).store) roomy;
   })
@@ -89,9 +92,22 @@ module _ {D : Type 0} (tells : Bool) (held : D → Files) (moment : D → ℕ) (
     passes = λ limit is. absurd cc;
     kinds = inl refl;
     work = λ not. absurd (not refl);
+    stay = λ not. absurd (not refl);
     lot = lot;
     id = id;
   })
+
+-- what a preparation is refused by
+abbrev IsRefusal : StoreError → Type 0
+IsRefusal error = (error ≡ StoreError.Memory) ⊎ ((limit : TheLimit) × (error ≡ StoreError.Limit limit))
+
+pub refused_before : (error : StoreError) → IsRefusal error → IsBefore (engine_error error)
+refused_before error (inl memory) = inl (ap engine_error memory)
+refused_before error (inr (limit, limited)) = inr (inr (limit, ap engine_error limited))
+
+pub refused_unput : (error : StoreError) → IsRefusal error → engine_error error ≡ Put → ⊥
+refused_unput error (inl memory) put = let both : Memory ≡ Put = sym (ap engine_error memory) ∙ put in cc
+refused_unput error (inr (limit, limited)) put = let both : Limit limit ≡ Put = sym (ap engine_error limited) ∙ put in cc
 
 -- a store that works and refuses a commit met a failure of its disk
 pub refused_by_disk : (error : StoreError) → IsDiskOrReopen error → engine_error error ≡ Disk

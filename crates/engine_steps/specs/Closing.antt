@@ -16,16 +16,17 @@ use Rattle.run_law.specs.Run.{IsStateOf, IsTidied}
 use Rattle.engine_steps.specs.Engine.{EngineState}
 use Rattle.engine_steps.specs.declared.close.Closed.{Closed}
 use Rattle.engine_steps.specs.declared.error.EngineError.{EngineError}
-use Rattle.engine_queues.specs.Listing.{names_left}
+use Rattle.engine_steps.specs.Flights.{names_to_come}
 use Rattle.engine_steps.specs.declared.error.EngineError.TheVariants.{Disk, MustReopen}
 
--- The journal is handed over, what the store keeps, how many names are left in the inbox and how many events there are of
--- each kind. One image alone is left, and each claim that isn't empty has the content of a kept file.
+-- The journal is handed over, what the store keeps, how many names are left in the inbox, those of sessions in flight
+-- among them, and how many events there are of each kind. One image alone is left, and each claim that isn't empty has
+-- the content of a kept file.
 pub record EngineIsClosed {D : Type 0} (tells : Bool) (held : D → Files) (moment : D → ℕ)
     (images : D → ℕ → Files → Type 0) (e : EngineState) (new : D) (closed : Closed) : Type 0 where
   pub journal : closed.journal ≡ e.journal
   pub state : kept_of closed.state ≡ kept_by e.store
-  pub left : closed.left ≡ length (names_left e.listing) + e.listing.too_large
+  pub left : closed.left ≡ length (names_to_come e) + e.listing.too_large
   pub events : closed.events.counts ≡ e.store.events.counts
   pub synced : IsOnly (held new) (images new (moment new))
   pub tidied : IsTrue tells → IsTidied e.flow e.store.lot (held new)

@@ -1,8 +1,9 @@
 -- How the change of a session becomes part of a store at work.
-use Rattle.std.specs.Prelude.{◌≡◌, ◌≢◌, ◌⊎◌, ℕ, Bool, List, Option, None, Some, Result, Ok, Err, IsTrue, IfOk, OnOk, IfErr, IsErrOf, []}
+use Rattle.std.specs.Prelude.{◌≡◌, ◌≢◌, ◌⊎◌, ℕ, Bool, false, All, List, Option, None, Some, IsSome, Result, Ok, Err, IsTrue, IfOk, OnOk, IfErr, IsErrOf}
 use Rattle.disk_trait.specs.Files.{Files}
 use Rattle.content_repo.specs.Claims.{content_in}
 use Rattle.flowfile_wal.specs.Calls.{InEach}
+use Rattle.kept_state.specs.Fits.{active_of}
 use Rattle.kept_state.specs.declared.limit.Limit.{Limit as TheLimit}
 use Rattle.machine_model.specs.declared.flow.Flow.{Flow}
 use Rattle.machine_model.specs.Changing.{state_after}
@@ -17,15 +18,23 @@ use Rattle.engine_steps.specs.declared.error.EngineError.{EngineError}
 use Rattle.engine_steps.specs.declared.error.EngineError.TheVariants.{Disk, Inbox, Put, Limit, Memory}
 use Rattle.flow_queue.specs.Queue.{QueueState}
 use Rattle.store_core.specs.Store.{StoreState, kept_by}
+use Rattle.engine_queues.specs.Beside.{is_out, out_without}
 use Rattle.engine_queues.specs.Queues.{AreQueuesOf}
 use Rattle.run_law.specs.Work.{IsAtWork}
 use Rattle.engine_session.specs.declared.change.Sending.{Sending}
 
--- a store at work for a flow, and the queues of what it keeps
+-- a store at work for a flow, and the queues of what it keeps, whose files of these numbers are in flight
 pub record IsAtWorkWithQueues {D : Type 0} (flow : Flow) (tells : Bool) (held : D → Files) (moment : D → ℕ)
-    (images : D → ℕ → Files → Type 0) (s : StoreState) (queues : List QueueState) (disk : D) : Type 0 where
-  pub work : IsAtWork flow tells held moment images s disk
-  pub are : AreQueuesOf flow (kept_by s) [] queues
+    (images : D → ℕ → Files → Type 0) (s : StoreState) (out : List ℕ) (queues : List QueueState) (disk : D) : Type 0
+  where
+    pub work : IsAtWork flow tells held moment images s disk
+    pub are : AreQueuesOf flow (kept_by s) out queues
+    pub live : All (λ number. IsSome (active_of number (kept_by s).files)) out
+
+-- which files are in flight behind a change that these files are gone by
+abbrev pub out_behind : Result ℕ EngineError → (gone out : List ℕ) → List ℕ
+out_behind (Ok moment) gone out = out_without gone out
+out_behind (Err error) gone out = out
 
 -- the store, but for its room
 abbrev pub with_room : ℕ → StoreState → StoreState
@@ -75,8 +84,11 @@ pub record HasWritten {D : Type 0} (result : Result ℕ EngineError) (tells : Bo
   pub passes : (limit : TheLimit) → IsErrOf result (Limit limit) → IsLimitOf s changed.settled limit
   pub kinds : IfErr result (λ error. (error ≡ Disk) ⊎ (error ≡ Memory) ⊎ (error ≡ Put)
       ⊎ ((limit : TheLimit) × (error ≡ Limit limit)))
-  pub work : (IsErrOf result Disk → ⊥) → (flow : Flow)
-      → IsAtWorkWithQueues flow tells held moment images s queues old
-      → IsAtWorkWithQueues flow tells held moment images t now_queues new
+  pub work : (IsErrOf result Disk → ⊥) → (flow : Flow) (out : List ℕ)
+      → IsAtWorkWithQueues flow tells held moment images s out queues old
+      → IsAtWorkWithQueues flow tells held moment images t (out_behind result changed.settled.gone out) now_queues new
+  pub stay : (IsErrOf result Disk → ⊥) → (number : ℕ) → is_out changed.settled.gone number ≡ false
+      → IsSome (active_of number (kept_by s).files)
+      → active_of number (kept_by t).files ≡ active_of number (kept_by s).files
   pub lot : (t.lot ≡ s.lot) × (t.log.number ≡ s.log.number)
   pub id : (kept_by t).store ≡ (kept_by s).store

@@ -8,12 +8,13 @@ use Rattle.machine_model.specs.declared.journal.Entry.{Entry}
 use Rattle.flow_queue.specs.Queue.{QueueState}
 use Rattle.store_core.specs.Store.{StoreState, kept_by}
 use Rattle.engine_queues.specs.Listing.{Left}
+use Rattle.engine_steps.specs.declared.flight.InFlight.{InFlight}
 
--- The flow that it runs; the store and the queues of what it keeps; the names of the inbox that are to come; the
+-- The flow that it runs; the store and the queues of what it keeps; the names of the inbox, and which are taken; the
 -- processor that got the last session; the journal, and how many entries it may have; with how many entries in its log
 -- the store makes a checkpoint; how many entries came since claims were last reclaimed; whether the disk has failed, or a
--- put into the outbox, so that the store must be opened anew; and a moment at which nothing was due, where nothing was
--- done since.
+-- put into the outbox, so that the store must be opened anew; a moment at which nothing was due, where nothing was done
+-- since; the sessions in flight, and the number of the next one.
 pub record EngineState : Type 0 where
   pub flow : Flow
   pub store : StoreState
@@ -26,6 +27,8 @@ pub record EngineState : Type 0 where
   pub since_reclaim : ℕ
   pub failed : Bool
   pub tended : Option ℕ
+  pub out : List InFlight
+  pub next_session : ℕ
 
 -- the files of these names are left, and none is longer than a content may be
 abbrev pub AreTakeable : List NamedFile → List (List ℕ) → Type 0

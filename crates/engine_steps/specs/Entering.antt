@@ -25,7 +25,7 @@ use Rattle.engine_steps.specs.Errors.{IsReadBy}
 use Rattle.engine_steps.specs.Journal.{journaled}
 use Rattle.engine_steps.specs.Running.{IsRunning, Stops, undone_step}
 use Rattle.engine_steps.specs.declared.error.EngineError.{EngineError}
-use Rattle.engine_steps.specs.declared.error.EngineError.TheVariants.{Damaged, Disk, Inbox, Put, Limit, MustReopen, Memory}
+use Rattle.engine_steps.specs.declared.error.EngineError.TheVariants.{Damaged, Disk, Inbox, Put, Limit, MustReopen, NoSession, Memory}
 
 -- ---- the job is read again
 
@@ -39,11 +39,12 @@ pub record IsReread {D A : Type 0} (result : Result A EngineError) (held : D →
   pub inbox : now_left ≡ left
   pub outbox : now_out ≡ out
 
--- It meets no limit, a store that works is asked, nothing is put, and damage is answered only on a disk that doesn't
--- tell.
+-- It meets no limit, a store that works is asked of a session in flight, nothing is put, and damage is answered only on
+-- a disk that doesn't tell.
 pub record FailsToReread {A : Type 0} (result : Result A EngineError) (tells : Bool) : Type 0 where
   pub unlimited : (limit : TheLimit) → IsErrOf result (Limit limit) → ⊥
   pub works : IsErrOf result MustReopen → ⊥
+  pub known : IsErrOf result NoSession → ⊥
   pub unput : IsErrOf result Put → ⊥
   pub damaged : (damage : Damage) → IsErrOf result (Damaged damage) → DoesNotTell tells
 

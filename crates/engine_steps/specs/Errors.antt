@@ -1,5 +1,5 @@
 -- What an engine's errors mean for a run.
-use Rattle.std.specs.Prelude.{◌≡◌, ◌⊎◌, ◌↔◌, ℕ, ◌≤◌, Bool, true, List, length, Result, IfErr, IsErrOf}
+use Rattle.std.specs.Prelude.{◌≡◌, ◌⊎◌, ◌↔◌, ℕ, ◌≤◌, Bool, true, false, List, length, Result, Ok, IfErr, IsErrOf}
 use Rattle.disk_trait.specs.Faults.{CountsFaults}
 use Rattle.disk_trait.specs.Files.{Files}
 use Rattle.disk_trait.specs.declared.damage.Damage.{Damage}
@@ -10,6 +10,9 @@ use Rattle.store_core.specs.Store.{StoreState}
 use Rattle.run_law.specs.Ending.{journal_full}
 use Rattle.run_law.specs.Work.{DoesNotTell, IsAtWork, IsRefused}
 use Rattle.engine_steps.specs.Engine.{EngineState}
+use Rattle.engine_steps.specs.Flights.{is_in_flight}
+use Rattle.engine_steps.specs.declared.commit.Committed.{Committed}
+use Rattle.engine_steps.specs.declared.commit.Committed.TheVariants.{Dropped}
 use Rattle.run_law.specs.declared.ended.Ended.{Ended}
 use Rattle.run_law.specs.declared.ended.Ended.TheVariants as ended
 use Rattle.run_law.specs.declared.ended.Fault.TheVariants as fault
@@ -18,9 +21,9 @@ use Rattle.store_core.specs.declared.error.StoreError.TheVariants as store
 use Rattle.world_io.specs.declared.error.WorldError.{WorldError}
 use Rattle.world_io.specs.declared.error.WorldError.TheVariants as world
 use Rattle.engine_steps.specs.declared.error.EngineError.{EngineError}
-use Rattle.engine_steps.specs.declared.error.EngineError.TheVariants.{Damaged, Disk, Inbox, Outbox, Put, Limit, MustReopen, Memory}
+use Rattle.engine_steps.specs.declared.error.EngineError.TheVariants.{Damaged, Disk, Inbox, Outbox, Put, Limit, MustReopen, NoSession, Memory}
 
--- how a run ends by an error; MustReopen is the first of none
+-- how a run ends by an error; MustReopen and NoSession are the first of none
 abbrev pub ended_by : EngineError → Ended
 ended_by (Damaged damage) = ended.Fault (fault.Damaged damage)
 ended_by Disk = ended.Fault fault.Disk
@@ -29,6 +32,7 @@ ended_by Outbox = ended.Fault fault.Outbox
 ended_by Put = ended.Fault fault.Outbox
 ended_by (Limit limit) = ended.Limit limit
 ended_by MustReopen = ended.Fault fault.Disk
+ended_by NoSession = ended.Fault fault.Disk
 ended_by Memory = ended.Fault fault.Memory
 
 -- what a refusal of the store means: one that has to be opened anew met a failure of the disk before, and of a store
@@ -65,6 +69,15 @@ pub record Reopens {W A : Type 0} (result : Result A EngineError) (e_old e_new :
     pub from : IsErrOf result Disk → e_new.failed ≡ true
     pub from_put : IsErrOf result Put → e_new.failed ≡ true
     pub only : e_new.failed ≡ true → (e_old.failed ≡ true) ⊎ IsErrOf result Disk ⊎ IsErrOf result Put
+
+-- ---- a session that is asked for
+
+-- This answer comes exactly where the session isn't in flight, before any refusal, and then nothing is done.
+pub record AsksForSession {W A : Type 0} (result : Result A EngineError) (unknown : Type 0) (session : ℕ)
+    (e_old e_new : EngineState) (old new : W) : Type 0 where
+  pub exactly : unknown ↔ (is_in_flight session e_old.out ≡ false)
+  pub untouched : unknown → (e_new ≡ e_old) × (new ≡ old)
+  pub reopen : is_in_flight session e_old.out ≡ true → Reopens result e_old e_new old new
 
 -- ---- calls that read
 
@@ -109,20 +122,25 @@ pub record RefusesToTend {D A : Type 0} (result : Result A EngineError) (tells :
   pub disk : CountsFaults (faults old) (faults new) (IsErrOf result Disk)
 
 -- How `read` refuses: so, by no limit, by damage only on a disk that doesn't tell, and by a device only where it failed.
-pub record EngineRefusesToRead {D I O A : Type 0} (result : Result A EngineError) (tells : Bool) (held : D → Files)
-    (moment : D → ℕ) (images : D → ℕ → Files → Type 0) (faults : D → ℕ) (in_faults : I → ℕ) (out_faults : O → ℕ)
-    (e_old e_new : EngineState) (old new : D) (in_old in_new : I) (out_old out_new : O) : Type 0 where
-  pub reopen : Reopens {W = D × I × O} result e_old e_new (old, in_old, out_old) (new, in_new, out_new)
+pub record EngineRefusesToRead {D I O A : Type 0} (result : Result A EngineError) (session : ℕ) (tells : Bool)
+    (faults : D → ℕ) (in_faults : I → ℕ) (out_faults : O → ℕ) (e_old e_new : EngineState) (old new : D)
+    (in_old in_new : I) (out_old out_new : O) : Type 0 where
+  pub asks : AsksForSession {W = D × I × O} result (IsErrOf result NoSession) session e_old e_new
+      (old, in_old, out_old) (new, in_new, out_new)
   pub unlimited : (limit : TheLimit) → IsErrOf result (Limit limit) → ⊥
   pub damaged : (damage : Damage) → IsErrOf result (Damaged damage) → DoesNotTell tells
   pub devices : CountsEachFault result (faults old) (faults new) (in_faults in_old) (in_faults in_new)
       (out_faults out_old) (out_faults out_new)
 
--- How `commit` refuses: so, by a limit or by damage, and by a device only where it failed.
-pub record RefusesToCommit {D I O A : Type 0} (result : Result A EngineError) (tells : Bool) (held : D → Files)
-    (moment : D → ℕ) (images : D → ℕ → Files → Type 0) (faults : D → ℕ) (in_faults : I → ℕ) (out_faults : O → ℕ)
-    (e_old e_new : EngineState) (old new : D) (in_old in_new : I) (out_old out_new : O) : Type 0 where
-  pub reopen : Reopens {W = D × I × O} result e_old e_new (old, in_old, out_old) (new, in_new, out_new)
-  pub why : HasCause result e_old.flow tells held moment images e_old.most e_new.journal e_new.store new
-  pub devices : CountsEachFault result (faults old) (faults new) (in_faults in_old) (in_faults in_new)
-      (out_faults out_old) (out_faults out_new)
+-- How `commit` refuses: it drops a session that isn't in flight; or so, by a limit or by damage, and by a device only
+-- where it failed.
+pub record RefusesToCommit {D I O : Type 0} (result : Result Committed EngineError) (session : ℕ) (tells : Bool)
+    (held : D → Files) (moment : D → ℕ) (images : D → ℕ → Files → Type 0) (faults : D → ℕ) (in_faults : I → ℕ)
+    (out_faults : O → ℕ) (e_old e_new : EngineState) (old new : D) (in_old in_new : I) (out_old out_new : O) : Type 0
+  where
+    pub asks : AsksForSession {W = D × I × O} result (result ≡ Ok Dropped) session e_old e_new
+        (old, in_old, out_old) (new, in_new, out_new)
+    pub known : IsErrOf result NoSession → ⊥
+    pub why : HasCause result e_old.flow tells held moment images e_old.most e_new.journal e_new.store new
+    pub devices : CountsEachFault result (faults old) (faults new) (in_faults in_old) (in_faults in_new)
+        (out_faults out_old) (out_faults out_new)

@@ -11,7 +11,7 @@ use Rattle.run_law.specs.Puts.{outgoing}
 use Rattle.run_law.specs.Work.{DoesNotTell}
 use Rattle.engine_steps.specs.Errors.{IsReadBy}
 use Rattle.engine_steps.specs.declared.error.EngineError.{EngineError}
-use Rattle.engine_steps.specs.declared.error.EngineError.TheVariants.{Damaged, Disk, Inbox, Outbox, Put, Limit, MustReopen}
+use Rattle.engine_steps.specs.declared.error.EngineError.TheVariants.{Damaged, Disk, Inbox, Outbox, Put, Limit, MustReopen, NoSession}
 
 -- Contents were read by a store that works: nothing is written, and the store has failed only where the disk did.
 -- Damage is answered only on a disk that doesn't tell, and the disk's error only where it failed.
@@ -36,7 +36,7 @@ pub record AsksOutbox {O A : Type 0} (result : Result A EngineError) (standing :
   pub cause : CountsFaults (faults old) (faults new) (IsErrOf result Outbox)
 
 -- A job was handed out, or was to be: so of the store and of all devices. No limit is met by that, and it isn't refused
--- because the store must be opened anew.
+-- because the store must be opened anew, or no such session is in flight.
 pub record LeavesAsRead {D I O A : Type 0} (result : Result A EngineError) (tells : Bool) (held : D → Files)
     (moment : D → ℕ) (images : D → ℕ → Files → Type 0) (faults : D → ℕ) (left_in : I → List NamedFile)
     (in_faults : I → ℕ) (standing : O → List ℕ → Option (List ℕ)) (puts : O → List NamedFile) (out_faults : O → ℕ)
@@ -46,3 +46,4 @@ pub record LeavesAsRead {D I O A : Type 0} (result : Result A EngineError) (tell
   pub outbox : AsksOutbox result standing puts out_faults out_old out_new
   pub unlimited : (limit : TheLimit) → IsErrOf result (Limit limit) → ⊥
   pub works : IsErrOf result MustReopen → ⊥
+  pub known : IsErrOf result NoSession → ⊥

@@ -2,9 +2,11 @@ pub mod Checkout
 pub mod Closing
 pub mod Commit
 pub mod Committing
+pub mod Ending
 pub mod Engine
 pub mod Entering
 pub mod Errors
+pub mod Flights
 pub mod Handing
 pub mod HandingParts
 pub mod Journal

@@ -17,7 +17,7 @@ use Rattle.engine_steps.specs.Ready.{expiry_in}
 use Rattle.engine_steps.specs.declared.error.EngineError.{EngineError}
 use Rattle.engine_steps.specs.declared.error.EngineError.TheVariants.{Inbox, Limit, Put}
 use Rattle.engine_steps.specs.declared.tending.Tended.{Tended}
-use Rattle.engine_queues.specs.Listing.{names_left}
+use Rattle.engine_steps.specs.Flights.{names_to_come}
 use Rattle.engine_steps.specs.declared.tending.Tended.TheVariants.{Expired}
 
 -- The engine's journal, of steps from the clock's time at the start up to this time, leads from the opened machine to
@@ -26,7 +26,7 @@ pub record IsRunningTo {D : Type 0} (moment : D → ℕ) (images : D → ℕ →
     (opened : Machine) (first : D) (start : Start) (time : ℕ) (now : D) (left : List NamedFile)
     (out : Outgoing) (reached : Machine) : Type 0 where
   pub run : IsRunningAt e.flow start time moment images e.store.lot opened first now e.journal reached left out
-  pub coming : coming_of reached.world ≡ names_left e.listing
+  pub coming : coming_of reached.world ≡ names_to_come e
   pub last : e.last ≡ last_worker None (steps e.journal)
 
 -- it leads to some machine

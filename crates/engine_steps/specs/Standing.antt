@@ -6,23 +6,24 @@ use Rattle.machine_model.specs.Changing.{queued_file}
 use Rattle.machine_model.specs.State.{World}
 use Rattle.machine_model.specs.Stepping.{is_there}
 use Rattle.engine_choice.specs.Laws.{given_for, numbers_in}
-use Rattle.engine_choice.specs.declared.choice.Choice.{Choice}
 use Rattle.engine_session.specs.Handing.{live_files}
 use Rattle.engine_session.specs.declared.done.Done.{Done}
 use Rattle.engine_steps.specs.Handing.{connection_in}
+use Rattle.engine_steps.specs.declared.flight.InFlight.{InFlight}
 
--- The work is that of the choice: on what it takes, with what it gives.
-pub record IsOfChoice (done : Done) (choice : Choice) : Type 0 where
-  pub processor : done.processor ≡ choice.processor
-  pub connection : done.connection ≡ connection_in choice.taking
-  pub numbers : done.numbers ≡ numbers_in choice.taking
-  pub given : record done.given { bytes = None } ≡ given_for done.given.moment done.given.there choice.taking
+-- The work is that of the session: on what it takes, with what it is given.
+pub record IsOfFlight (done : Done) (flight : InFlight) : Type 0 where
+  pub session : done.session ≡ flight.session
+  pub processor : done.processor ≡ flight.choice.processor
+  pub connection : done.connection ≡ connection_in flight.choice.taking
+  pub numbers : done.numbers ≡ numbers_in flight.choice.taking
+  pub given : record done.given { bytes = None } ≡ given_for flight.moment done.given.there flight.choice.taking
 
--- The work is that of the choice, its files are the live ones of their numbers, and as far as disk and outbox tell their
--- contents are those that it had, and what it was told of the outbox is so.
+-- The work is that of the session, its files are the live ones of their numbers, and as far as disk and outbox tell
+-- their contents are those that it had, and what it was told of the outbox is so.
 pub record HandedStands (tells out_tells : Bool) (k : Kept) (contents : ContentRef → List ℕ)
-    (standing : List ℕ → Option (List ℕ)) (choice : Choice) (done : Done) : Type 0 where
-  pub of : IsOfChoice done choice
+    (standing : List ℕ → Option (List ℕ)) (flight : InFlight) (done : Done) : Type 0 where
+  pub of : IsOfFlight done flight
   pub files : done.files ≡ live_files k done.numbers
   pub bytes : IsTrue tells
       → map (λ source. source.bytes) done.sources ≡ map (λ file. Some (contents file.content)) done.files

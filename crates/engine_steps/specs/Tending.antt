@@ -112,12 +112,15 @@ pub record TendsFirst {D : Type 0} (result : Result Tended EngineError) (moment_
   pub done : HasTended result moment (moment_of new) e_old e_new
   pub nothing : result ≡ Ok Nothing → (new ≡ old) × IsShortOn moment_of images e_old.checkpoint old
 
--- What stays: the run's constants, what is to come and who worked last. The log is no earlier one. Only claims, files of
+-- What stays: the run's constants, the names and which are taken, who worked last, the sessions in flight, and the number
+-- of the next one. The log is no earlier one. Only claims, files of
 -- events, the log and what may follow it are written.
 pub record TendsAlone {D : Type 0} (result : Result Tended EngineError) (moment_of : D → ℕ)
     (images : D → ℕ → Files → Type 0) (e_old e_new : EngineState) (old new : D) : Type 0 where
   pub same : IsOfSameRun e_old e_new
   pub listing : e_new.listing ≡ e_old.listing
   pub last : e_new.last ≡ e_old.last
+  pub out : e_new.out ≡ e_old.out
+  pub next_session : e_new.next_session ≡ e_old.next_session
   pub log : OnOk result (IsNoEarlier e_old.store.log.number e_new.store.log.number)
   pub alone : WritesLog moment_of images e_old.store.log.number old new

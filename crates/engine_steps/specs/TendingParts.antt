@@ -60,7 +60,8 @@ pub record RunsOnSpared {D A : Type 0} (result : Result A EngineError) (tells : 
 
 -- ---- what each call leaves of any engine
 
--- It is ready, unless the disk failed, and of the same run, with what is to come and who worked last. Only claims,
+-- It is ready, unless the disk failed, and of the same run, with the names that it had, who worked last, and the sessions
+-- in flight. Only claims,
 -- files of events, the log and what may follow it are written. The disk's error is answered only where it failed.
 pub record LeavesTended {D A : Type 0} (result : Result A EngineError) (tells : Bool) (held : D → Files)
     (moment : D → ℕ) (images : D → ℕ → Files → Type 0) (faults : D → ℕ) (e_old e_new : EngineState) (old new : D)
@@ -69,6 +70,8 @@ pub record LeavesTended {D A : Type 0} (result : Result A EngineError) (tells : 
   pub same : IsOfSameRun e_old e_new
   pub listing : e_new.listing ≡ e_old.listing
   pub last : e_new.last ≡ e_old.last
+  pub out : e_new.out ≡ e_old.out
+  pub next_session : e_new.next_session ≡ e_old.next_session
   pub failed : e_new.failed ≡ e_old.failed
   pub alone : WritesLog moment images e_old.store.log.number old new
   pub cause : CountsFaults (faults old) (faults new) (IsErrOf result Disk)

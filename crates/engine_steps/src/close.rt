@@ -9,12 +9,16 @@ ghost use Rattle.store_core.specs.Store.{kept_by, live_in, EachStandsFor};
 ghost use Rattle.store_core.specs.Touched.{Frees};
 ghost use Rattle.engine_steps.specs.Closing.{EngineIsClosed, RefusesToClose, ShowsState};
 ghost use Rattle.run_law.specs.Run.{StandsFor};
-ghost use Rattle.run_law.specs.Work.{IsAtWork, IsShortOn};
+ghost use Rattle.run_law.specs.Work.{IsShortOn};
+ghost use Rattle.engine_steps.specs.Flights.{HaveNames, given_back};
+ghost use Rattle.engine_steps.specs.Ready.{EngineIsReady};
 
 use crate::EngineError;
 use crate::engine::Engine;
+use crate::flight::{InFlight, give_name_back};
 use crate::memory::holds_its_state;
 use disk_trait::Disk;
+use engine_queues::{Listing, names_go_back};
 use flowfile_record::{EventCounts, Stored};
 use machine_model::EntryList;
 
@@ -30,9 +34,9 @@ pub struct Closed {
 
 impl Engine<'_> {
     /// Closes the store: claims without references are emptied, and the disk is synced. Whatever a stop leaves stands for
-    /// the same state.
+    /// the same state. Sessions that are in flight have ended by that.
     pub fn close<D: Disk>(self, disk: &mut D) -> Result<Closed, EngineError>
-        requires work { self.failed ≡ false → IsAtWork self.flow D.tells D.held D.moment D.images self.store disk.old }
+        requires ready { self.failed ≡ false → EngineIsReady D.tells D.held D.moment D.images self disk.old }
         ensures closed { IfOk result (EngineIsClosed D.tells D.held D.moment D.images self.entry disk.new) }
         // Where the disk tells, the state that is handed over is the machine's.
         ensures shows { IfOk result (λ closed. IsTrue D.tells → (m : Machine)
@@ -51,9 +55,10 @@ impl Engine<'_> {
     {
         let Engine {
             mut store,
-            listing,
+            mut listing,
             journal,
             has_failed,
+            out,
             ..
         } = self;
         if has_failed {
@@ -64,11 +69,23 @@ impl Engine<'_> {
         let Ok(()) = store.close(disk) else {
             return Err(EngineError::Disk);
         };
+        give_names_back(&mut listing, &out);
         Ok(Closed {
             journal: EntryList::from(journal),
             state: store.into_state(),
             left: listing.count_left(),
             events,
         })
+    }
+}
+
+// Gives back the names of files that sessions in flight receive.
+fn give_names_back(listing: &mut Listing<'_>, out: &[InFlight])
+    requires { HaveNames listing.old out.now }
+    ensures { listing.new ≡ given_back out.now listing.old }
+{
+    names_go_back();
+    for flight in out {
+        give_name_back(listing, flight.place);
     }
 }

@@ -15,6 +15,7 @@ ghost use Rattle.engine_steps.specs.Ready.{EngineIsReady};
 ghost use Rattle.engine_steps.specs.Showing.{EngineShowsState};
 
 use crate::EngineError;
+use crate::flight::InFlight;
 use crate::memory::holds_its_state;
 use disk_trait::Disk;
 use engine_queues::{Listing, Queues, what_is_kept_is_seen};
@@ -24,11 +25,11 @@ use std::marker::Model;
 use store_core::Store;
 use world_io::{CONTENT_MAX, Inbox, Name};
 
-/// What runs a flow: the store and the queues of what it keeps, the names of the inbox that are to come, the processor
+/// What runs a flow: the store and the queues of what it keeps, the names of the inbox that are left, the processor
 /// that got the last session, the journal, how many entries it may have, with how many entries in its log the store makes
 /// a checkpoint, how many entries came since the claims were last reclaimed, whether the disk or a put has failed, so that
-/// the store must be opened anew, and the moment at which nothing was due, where nothing was done since. It holds no
-/// device: each call takes those that it needs.
+/// the store must be opened anew, the moment at which nothing was due, where nothing was done since, the sessions in
+/// flight, and the number of the next one. It holds no device: each call takes those that it needs.
 #[derive(Drop)]
 pub struct Engine<'f> {
     pub(crate) flow: &'f Flow,
@@ -42,6 +43,8 @@ pub struct Engine<'f> {
     pub(crate) since_reclaim: u64,
     pub(crate) has_failed: bool,
     pub(crate) tended: Option<u64>,
+    pub(crate) out: Vec<InFlight>,
+    pub(crate) next_session: u64,
 }
 
 impl<'f> Model for Engine<'f> {
@@ -66,6 +69,8 @@ impl<'f> Model for Engine<'f> {
       since_reclaim = engine.since_reclaim;
       failed = engine.has_failed;
       tended = engine.tended;
+      out = engine.out.items;
+      next_session = engine.next_session;
     } };
 }
 
@@ -109,6 +114,8 @@ impl<'f> Engine<'f> {
             since_reclaim: 0,
             has_failed: false,
             tended: None,
+            out: Vec::new(alloc),
+            next_session: 0,
         })
     }
 
@@ -140,7 +147,7 @@ impl<'f> Engine<'f> {
         self.journal.len() as u64
     }
 
-    /// It does nothing: where the disk tells, the engine shows the machine's state.
+    /// It does nothing: where the disk tells, the engine shows the machine's state beside the sessions in flight.
     pub fn shows_its_state<D: Disk>(&self, disk: &D)
         requires { EngineIsReady D.tells D.held D.moment D.images self.now disk.now }
         ensures { IsTrue D.tells → (m : Machine)

@@ -32,6 +32,9 @@ pub enum EngineError {
     /// the one in memory may be another.
     #[error("the store must be opened anew")]
     MustReopen,
+    /// A session is asked for that isn't in flight: it was committed or has ended, or was never checked out.
+    #[error("no such session is in flight")]
+    NoSession,
     #[error("out of memory")]
     Memory,
 }
@@ -47,8 +50,8 @@ impl EngineError {
             EngineError::Inbox => Ended::Fault(Fault::Inbox),
             EngineError::Outbox | EngineError::Put => Ended::Fault(Fault::Outbox),
             EngineError::Limit(limit) => Ended::Limit(*limit),
-            // Its first cause was told before, and ended the run then.
-            EngineError::MustReopen => Ended::Fault(Fault::Disk),
+            // No run ends by them; they are told as a disk failure only because every error has an end.
+            EngineError::MustReopen | EngineError::NoSession => Ended::Fault(Fault::Disk),
             EngineError::Memory => Ended::Fault(Fault::Memory),
         }
     }

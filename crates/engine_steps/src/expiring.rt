@@ -20,6 +20,7 @@ ghost use Rattle.store_core.specs.Flow.{flow_in};
 ghost use Rattle.store_core.specs.Store.{kept_by};
 ghost use Rattle.engine_change.specs.Committing.{identity_of};
 ghost use Rattle.engine_change.specs.Expiring.{MayExpireIn};
+ghost use Rattle.engine_queues.specs.Beside.{beside};
 ghost use Rattle.engine_queues.specs.Queues.{AreQueuesOf, queue_seen};
 ghost use Rattle.engine_queues.specs.Views.{kept_queues};
 ghost use Rattle.run_law.specs.Ending.{journal_full};
@@ -41,7 +42,8 @@ use crate::journal::note;
 use crate::memory::holds_its_state;
 use disk_trait::Disk;
 use engine_change::{due_expiries_may_expire, expire_files, held_contents_are_read};
-use engine_queues::{Expiry, Queues, what_is_kept_is_seen};
+use engine_queues::{Expiry, Queues, what_expires_is_at_rest, what_is_kept_is_seen};
+use engine_session::taken_files_stay;
 use flowfile_record::Numbers;
 use machine_model::{Flow, Step};
 use run_law::{faults_end_a_run, run_goes_on, worlds_follow_steps};
@@ -71,6 +73,8 @@ impl Engine<'_> {
     {
         holds_its_state(&self.store, disk);
         what_is_kept_is_seen();
+        what_expires_is_at_rest();
+        taken_files_stay();
         due_expiries_may_expire();
         worlds_follow_steps();
         run_goes_on::<D>();
@@ -123,7 +127,8 @@ fn expire<D: Disk>(
     expiry: Expiry,
 ) -> Result<u64, EngineError>
     requires sound { IsSound flow.now }
-    requires work { IsAtWorkWithQueues flow.now D.tells D.held D.moment D.images store.old queues.old disk.old }
+    requires work { (out : List ℕ)
+        × IsAtWorkWithQueues flow.now D.tells D.held D.moment D.images store.old out queues.old disk.old }
     requires due { due_expiry flow.now (queue_seen queues.old) moment ≡ Some (expiry.connection, expiry.numbers) }
     ensures step { IsTrue D.tells → (before : Machine)
         → InEach (D.images disk.old (D.moment disk.old)) (StandsFor flow.now store.old.lot before)
@@ -131,14 +136,16 @@ fn expire<D: Disk>(
         (Expire expiry.connection expiry.numbers moment) disk.old disk.new }
     ensures commits { CommitsExpiry result D.moment D.images expiry.numbers store.old store.new
         queues.old queues.new disk.old disk.new }
-    ensures work { OnOk result (IsAtWorkWithQueues flow.now D.tells D.held D.moment D.images store.new queues.new
-        disk.new) }
+    ensures work { OnOk result ((out : List ℕ)
+        → IsAtWorkWithQueues flow.now D.tells D.held D.moment D.images store.old out queues.old disk.old
+        → IsAtWorkWithQueues flow.now D.tells D.held D.moment D.images store.new out queues.new disk.new) }
     ensures refusal { StoreRefusesExpiry result flow.now D.tells D.held D.moment D.images D.faults store.new
         disk.old disk.new }
 {
     holds_its_state(store, disk);
     held_contents_are_read();
     what_is_kept_is_seen();
+    what_expires_is_at_rest();
     let expiry = settle_expiry(alloc, flow, store, moment, expiry)?;
     let prepared = store.prepare_expiry(&expiry)?;
     let moment = store.commit(disk, prepared)?;
@@ -156,8 +163,8 @@ fn settle_expiry(
 ) -> Result<SettledExpiry, AllocError>
     requires sound { IsSound flow.now }
     requires identity { flow_in (kept_by store.now) ≡ identity_of flow.now }
-    requires due { due_expiry flow.now (kept_queues (kept_by store.now)) moment
-        ≡ Some (expiry.connection, expiry.numbers) }
+    requires due { (out : List ℕ) × (due_expiry flow.now (beside out (kept_queues (kept_by store.now))) moment
+        ≡ Some (expiry.connection, expiry.numbers)) }
     ensures may { IfOk result (MayExpire (kept_by store.now)) }
     ensures live { IfOk result (λ settled. HasLiveContents store.now settled.settled) }
     ensures gone { IfOk result (λ settled. settled.settled.gone ≡ expiry.numbers) }

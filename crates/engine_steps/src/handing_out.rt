@@ -1,6 +1,5 @@
 //! The job of a session is handed out: files of a queue with their contents, a file of the inbox, or an index.
-ghost use Rattle.std.specs.Prelude.{◌≡◌, ◌⊎◌, ◌≤◌, Bool, false, length, List, Option, Some, None, is_some, IfOk, IfErr, IsErrOf, IsTrue, slice_get, []};
-ghost use Rattle.engine_queues.specs.Listing.{names_left};
+ghost use Rattle.std.specs.Prelude.{◌≡◌, ◌⊎◌, ◌≤◌, Bool, false, find, length, List, Option, Some, None, true, is_some, IfOk, IfErr, IsErrOf, IsTrue, slice_get, []};
 ghost use Rattle.std.specs.Option.{option_map_or};
 ghost use Rattle.disk_trait.specs.Faults.{CountsFaults};
 ghost use Rattle.disk_trait.specs.Images.{Stays};
@@ -13,9 +12,10 @@ ghost use Rattle.kept_state.specs.declared.limit.Limit.{Limit as TheLimit};
 ghost use Rattle.machine_model.specs.Acting.{name_in};
 ghost use Rattle.machine_model.specs.declared.flow.Flow.{Flow as TheFlow};
 ghost use Rattle.store_core.specs.Store.{kept_by};
-ghost use Rattle.engine_steps.specs.Checkout.{ChoiceStands};
 ghost use Rattle.engine_session.specs.Done.{MayWorkOn};
 ghost use Rattle.engine_steps.specs.Engine.{AreTakeable};
+ghost use Rattle.engine_steps.specs.Flights.{has_session, is_in_flight, names_to_come};
+ghost use Rattle.engine_steps.specs.declared.flight.InFlight.{InFlight as TheFlight};
 ghost use Rattle.engine_steps.specs.Errors.{CountsEachFault, IsReadBy, OnlyReads, EngineRefusesToRead};
 ghost use Rattle.engine_steps.specs.Handing.{JobIsHanded, IsHandedAs, MayBeReceived, MayBeTaken};
 ghost use Rattle.engine_steps.specs.OwnJob.{IsJobOf};
@@ -26,11 +26,11 @@ ghost use Rattle.engine_steps.specs.HandingParts.{AsksInbox, AsksOutbox, LeavesA
 
 use crate::EngineError;
 use crate::engine::Engine;
+use crate::flight::{InFlight, flight_in};
 use crate::memory::holds_its_state;
 use crate::reading::read_contents;
 use disk_trait::Disk;
-use engine_choice::{Choice, Taking};
-use engine_queues::what_is_kept_is_seen;
+use engine_choice::Taking;
 use engine_session::{Job, ReadList, live_files, taken_files_are_handed};
 use flowfile_record::{Attributes, Bytes, FileList, FlowFile, NameError, Numbers};
 use machine_model::Given;
@@ -39,33 +39,35 @@ use store_core::Store;
 use world_io::{Inbox, Name, Outbox};
 
 impl Engine<'_> {
-    /// Reads the job of a session that was chosen, and stands at its moment: the contents of the files that it takes, or
-    /// the file of the inbox, and whether the outbox has the file's name. Nothing is written.
+    /// Reads the job of a session in flight: the contents of the files that it takes, or the file of the inbox, and
+    /// whether the outbox has the file's name. Nothing is written.
     pub fn read<D: Disk, I: Inbox, O: Outbox>(
         &mut self,
         alloc: Global,
         disk: &mut D,
         inbox: &mut I,
         outbox: &mut O,
-        moment: u64,
-        choice: Choice,
+        session: u64,
     ) -> Result<Job, EngineError>
         requires usable { IsUsableWith D.tells D.held D.moment D.images I.tells (I.left inbox.old) self.old disk.old }
-        requires stands { ChoiceStands self.old moment choice }
-        ensures job { IfOk result (λ job. IsJobOf D.tells I.tells O.tells self.old
-            (content_in (D.held disk.old)) (I.left inbox.old) (O.standing outbox.old) moment choice job
+        ensures job { IfOk result (λ job. (flight : TheFlight) × (flight.session ≡ session)
+            × IsJobOf D.tells I.tells O.tells self.old (content_in (D.held disk.old)) (I.left inbox.old)
+            (O.standing outbox.old) flight job
             × MayWorkOn self.old.flow (kept_by self.old.store).store job) }
         ensures engine { OnlyReads result self.old self.new }
         ensures world { Stays D.held D.moment D.images disk.old disk.new × (I.left inbox.new ≡ I.left inbox.old)
             × (outgoing O.standing O.puts outbox.new ≡ outgoing O.standing O.puts outbox.old) }
         ensures usable { IsUsableWith D.tells D.held D.moment D.images I.tells (I.left inbox.new) self.new disk.new }
-        ensures refusal { EngineRefusesToRead result D.tells D.held D.moment D.images D.faults I.faults O.faults
+        ensures refusal { EngineRefusesToRead result session D.tells D.faults I.faults O.faults
             self.old self.new disk.old disk.new inbox.old inbox.new outbox.old outbox.new }
     {
+        if self.flight(session).is_none() {
+            return Err(EngineError::NoSession);
+        }
         if self.has_failed {
             return Err(EngineError::MustReopen);
         }
-        let job = self.read_job(alloc, disk, inbox, outbox, moment, choice);
+        let job = self.read_job(alloc, disk, inbox, outbox, session);
         if let Err(EngineError::Disk) = &job {
             self.has_failed = true;
         }
@@ -79,14 +81,15 @@ impl Engine<'_> {
         disk: &mut D,
         inbox: &mut I,
         outbox: &mut O,
-        moment: u64,
-        choice: Choice,
+        session: u64,
     ) -> Result<Job, EngineError>
         requires ready { EngineIsReady D.tells D.held D.moment D.images self.old disk.old }
-        requires stands { ChoiceStands self.old moment choice }
-        requires left { IsTrue I.tells → AreTakeable (I.left inbox.old) (names_left self.old.listing) }
-        ensures job { IfOk result (IsJobOf D.tells I.tells O.tells self.old
-            (content_in (D.held disk.old)) (I.left inbox.old) (O.standing outbox.old) moment choice) }
+        requires flying { is_in_flight session self.old.out ≡ true }
+        requires left { IsTrue I.tells → AreTakeable (I.left inbox.old) (names_to_come self.old) }
+        ensures job { IfOk result (λ job. (flight : TheFlight)
+            → find (has_session session) self.old.out ≡ Some flight
+            → IsJobOf D.tells I.tells O.tells self.old (content_in (D.held disk.old)) (I.left inbox.old)
+            (O.standing outbox.old) flight job) }
         ensures may { IfOk result (MayWorkOn self.old.flow (kept_by self.old.store).store) }
         ensures rest { self.new ≡ record self.old { store = self.new.store } }
         ensures leaves { LeavesAsRead result D.tells D.held D.moment D.images D.faults I.left I.faults
@@ -94,60 +97,67 @@ impl Engine<'_> {
             outbox.old outbox.new }
     {
         holds_its_state(&self.store, disk);
-        what_is_kept_is_seen();
         taken_files_are_handed();
-        hand(alloc, &mut self.store, disk, inbox, outbox, moment, choice)
+        let Some(flight) = flight_in(&self.out, session) else {
+            unreachable!()
+        };
+        hand(alloc, &mut self.store, disk, inbox, outbox, flight)
     }
 }
 
-// What the session that was chosen is handed.
+// What a session in flight is handed.
 fn hand<D: Disk, I: Inbox, O: Outbox>(
     alloc: Global,
     store: &mut Store,
     disk: &mut D,
     inbox: &mut I,
     outbox: &mut O,
-    moment: u64,
-    choice: Choice,
+    flight: &InFlight,
 ) -> Result<Job, EngineError>
     requires work { (flow : TheFlow) × IsAtWork flow D.tells D.held D.moment D.images store.old disk.old }
-    requires taken { MayBeTaken (kept_by store.old) choice.taking }
-    requires received { IsTrue I.tells → MayBeReceived (I.left inbox.old) choice.taking }
-    ensures handed { IfOk result (JobIsHanded (kept_by store.old) moment choice) }
+    requires taken { MayBeTaken (kept_by store.old) flight.now.choice.taking }
+    requires received { IsTrue I.tells → MayBeReceived (I.left inbox.old) flight.now.choice.taking }
+    ensures handed { IfOk result (JobIsHanded (kept_by store.old) flight.now) }
     ensures told { IfOk result (IsHandedAs D.tells I.tells O.tells (kept_by store.old) (content_in (D.held disk.old))
-        (I.left inbox.old) (O.standing outbox.old) choice) }
+        (I.left inbox.old) (O.standing outbox.old) flight.now.choice.taking) }
     ensures leaves { LeavesAsRead result D.tells D.held D.moment D.images D.faults I.left I.faults
         O.standing O.puts O.faults store.old store.new disk.old disk.new inbox.old inbox.new outbox.old outbox.new }
 {
-    let Choice { processor, taking } = choice;
-    match taking {
+    match &flight.choice.taking {
         Taking::Files {
             connection,
             numbers,
         } => hand_files(
-            alloc, store, disk, outbox, moment, processor, connection, numbers,
+            alloc,
+            store,
+            disk,
+            outbox,
+            flight,
+            *connection,
+            numbers.as_slice(),
         ),
         Taking::Generate { index } => Ok(without_files(
             alloc,
-            processor,
+            flight,
             Given {
-                moment,
-                index,
+                moment: flight.moment,
+                index: *index,
                 there: false,
                 file: None,
                 bytes: None,
             },
         )),
         Taking::Receive { name } => {
-            let bytes = receive(alloc, inbox, &name)?;
+            let file = name.clone()?;
+            let bytes = receive(alloc, inbox, name)?;
             Ok(without_files(
                 alloc,
-                processor,
+                flight,
                 Given {
-                    moment,
+                    moment: flight.moment,
                     index: 0,
                     there: false,
-                    file: Some(name),
+                    file: Some(file),
                     bytes: Some(bytes),
                 },
             ))
@@ -156,9 +166,10 @@ fn hand<D: Disk, I: Inbox, O: Outbox>(
 }
 
 // The job of a session that takes no files.
-fn without_files(alloc: Global, processor: u16, given: Given) -> Job
+fn without_files(alloc: Global, flight: &InFlight, given: Given) -> Job
     ensures { result ≡ record {
-      processor = processor;
+      session = flight.now.session;
+      processor = flight.now.choice.processor;
       connection = 0;
       numbers = [];
       files = [];
@@ -167,7 +178,8 @@ fn without_files(alloc: Global, processor: u16, given: Given) -> Job
     } }
 {
     Job {
-        processor,
+        session: flight.session,
+        processor: flight.choice.processor,
         connection: 0,
         numbers: Numbers::new(alloc),
         files: FileList::new(alloc),
@@ -195,38 +207,38 @@ fn hand_files<D: Disk, O: Outbox>(
     store: &mut Store,
     disk: &mut D,
     outbox: &mut O,
-    moment: u64,
-    processor: u16,
+    flight: &InFlight,
     connection: u16,
-    numbers: Numbers,
+    numbers: &[u64],
 ) -> Result<Job, EngineError>
     requires work { (flow : TheFlow) × IsAtWork flow D.tells D.held D.moment D.images store.old disk.old }
-    requires taken { MayBeTaken (kept_by store.old) (Files connection numbers) }
-    ensures handed { IfOk result (JobIsHanded (kept_by store.old) moment
-        (record { processor = processor; taking = Files connection numbers })) }
+    requires taking { flight.now.choice.taking ≡ Files connection numbers.now }
+    requires taken { MayBeTaken (kept_by store.old) (Files connection numbers.now) }
+    ensures handed { IfOk result (JobIsHanded (kept_by store.old) flight.now) }
     ensures told { IfOk result (λ job. (in_tells : Bool) (left : List NamedFile)
         → IsHandedAs D.tells in_tells O.tells (kept_by store.old) (content_in (D.held disk.old)) left
-        (O.standing outbox.old) (record { processor = processor; taking = Files connection numbers }) job) }
+        (O.standing outbox.old) (Files connection numbers.now) job) }
     ensures contents { ReadsContents result D.tells D.held D.moment D.images D.faults store.old store.new
         disk.old disk.new }
     ensures outbox { AsksOutbox result O.standing O.puts O.faults outbox.old outbox.new }
     ensures kinds { IfErr result (λ error. (error ≡ EngineError.Disk) ⊎ (error ≡ EngineError.Memory)
         ⊎ (error ≡ EngineError.Outbox) ⊎ ((damage : TheDamage) × (error ≡ EngineError.Damaged damage))) }
 {
-    let files = live_files(alloc, store, numbers.as_slice())?;
+    let files = live_files(alloc, store, numbers)?;
     let contents = read_contents(alloc, store, disk, files.as_slice())?;
     let there = is_there(alloc, outbox, files.as_slice())?;
     let given = Given {
-        moment,
+        moment: flight.moment,
         index: 0,
         there,
         file: None,
         bytes: None,
     };
     Ok(Job {
-        processor,
+        session: flight.session,
+        processor: flight.choice.processor,
         connection,
-        numbers,
+        numbers: Numbers::from_slice(alloc, numbers)?,
         files,
         contents,
         given,

@@ -8,6 +8,7 @@ mod commit;
 mod engine;
 mod error;
 mod expiring;
+mod flight;
 mod handing_out;
 mod journal;
 mod memory;

@@ -1,16 +1,14 @@
 //! How the change of a session becomes part of the outbox, the store and the inbox.
-ghost use Rattle.std.specs.Prelude.{◌≡◌, ◌⊎◌, ◌<◌, true, Some, OnOk, IfErr, IsErrOf, IsTrue, IsSome, IfSome, length, slice_get};
+ghost use Rattle.std.specs.Prelude.{◌≡◌, ◌⊎◌, ℕ, true, List, Some, OnOk, IfErr, IsErrOf, IsTrue, IsSome, IfSome};
 ghost use Rattle.content_repo.specs.Claims.{content_in};
 ghost use Rattle.disk_trait.specs.Faults.{CountsFaults};
-ghost use Rattle.engine_queues.specs.Listing.{first_passed, names_left};
 ghost use Rattle.flowfile_record.specs.NamedFile.{bytes_of};
 ghost use Rattle.kept_state.specs.Fits.{are_active_in};
 ghost use Rattle.machine_model.specs.Changing.{HaveDigests};
 ghost use Rattle.machine_model.specs.declared.flow.Flow.{Flow as TheFlow};
-ghost use Rattle.machine_model.specs.declared.flow.Processor.{Processor as TheProcessor};
 ghost use Rattle.store_core.specs.Change.{HasLiveContents, MayChange};
 ghost use Rattle.store_core.specs.Store.{kept_by};
-ghost use Rattle.engine_session.specs.Change.{names_without, with_sending, without_received};
+ghost use Rattle.engine_session.specs.Change.{with_sending, without_received};
 ghost use Rattle.engine_steps.specs.Committing.{HasWritten, IsLeftBySend, IsAtWorkWithQueues};
 ghost use Rattle.engine_steps.specs.Entering.{MayCommitChange};
 ghost use Rattle.run_law.specs.Work.{WritesLog};
@@ -19,7 +17,7 @@ ghost use Rattle.run_law.specs.Puts.{outgoing};
 use crate::EngineError;
 use crate::memory::holds_its_state;
 use disk_trait::Disk;
-use engine_queues::{Listing, Queues};
+use engine_queues::Queues;
 use engine_session::{Changed, Sending};
 use store_core::Store;
 use world_io::{Inbox, Name, Outbox};
@@ -34,8 +32,8 @@ pub(crate) fn commit<D: Disk, O: Outbox>(
     connection: u16,
     changed: Changed,
 ) -> Result<u64, EngineError>
-    requires work { (flow : TheFlow)
-        × IsAtWorkWithQueues flow D.tells D.held D.moment D.images store.old queues.old disk.old }
+    requires work { (flow : TheFlow) × (out : List ℕ)
+        × IsAtWorkWithQueues flow D.tells D.held D.moment D.images store.old out queues.old disk.old }
     requires change { MayCommitChange D.tells D.held store.old connection changed disk.old }
     ensures written { HasWritten result D.tells D.held D.moment D.images O.tells store.old store.new queues.old
         queues.new changed (outgoing O.standing O.puts outbox.old)
@@ -76,20 +74,9 @@ fn send<O: Outbox>(outbox: &mut O, sending: &Option<Sending>) -> Result<(), Engi
     Ok(())
 }
 
-/// The file that a session received, if any, is no longer to come, and is removed from the inbox.
-pub(crate) fn remove<I: Inbox>(
-    listing: &mut Listing<'_>,
-    inbox: &mut I,
-    processor: u16,
-    received: &Option<Name>,
-) -> Result<(), EngineError>
-    requires processor { processor < length listing.old.flow.processors }
-    requires first { IfSome received.now (λ name. (p : TheProcessor)
-        → slice_get listing.old.flow.processors processor ≡ Some p
-        → first_passed p.kind (names_left listing.old) ≡ Some name) }
+/// Removes the file that a session received, if any, from the inbox.
+pub(crate) fn remove<I: Inbox>(inbox: &mut I, received: &Option<Name>) -> Result<(), EngineError>
     requires left { IfSome received.now (λ name. IsTrue I.tells → IsSome (bytes_of (I.left inbox.old) name)) }
-    ensures names { names_left listing.new ≡ names_without received.now (names_left listing.old) }
-    ensures rest { (listing.new.flow ≡ listing.old.flow) × (listing.new.too_large ≡ listing.old.too_large) }
     ensures removed { OnOk result (IsTrue I.tells
         → I.left inbox.new ≡ without_received received.now (I.left inbox.old)) }
     ensures failed { IfErr result (λ error. (error ≡ EngineError.Inbox) × IsSome received.now
@@ -100,7 +87,6 @@ pub(crate) fn remove<I: Inbox>(
     let Some(name) = received else {
         return Ok(());
     };
-    let _ = listing.take_first(processor);
     let Ok(()) = inbox.remove(name) else {
         return Err(EngineError::Inbox);
     };

@@ -5,13 +5,14 @@ ghost use Rattle.machine_model.specs.declared.flow.Flow.{Flow as TheFlow};
 ghost use Rattle.store_core.specs.Store.{kept_by, live_in};
 ghost use Rattle.engine_steps.specs.Handing.{MayBeReceived, MayBeTaken};
 ghost use Rattle.engine_steps.specs.HandingParts.{AsksInbox, LeavesAsRead, ReadsContents};
-ghost use Rattle.engine_steps.specs.Standing.{HandedStands, IsOfChoice};
+ghost use Rattle.engine_steps.specs.Standing.{HandedStands, IsOfFlight};
 ghost use Rattle.run_law.specs.Work.{IsAtWork};
 
 use crate::EngineError;
+use crate::flight::InFlight;
 use crate::handing_out::is_there;
 use disk_trait::Disk;
-use engine_choice::{Choice, Taking};
+use engine_choice::Taking;
 use engine_session::{Done, are_same_files, live_files};
 use flowfile_record::{ContentRef, FlowFile, Name};
 use machine_model::Given;
@@ -20,7 +21,7 @@ use std::alloc::Global;
 use store_core::{Store, StoreError};
 use world_io::{Inbox, Outbox};
 
-/// Whether the work is that of the choice, and what it was handed stands. It may say no of work that had no contents
+/// Whether the work is that of the session, and what it was handed stands. It may say no of work that had no contents
 /// handed, where together they are too large: then the job has to be read again.
 pub(crate) fn handed_stands<D: Disk, I: Inbox, O: Outbox>(
     alloc: Global,
@@ -28,19 +29,19 @@ pub(crate) fn handed_stands<D: Disk, I: Inbox, O: Outbox>(
     disk: &mut D,
     inbox: &mut I,
     outbox: &mut O,
-    choice: &Choice,
+    flight: &InFlight,
     done: &Done,
 ) -> Result<bool, EngineError>
     requires work { (flow : TheFlow) × IsAtWork flow D.tells D.held D.moment D.images store.old disk.old }
-    requires taken { MayBeTaken (kept_by store.old) choice.now.taking }
-    requires received { IsTrue I.tells → MayBeReceived (I.left inbox.old) choice.now.taking }
+    requires taken { MayBeTaken (kept_by store.old) flight.now.choice.taking }
+    requires received { IsTrue I.tells → MayBeReceived (I.left inbox.old) flight.now.choice.taking }
     ensures stands { IfOk result (λ stands. IsTrue stands
         → HandedStands D.tells O.tells (kept_by store.old) (content_in (D.held disk.old)) (O.standing outbox.old)
-        choice.now done.now) }
+        flight.now done.now) }
     ensures leaves { LeavesAsRead result D.tells D.held D.moment D.images D.faults I.left I.faults
         O.standing O.puts O.faults store.old store.new disk.old disk.new inbox.old inbox.new outbox.old outbox.new }
 {
-    if !is_of_choice(done, choice) {
+    if !is_of_flight(done, flight) {
         return Ok(false);
     }
     let files = live_files(alloc, store, done.numbers())?;
@@ -53,16 +54,18 @@ pub(crate) fn handed_stands<D: Disk, I: Inbox, O: Outbox>(
     if is_there(alloc, outbox, files.as_slice())? != done.given.there {
         return Ok(false);
     }
-    ask_for_received(inbox, &choice.taking)?;
+    ask_for_received(inbox, &flight.choice.taking)?;
     Ok(true)
 }
 
-// Whether the work is that of the choice.
-fn is_of_choice(done: &Done, choice: &Choice) -> bool
-    ensures { IsTrue result → IsOfChoice done.now choice.now }
+// Whether the work is that of the session.
+fn is_of_flight(done: &Done, flight: &InFlight) -> bool
+    ensures { IsTrue result → IsOfFlight done.now flight.now }
 {
-    done.processor == choice.processor
-        && match &choice.taking {
+    done.session == flight.session
+        && done.processor == flight.choice.processor
+        && done.given.moment == flight.moment
+        && match &flight.choice.taking {
             Taking::Files {
                 connection,
                 numbers,

@@ -39,8 +39,8 @@ use Rattle.flow_scheduler.specs.Driving.{IsEnded, RunsInTurn}
 use Rattle.engine_steps.specs.Running.{IsLimited, Stops}
 use Rattle.engine_steps.specs.declared.error.EngineError.{EngineError}
 use Rattle.run_law.specs.Puts.{Outgoing, Start}
-use Rattle.engine_queues.specs.Listing.{names_left}
-use Rattle.engine_steps.specs.declared.error.EngineError.TheVariants.{Damaged, Disk, Inbox, Outbox, Put, Limit, MustReopen, Memory}
+use Rattle.engine_steps.specs.Flights.{names_to_come}
+use Rattle.engine_steps.specs.declared.error.EngineError.TheVariants.{Damaged, Disk, Inbox, Outbox, Put, Limit, MustReopen, NoSession, Memory}
 
 -- ---- the store is closed
 
@@ -137,7 +137,7 @@ module _ {D : Type 0} (tells : Bool) (held : D → Files) (moment : D → ℕ) (
 -- ---- an engine that was opened
 
 pub begun : {D : Type 0} (moment : D → ℕ) (images : D → ℕ → Files → Type 0) (flow : Flow) (s : StoreState) (most checkpoint : ℕ) (e : EngineState) → IsOpened flow s most checkpoint e → (opened : Machine) (first disk : D) (start : Start) (time : ℕ) (left now_left : List NamedFile)
-    (out : Outgoing) → now_left ≡ left → coming_of opened.world ≡ (names_left e.listing)
+    (out : Outgoing) → now_left ≡ left → coming_of opened.world ≡ names_to_come e
     → IsRunningAt flow start time moment images s.lot opened first disk [] opened left out → RunsInTurn moment images e opened first start time disk now_left out
 begun moment images flow s most checkpoint e is opened first disk start time left now_left out left_is coming run = record {
   run = record {
@@ -171,6 +171,7 @@ has_ended tells held moment images e opened first now left out start time Outbox
 has_ended tells held moment images e opened first now left out start time Put next none stops = stops time (omega arith)
 has_ended tells held moment images e opened first now left out start time (Limit limit) next none stops = absurd (none limit refl)
 has_ended tells held moment images e opened first now left out start time MustReopen next none stops = stops time (omega arith)
+has_ended tells held moment images e opened first now left out start time NoSession next none stops = stops time (omega arith)
 has_ended tells held moment images e opened first now left out start time Memory next none stops = stops time (omega arith)
 
 pub no_limit_faults : (error : EngineError) → IsNoLimit error → (limit : TheLimit) → ended_by error ≡ ended.Limit limit → ⊥
@@ -181,17 +182,19 @@ no_limit_faults Outbox none limit is = cc
 no_limit_faults Put none limit is = cc
 no_limit_faults (Limit other) none limit is = none other refl
 no_limit_faults MustReopen none limit is = cc
+no_limit_faults NoSession none limit is = cc
 no_limit_faults Memory none limit is = cc
 
-pub by_disk : (error : EngineError) → (error ≡ MustReopen → ⊥) → ended_by error ≡ ended.Fault fault.Disk → error ≡ Disk
-by_disk (Damaged damage) works is = absurd cc
-by_disk Disk works is = refl
-by_disk Inbox works is = absurd cc
-by_disk Outbox works is = absurd cc
-by_disk Put works is = absurd cc
-by_disk (Limit limit) works is = absurd cc
-by_disk MustReopen works is = absurd (works refl)
-by_disk Memory works is = absurd cc
+pub by_disk : (error : EngineError) → (error ≡ MustReopen → ⊥) → (error ≡ NoSession → ⊥) → ended_by error ≡ ended.Fault fault.Disk → error ≡ Disk
+by_disk (Damaged damage) works known is = absurd cc
+by_disk Disk works known is = refl
+by_disk Inbox works known is = absurd cc
+by_disk Outbox works known is = absurd cc
+by_disk Put works known is = absurd cc
+by_disk (Limit limit) works known is = absurd cc
+by_disk MustReopen works known is = absurd (works refl)
+by_disk NoSession works known is = absurd (known refl)
+by_disk Memory works known is = absurd cc
 
 pub by_inbox : (error : EngineError) → ended_by error ≡ ended.Fault fault.Inbox → error ≡ Inbox
 by_inbox (Damaged damage) is = absurd cc
@@ -201,6 +204,7 @@ by_inbox Outbox is = absurd cc
 by_inbox Put is = absurd cc
 by_inbox (Limit limit) is = absurd cc
 by_inbox MustReopen is = absurd cc
+by_inbox NoSession is = absurd cc
 by_inbox Memory is = absurd cc
 
 pub by_outbox : (error : EngineError) → ended_by error ≡ ended.Fault fault.Outbox → (error ≡ Outbox) ⊎ (error ≡ Put)
@@ -211,6 +215,7 @@ by_outbox Outbox is = inl refl
 by_outbox Put is = inr refl
 by_outbox (Limit limit) is = absurd cc
 by_outbox MustReopen is = absurd cc
+by_outbox NoSession is = absurd cc
 by_outbox Memory is = absurd cc
 
 pub by_damage : (error : EngineError) (damage : TheDamage) → ended_by error ≡ ended.Fault (fault.Damaged damage) → error ≡ Damaged damage
@@ -221,12 +226,13 @@ by_damage Outbox damage is = absurd cc
 by_damage Put damage is = absurd cc
 by_damage (Limit limit) damage is = absurd cc
 by_damage MustReopen damage is = absurd cc
+by_damage NoSession damage is = absurd cc
 by_damage Memory damage is = absurd cc
 
-pub ends_on_faults : {A : Type 0} (result : Result A EngineError) (error : EngineError) (end : Ended) (disk_old disk_new inbox_old inbox_new outbox_old outbox_new : ℕ) → result ≡ Err error → (error ≡ MustReopen → ⊥) → end ≡ ended_by error
+pub ends_on_faults : {A : Type 0} (result : Result A EngineError) (error : EngineError) (end : Ended) (disk_old disk_new inbox_old inbox_new outbox_old outbox_new : ℕ) → result ≡ Err error → (error ≡ MustReopen → ⊥) → (error ≡ NoSession → ⊥) → end ≡ ended_by error
     → CountsEachFault result disk_old disk_new inbox_old inbox_new outbox_old outbox_new → EndsOnFaults end disk_old disk_new inbox_old inbox_new outbox_old outbox_new
-ends_on_faults result error end disk_old disk_new inbox_old inbox_new outbox_old outbox_new was works is counts = record {
-  disk = record { never_falls = counts.disk.never_falls; rose = λ so. counts.disk.rose (was ∙ ap Err (by_disk error works (sym is ∙ so))) };
+ends_on_faults result error end disk_old disk_new inbox_old inbox_new outbox_old outbox_new was works known is counts = record {
+  disk = record { never_falls = counts.disk.never_falls; rose = λ so. counts.disk.rose (was ∙ ap Err (by_disk error works known (sym is ∙ so))) };
   inbox = record { never_falls = counts.inbox.never_falls; rose = λ so. counts.inbox.rose (was ∙ ap Err (by_inbox error (sym is ∙ so))) };
   outbox = record {
     never_falls = counts.outbox.never_falls;
@@ -245,11 +251,6 @@ limit_of result met limit (inr failed) is = absurd cc
 module _ {D : Type 0} (tells : Bool) (held : D → Files) (moment : D → ℕ) (images : D → ℕ → Files → Type 0) where
   abbrev IsMet : (flow : Flow) (most : ℕ) (journal : List Entry) (limit : TheLimit) (s : StoreState) (disk : D) → Type 0
   IsMet flow most journal limit s disk = IsRefused flow tells held moment images limit s disk ⊎ (IsJournalFull limit most journal × IsAtWork flow tells held moment images s disk)
-
-  -- where a limit was met the store works
-  pub works_on : (flow : Flow) (most : ℕ) (journal : List Entry) (limit : TheLimit) (s : StoreState) (disk : D) → IsMet flow most journal limit s disk → IsAtWork flow tells held moment images s disk
-  works_on flow most journal limit s disk (inl refused) = refused.work
-  works_on flow most journal limit s disk (inr full) = full.1
 
   pub limit_met : (flow other : Flow) (lot start most other_most : ℕ) (journal : List Entry) (met limit : TheLimit) (s : StoreState) (old new : D) → met ≡ limit → other ≡ flow → other_most ≡ most → s.lot ≡ lot → start ≤ moment old
       → IsMet other other_most journal met s old → Since moment images old new (After (Frees (live_in s)) (images old (moment old)))

@@ -10,10 +10,10 @@ use Rattle.flow_scheduler.specs.Driving.{GrowsAt}
 use Rattle.engine_steps.specs.Engine.{EngineState}
 use Rattle.engine_steps.specs.Tending.{HasExpired, HasTended}
 use Rattle.engine_steps.specs.declared.commit.Committed.{Committed}
-use Rattle.engine_steps.specs.declared.commit.Committed.TheVariants.{Acked, Changed}
+use Rattle.engine_steps.specs.declared.commit.Committed.TheVariants.{Acked, Changed, Dropped}
 use Rattle.engine_session.specs.declared.done.Done.{Done}
 use Rattle.engine_steps.specs.declared.error.EngineError.{EngineError}
-use Rattle.engine_steps.specs.declared.error.EngineError.TheVariants.{Damaged, Disk, Inbox, Outbox, Put, Limit, MustReopen, Memory}
+use Rattle.engine_steps.specs.declared.error.EngineError.TheVariants.{Damaged, Disk, Inbox, Outbox, Put, Limit, MustReopen, NoSession, Memory}
 use Rattle.engine_steps.specs.declared.tending.Tended.{Tended}
 use Rattle.engine_steps.specs.declared.tending.Tended.TheVariants.{Expired, Checkpointed, Reclaimed, Nothing}
 
@@ -39,6 +39,7 @@ tended_grows (Err Outbox) moment now old new has = inl has.0
 tended_grows (Err Put) moment now old new has = inl has.0
 tended_grows (Err (Limit limit)) moment now old new has = inl has.0
 tended_grows (Err MustReopen) moment now old new has = inl has.0
+tended_grows (Err NoSession) moment now old new has = inl has.0
 tended_grows (Err Memory) moment now old new has = inl has.0
 
 -- what a commit leaves
@@ -48,17 +49,19 @@ module _ (done : Done) (moment now : ℕ) (at : done.given.moment ≡ moment) (o
 
   pub committed_grows : (result : Result Committed EngineError) → IsJournaled result done now old new → GrowsAt moment old.journal new.journal
   committed_grows (Ok (Acked entry acked)) has = with_entry (Some acked) has.2.journal
-  committed_grows (Ok Changed) has = inl has.0
-  committed_grows (Err Disk) (inl none) = inl none.0
+  committed_grows (Ok Changed) has = inl has.0.0
+  committed_grows (Ok Dropped) has = inl has.0.0
+  committed_grows (Err Disk) (inl none) = inl none.0.0
   committed_grows (Err Disk) (inr cut) = with_entry None cut.0
-  committed_grows (Err Inbox) (inl none) = inl none.0
+  committed_grows (Err Inbox) (inl none) = inl none.0.0
   committed_grows (Err Inbox) (inr acked) = with_entry (Some now) acked.journal
-  committed_grows (Err (Damaged damage)) has = inl has.0
-  committed_grows (Err Outbox) has = inl has.0
-  committed_grows (Err Put) has = inl has.0
-  committed_grows (Err (Limit limit)) has = inl has.0
-  committed_grows (Err MustReopen) has = inl has.0
-  committed_grows (Err Memory) has = inl has.0
+  committed_grows (Err (Damaged damage)) has = inl has.0.0
+  committed_grows (Err Outbox) has = inl has.0.0
+  committed_grows (Err Put) has = inl has.0.0
+  committed_grows (Err (Limit limit)) has = inl has.0.0
+  committed_grows (Err MustReopen) has = inl has.0.0
+  committed_grows (Err NoSession) has = inl has.0.0
+  committed_grows (Err Memory) has = inl has.0.0
 
 -- ---- turn after turn
 

@@ -12,11 +12,15 @@ use Rattle.machine_model.specs.Due.{due_expiry}
 use Rattle.machine_model.specs.Files.{queues_of}
 use Rattle.machine_model.specs.State.{Machine}
 use Rattle.machine_model.specs.Stepping.{replay}
-use Rattle.engine_choice.specs.Choice.{coming_of, known_alone, known_of, next_choice}
+use Rattle.machine_model.specs.View.{QueueView}
+use Rattle.engine_choice.specs.Choice.{coming_of, known_alone, known_by, known_of, next_choice}
 use Rattle.engine_choice.specs.Laws.{ChoicesAreSeen, given_for}
 use Rattle.engine_choice.specs.declared.choice.Choice.{Choice}
+use Rattle.engine_queues.specs.Beside.{beside}
+use Rattle.engine_queues.specs.Laws.{SeesTheSame}
 use Rattle.engine_queues.specs.Listing.{names_left}
 use Rattle.engine_queues.specs.Queues.{queue_seen}
+use Rattle.engine_queues.proofs.Besides.{none-is-out}
 use Rattle.store_core.specs.Store.{kept_by}
 use Rattle.engine_session.specs.Done.{IsWorkOn, step_done}
 use Rattle.engine_session.specs.declared.done.Done.{Done}
@@ -26,34 +30,58 @@ use Rattle.run_law.specs.Turns.{ComeInTurn, ComesNext, IsInTurn, IsNextSession}
 use Rattle.engine_steps.specs.Checkout.{session_in}
 use Rattle.engine_steps.specs.Commit.{IsJournaled}
 use Rattle.engine_steps.specs.Engine.{EngineState}
+use Rattle.engine_steps.specs.Flights.{busy_by, given_back, names_to_come, taken_by}
 use Rattle.engine_steps.specs.Handing.{JobIsHanded}
 use Rattle.engine_steps.specs.Ready.{expiry_in}
 use Rattle.engine_steps.specs.Running.{undone_step}
 use Rattle.engine_steps.specs.Showing.{EngineShowsState}
 use Rattle.engine_steps.specs.Tending.{HasExpired, HasTended}
 use Rattle.engine_steps.specs.declared.commit.Committed.{Committed}
-use Rattle.engine_steps.specs.declared.commit.Committed.TheVariants.{Acked, Changed}
+use Rattle.engine_steps.specs.declared.commit.Committed.TheVariants.{Acked, Changed, Dropped}
 use Rattle.engine_steps.specs.declared.error.EngineError.{EngineError}
-use Rattle.engine_steps.specs.declared.error.EngineError.TheVariants.{Damaged, Disk, Inbox, Outbox, Put, Limit, MustReopen, Memory}
+use Rattle.engine_steps.specs.declared.error.EngineError.TheVariants.{Damaged, Disk, Inbox, Outbox, Put, Limit, MustReopen, NoSession, Memory}
+use Rattle.engine_steps.specs.declared.flight.InFlight.{InFlight}
 use Rattle.engine_steps.specs.declared.tending.Tended.{Tended}
 use Rattle.engine_steps.specs.declared.tending.Tended.TheVariants.{Expired, Checkpointed, Reclaimed, Nothing}
 use Rattle.engine_steps.proofs.Due.{chosen_of, nothing_due}
 use Rattle.engine_steps.proofs.Ending.{none_expired}
 
--- ---- a session that was checked out comes next
+-- ---- no session is in flight
 
-module _ (law : ChoicesAreSeen) (e : EngineState) (m : Machine) (moment : ℕ) (choice : Choice) (shown : EngineShowsState e m) (coming : coming_of m.world ≡ names_left e.listing) (session : session_in e moment ≡ Some choice) where
+-- the queues are seen as the machine's
+pub seen_alone : (e : EngineState) (m : Machine) → e.out ≡ [] → EngineShowsState e m → SeesTheSame e.flow (queue_seen e.queues) (queues_of m.state)
+seen_alone e m none shown =
+    subst (λ (views : ℕ → QueueView). SeesTheSame e.flow (queue_seen e.queues) views)
+    (ap (λ (out : List InFlight). beside (taken_by out) (queues_of m.state)) none ∙ none-is-out (queues_of m.state)) shown.seen
+
+-- the names that are to come are those that are left
+pub left_alone : (e : EngineState) → e.out ≡ [] → names_to_come e ≡ names_left e.listing
+left_alone e none = ap (λ (out : List InFlight). names_left (given_back out e.listing)) none
+
+-- ---- a session that was checked out alone comes next
+
+module _ (law : ChoicesAreSeen) (e : EngineState) (m : Machine) (flight : InFlight) (none : e.out ≡ []) (shown : EngineShowsState e m) (coming : coming_of m.world ≡ names_to_come e) (session : session_in e flight.moment ≡ Some flight.choice) where
+  abbrev moment : ℕ
+  moment = flight.moment
+
+  abbrev choice : Choice
+  choice = flight.choice
+
+  abbrev seen : SeesTheSame e.flow (queue_seen e.queues) (queues_of m.state)
+  seen = seen_alone e m none shown
+
   none_due : due_expiry e.flow (queues_of m.state) moment ≡ None
-  none_due = sym (shown.seen.expiry moment) ∙ none_expired e moment (nothing_due e moment choice session)
+  none_due = sym (seen.expiry moment) ∙ none_expired e moment (nothing_due e moment choice session)
 
   chosen : next_choice e.flow (known_of m.state m.world moment) e.last ≡ Some choice
   chosen =
-      sym (law e.flow (known_alone (queue_seen e.queues) m.state.counts (coming_of m.world) moment) (queues_of m.state) e.last shown.seen)
+      sym (law e.flow (known_alone (queue_seen e.queues) m.state.counts (coming_of m.world) moment) (queues_of m.state) e.last seen)
       ∙ ap (λ (made : List ℕ). next_choice e.flow (known_alone (queue_seen e.queues) made (coming_of m.world) moment) e.last) (sym shown.counts)
-      ∙ ap (λ (names : List (List ℕ)). next_choice e.flow (known_alone (queue_seen e.queues) (kept_by e.store).counts names moment) e.last) coming
+      ∙ ap (λ (names : List (List ℕ)). next_choice e.flow (known_alone (queue_seen e.queues) (kept_by e.store).counts names moment) e.last) (coming ∙ left_alone e none)
+      ∙ sym (ap (λ (out : List InFlight). next_choice e.flow (known_by e.queues (kept_by e.store).counts (busy_by e.flow out) e.listing moment) e.last) none)
       ∙ chosen_of e moment choice session
 
-  module _ (job : Job) (done : Done) (handed : JobIsHanded (kept_by e.store) moment choice job) (work : IsWorkOn e.flow (kept_by e.store).store job done) (at : done.given.moment ≡ moment) where
+  module _ (job : Job) (done : Done) (handed : JobIsHanded (kept_by e.store) flight job) (work : IsWorkOn e.flow (kept_by e.store).store job done) (at : done.given.moment ≡ moment) where
     there_is : job.given.there ≡ done.given.there
     there_is = sym (ap (λ (g : Given). g.there) work.given.but_bytes)
 
@@ -104,26 +132,29 @@ module _ (flow : Flow) (since until : ℕ) (opened : Machine) where
 
     pub committed_by : (result : Result Committed EngineError) → IsJournaled result done now old new → GrowsBy (step_done done) old.journal new.journal
     committed_by (Ok (Acked entry acked)) has = entered (Some acked) has.2.journal
-    committed_by (Ok Changed) has = inl has.0
-    committed_by (Err Disk) (inl none) = inl none.0
+    committed_by (Ok Changed) has = inl has.0.0
+    committed_by (Ok Dropped) has = inl has.0.0
+    committed_by (Err Disk) (inl none) = inl none.0.0
     committed_by (Err Disk) (inr cut) = entered None cut.0
-    committed_by (Err Inbox) (inl none) = inl none.0
+    committed_by (Err Inbox) (inl none) = inl none.0.0
     committed_by (Err Inbox) (inr acked) = entered (Some now) acked.journal
-    committed_by (Err (Damaged damage)) has = inl has.0
-    committed_by (Err Outbox) has = inl has.0
-    committed_by (Err Put) has = inl has.0
-    committed_by (Err (Limit limit)) has = inl has.0
-    committed_by (Err MustReopen) has = inl has.0
-    committed_by (Err Memory) has = inl has.0
+    committed_by (Err (Damaged damage)) has = inl has.0.0
+    committed_by (Err Outbox) has = inl has.0.0
+    committed_by (Err Put) has = inl has.0.0
+    committed_by (Err (Limit limit)) has = inl has.0.0
+    committed_by (Err MustReopen) has = inl has.0.0
+    committed_by (Err NoSession) has = inl has.0.0
+    committed_by (Err Memory) has = inl has.0.0
 
     stopped_by : (error : EngineError) → IsJournaled (Err error) done now old new → IfSome (undone_step error (Some (step_done done))) (λ one. InTurn (steps new.journal ++ one ∷ []))
-    stopped_by Put has = turned_behind (step_done done) old.journal new.journal has.0 turned
-    stopped_by (Limit limit) has = turned_behind (step_done done) old.journal new.journal has.0 turned
+    stopped_by Put has = turned_behind (step_done done) old.journal new.journal has.0.0 turned
+    stopped_by (Limit limit) has = turned_behind (step_done done) old.journal new.journal has.0.0 turned
     stopped_by Disk has = tt
     stopped_by Inbox has = tt
     stopped_by (Damaged damage) has = tt
     stopped_by Outbox has = tt
     stopped_by MustReopen has = tt
+    stopped_by NoSession has = tt
     stopped_by Memory has = tt
 
     pub commit_stops : InTurn (steps old.journal) → (error : EngineError) → IsJournaled (Err error) done now old new → IsInTurn flow since until opened new.journal (undone_step error (Some (step_done done)))
@@ -155,6 +186,7 @@ module _ (flow : Flow) (since until : ℕ) (opened : Machine) where
     tended_turns (Err Put) has = stays has.0
     tended_turns (Err (Limit limit)) has = stays has.0
     tended_turns (Err MustReopen) has = stays has.0
+    tended_turns (Err NoSession) has = stays has.0
     tended_turns (Err Memory) has = stays has.0
 
     behind_due : new.journal ≡ old.journal → (due : Option (ℕ × List ℕ)) → due_expiry old.flow (queue_seen old.queues) moment ≡ due
@@ -170,17 +202,18 @@ module _ (flow : Flow) (since until : ℕ) (opened : Machine) where
     tend_stopped (Damaged damage) has = tt
     tend_stopped Outbox has = tt
     tend_stopped MustReopen has = tt
+    tend_stopped NoSession has = tt
     tend_stopped Memory has = tt
 
     pub tend_stops : (error : EngineError) → HasTended (Err error) moment now old new → IsInTurn flow since until opened new.journal (undone_step error (expiry_in old moment))
     tend_stops error has = record { made = tended_turns (Err error) has; stopped = tend_stopped error has }
 
 -- files that have expired come next
-pub expiry_turns : NextStepsComeInTurn → (e : EngineState) (m opened : Machine) (since time moment : ℕ) → EngineShowsState e m → time ≤ moment → ComeInTurn e.flow None since time opened (steps e.journal)
+pub expiry_turns : NextStepsComeInTurn → (e : EngineState) (m opened : Machine) (since time moment : ℕ) → e.out ≡ [] → EngineShowsState e m → time ≤ moment → ComeInTurn e.flow None since time opened (steps e.journal)
     → replay e.flow opened (steps e.journal) ≡ Some m → (connection : ℕ) (numbers : List ℕ) → due_expiry e.flow (queue_seen e.queues) moment ≡ Some (connection, numbers)
     → ComeInTurn e.flow None since moment opened (steps e.journal ++ Expire connection numbers moment ∷ [])
-expiry_turns law e m opened since time moment shown le turns replays connection numbers due =
-    law e.flow since time moment opened m (steps e.journal) (Expire connection numbers moment) turns replays le (omega arith) (sym (shown.seen.expiry moment) ∙ due)
+expiry_turns law e m opened since time moment none shown le turns replays connection numbers due =
+    law e.flow since time moment opened m (steps e.journal) (Expire connection numbers moment) turns replays le (omega arith) (sym ((seen_alone e m none shown).expiry moment) ∙ due)
 
 -- ---- an engine of the same flow
 

@@ -22,9 +22,9 @@ use Rattle.engine_steps.specs.Errors.{ended_by}
 use Rattle.engine_steps.specs.Running.{IsRunningTo}
 use Rattle.engine_steps.specs.declared.close.Closed.{Closed}
 use Rattle.engine_steps.specs.declared.error.EngineError.{EngineError}
-use Rattle.engine_steps.specs.declared.error.EngineError.TheVariants.{Damaged, Disk, Inbox, Outbox, Put, Limit, MustReopen, Memory}
+use Rattle.engine_steps.specs.declared.error.EngineError.TheVariants.{Damaged, Disk, Inbox, Outbox, Put, Limit, MustReopen, NoSession, Memory}
 use Rattle.flow_scheduler.proofs.Closing.{IsNoLimit}
-use Rattle.engine_queues.specs.Listing.{names_left}
+use Rattle.engine_steps.specs.Flights.{names_to_come}
 use Rattle.flow_scheduler.proofs.Counted.{all_counted}
 
 -- ---- where it is closed
@@ -49,6 +49,7 @@ no_limit_is_fault Outbox none = tt
 no_limit_is_fault Put none = tt
 no_limit_is_fault (Limit limit) none = absurd (none limit refl)
 no_limit_is_fault MustReopen none = tt
+no_limit_is_fault NoSession none = tt
 no_limit_is_fault Memory none = tt
 
 pub fails_to_run : (o : Option Closed) (r : Ended) (error : EngineError) → o ≡ None → r ≡ ended_by error → IsNoLimit error → ClosesUnlessFailed o r
@@ -75,7 +76,7 @@ one_end flow other opened one two journal same first second =
 shown : {D : Type 0} (tells : Bool) (held : D → Files) (moment : D → ℕ) (images : D → ℕ → Files → Type 0) (e : EngineState) (old new : D) (reached : Machine) (result : Result Closed EngineError)
     → IfOk result (EngineIsClosed tells held moment images e new)
     → IfOk result (λ closed. IsTrue tells → (m : Machine) → InEach (images old (moment old)) (StandsFor e.flow e.store.lot m) → ShowsState e.flow m closed)
-    → IsTrue tells → InEach (images old (moment old)) (StandsFor e.flow e.store.lot reached) → length reached.world.left ≡ length (names_left e.listing) + e.listing.too_large
+    → IsTrue tells → InEach (images old (moment old)) (StandsFor e.flow e.store.lot reached) → length reached.world.left ≡ length (names_to_come e) + e.listing.too_large
     → IfSome (result_ok result) (Shows e.flow reached)
 shown tells held moment images e old new reached (Ok closed) is shows telling stands counted = record { state = shows telling reached stands; left = is.left ∙ sym counted }
 shown tells held moment images e old new reached (Err error) is shows telling stands counted = tt
@@ -83,15 +84,15 @@ shown tells held moment images e old new reached (Err error) is shows telling st
 -- the store of a run that leads to this machine was closed
 pub run_shows : StepsLoseNames → {D : Type 0} (tells : Bool) (held : D → Files) (moment : D → ℕ) (images : D → ℕ → Files → Type 0) (flow : Flow) (e0 e : EngineState) (state : State) (left now_left : List NamedFile)
     (standing : List ℕ → Option (List ℕ)) (now_out : Outgoing) (first old new : D) (start : Start) (time : ℕ) (reached m : Machine) (result : Result Closed EngineError) (o : Option Closed) → e.flow ≡ flow → e.listing.too_large ≡ e0.listing.too_large
-    → coming_of (machine_at state left standing).world ≡ (names_left e0.listing) → length left ≡ length (names_left e0.listing) + e0.listing.too_large
+    → coming_of (machine_at state left standing).world ≡ (names_to_come e0) → length left ≡ length (names_to_come e0) + e0.listing.too_large
     → IsRunningTo moment images e (machine_at state left standing) first start time old now_left now_out reached
     → replay flow (machine_at state left standing) (steps e.journal) ≡ Some m → o ≡ result_ok result → IfOk result (EngineIsClosed tells held moment images e new)
     → IfOk result (λ closed. IsTrue tells → (m : Machine) → InEach (images old (moment old)) (StandsFor e.flow e.store.lot m) → ShowsState e.flow m closed) → IsTrue tells → IfSome o (Shows flow m)
 run_shows law tells held moment images flow e0 e state left now_left standing now_out first old new start time reached m result o flow_is large_is coming counted to ends is closed shows telling =
-    let all : length reached.world.left ≡ length (names_left e.listing) + e0.listing.too_large
-    = all_counted law e.flow state left standing (steps e.journal) reached (names_left e0.listing) (names_left e.listing) e0.listing.too_large to.run.ran.replays coming counted to.coming in
+    let all : length reached.world.left ≡ length (names_to_come e) + e0.listing.too_large
+    = all_counted law e.flow state left standing (steps e.journal) reached (names_to_come e0) (names_to_come e) e0.listing.too_large to.run.ran.replays coming counted to.coming in
     let same : reached ≡ m = one_end flow e.flow (machine_at state left standing) reached m (steps e.journal) flow_is to.run.ran.replays ends in
     subst (λ (x : Option Closed). IfSome x (Shows flow m)) (sym is)
     (subst (λ (f : Flow). IfSome (result_ok result) (Shows f m)) flow_is
     (subst (λ (x : Machine). IfSome (result_ok result) (Shows e.flow x)) same
-    (shown tells held moment images e old new reached result closed shows telling to.run.holds (all ∙ ap (λ (n : ℕ). length (names_left e.listing) + n) (sym large_is)))))
+    (shown tells held moment images e old new reached result closed shows telling to.run.holds (all ∙ ap (λ (n : ℕ). length (names_to_come e) + n) (sym large_is)))))

@@ -9,20 +9,24 @@ use Rattle.machine_model.specs.declared.given.Given.{Given}
 use Rattle.machine_model.specs.State.{Machine}
 use Rattle.processor_api.specs.Acts.{KeepsGiven}
 use Rattle.engine_choice.specs.Laws.{given_for}
-use Rattle.engine_choice.specs.declared.choice.Choice.{Choice}
 use Rattle.engine_choice.specs.declared.choice.Taking.{Taking}
 use Rattle.engine_choice.specs.declared.choice.Taking.TheVariants as taking
 use Rattle.run_law.specs.Ending.{journal_full}
 use Rattle.run_law.specs.Laws.{SparedRunsGoOn}
 use Rattle.run_law.proofs.Turns.{since_start}
 use Rattle.machine_model.specs.Acknowledged.{steps}
-use Rattle.engine_steps.specs.Engine.{EngineState, IsOfSameRun}
+use Rattle.engine_queues.specs.Listing.{names_left}
+use Rattle.engine_steps.specs.Engine.{AreTakeable, EngineState, IsOfSameRun}
 use Rattle.engine_steps.specs.Errors.{CountsEachFault, OnlyReads, Reopens}
+use Rattle.engine_steps.specs.Flights.{given_back, names_to_come}
 use Rattle.engine_steps.specs.Handing.{JobIsHanded}
+use Rattle.engine_steps.specs.Ready.{EngineIsReady}
 use Rattle.engine_steps.specs.Running.{IsLimited, IsRunning}
+use Rattle.engine_steps.specs.declared.flight.InFlight.{InFlight}
 use Rattle.engine_steps.specs.declared.error.EngineError.{EngineError}
-use Rattle.engine_steps.specs.declared.error.EngineError.TheVariants.{Damaged, Disk, Inbox, Outbox, Put, Limit, MustReopen, Memory}
+use Rattle.engine_steps.specs.declared.error.EngineError.TheVariants.{Damaged, Disk, Inbox, Outbox, Put, Limit, MustReopen, NoSession, Memory}
 use Rattle.engine_session.specs.declared.job.Job.{Job}
+use Rattle.flow_scheduler.specs.Driving.{MayTurn}
 use Rattle.engine_steps.proofs.Choosing.{HasStep}
 use Rattle.engine_steps.proofs.Goes.{IsNoLimit}
 use Rattle.engine_steps.proofs.RunsOn.{spared_by_none}
@@ -55,6 +59,18 @@ still_works answer e f old new works reopen = not_so f.failed (λ fails. of (reo
     of (inl before) = true≢false (sym before ∙ works)
     of (inr (inl disk)) = cc
     of (inr (inr put)) = cc
+
+-- the names that are to come are those that were, where nothing was taken or given back
+same_names : (e f : EngineState) → f.listing ≡ e.listing → f.out ≡ e.out → names_to_come f ≡ names_to_come e
+same_names e f listing out = λ i. names_left (given_back (out i) (listing i))
+
+-- so another turn may follow
+pub may_turn : {D : Type 0} (tells : Bool) (held : D → Files) (moment : D → ℕ) (images : D → ℕ → Files → Type 0) (in_tells : Bool) (left : List NamedFile) (e f : EngineState) (old new : D)
+    → MayTurn tells held moment images in_tells left e old → f.listing ≡ e.listing → f.out ≡ e.out → EngineIsReady tells held moment images f new → f.failed ≡ false → MayTurn tells held moment images in_tells left f new
+may_turn tells held moment images in_tells left e f old new may listing out ready works = record {
+  may = record { ready = ready; works = works; left = λ telling. subst (AreTakeable left) (sym (same_names e f listing out)) (may.may.left telling) };
+  none = out ∙ may.none;
+}
 
 -- ---- faults are counted
 
@@ -124,29 +140,39 @@ moment_given moment there (taking.Files connection numbers) = refl
 moment_given moment there (taking.Generate index) = refl
 moment_given moment there (taking.Receive name) = refl
 
--- the work on a session's job is of the moment at which it came next
-pub moment_of_work : (k : Kept) (moment : ℕ) (choice : Choice) (job : Job) (given : Given) → JobIsHanded k moment choice job → KeepsGiven job.given given → given.moment ≡ moment
-moment_of_work k moment choice job given handed kept =
-    ap (λ (g : Given). g.moment) kept.but_bytes ∙ ap (λ (g : Given). g.moment) handed.given ∙ moment_given moment job.given.there choice.taking
+-- the work on a session's job is of the moment at which it was checked out
+pub moment_of_work : (k : Kept) (flight : InFlight) (job : Job) (given : Given) → JobIsHanded k flight job → KeepsGiven job.given given → given.moment ≡ flight.moment
+moment_of_work k flight job given handed kept =
+    ap (λ (g : Given). g.moment) kept.but_bytes ∙ ap (λ (g : Given). g.moment) handed.given ∙ moment_given flight.moment job.given.there flight.choice.taking
 
 -- ---- a read that failed
+
+-- it is as it was, or has failed
+read_is : {A : Type 0} (result : Result A EngineError) (e f : EngineState) → OnlyReads result e f → (error : EngineError) → IsErrOf result error
+    → (f ≡ e) ⊎ (f ≡ record e { store = record e.store { failed = true }; failed = true })
+read_is result e f reads Disk is = inr (reads.failed is)
+read_is result e f reads (Damaged damage) is = inl (reads.unchanged (λ disk. cc))
+read_is result e f reads Inbox is = inl (reads.unchanged (λ disk. cc))
+read_is result e f reads Outbox is = inl (reads.unchanged (λ disk. cc))
+read_is result e f reads Put is = inl (reads.unchanged (λ disk. cc))
+read_is result e f reads (Limit limit) is = inl (reads.unchanged (λ disk. cc))
+read_is result e f reads MustReopen is = inl (reads.unchanged (λ disk. cc))
+read_is result e f reads NoSession is = inl (reads.unchanged (λ disk. cc))
+read_is result e f reads Memory is = inl (reads.unchanged (λ disk. cc))
 
 -- the run's parts of an engine are as they were
 abbrev pub IsSameRunIn : (e f : EngineState) → Type 0
 IsSameRunIn e f = (f.flow ≡ e.flow) × (f.store.lot ≡ e.store.lot) × (f.journal ≡ e.journal)
 
-pub read_same : {A : Type 0} (result : Result A EngineError) (e f : EngineState) → OnlyReads result e f → (error : EngineError) → IsErrOf result error → IsSameRunIn e f
-read_same {A} result e f reads error is = of error is
-  where
-    parts : f ≡ e → IsSameRunIn e f
-    parts same = (ap (λ (x : EngineState). x.flow) same, ap (λ (x : EngineState). x.store.lot) same, ap (λ (x : EngineState). x.journal) same)
+-- .. as in one that is the same, but for whether it has failed
+as_it : (P : EngineState → Type 0) (e f : EngineState) → P e → P (record e { store = record e.store { failed = true }; failed = true }) → (f ≡ e) ⊎ (f ≡ record e { store = record e.store { failed = true }; failed = true }) → P f
+as_it P e f was failed (inl same) = subst P (sym same) was
+as_it P e f was failed (inr same) = subst P (sym same) failed
 
-    of : (error : EngineError) → IsErrOf result error → IsSameRunIn e f
-    of Disk is = let same = reads.failed is in (ap (λ (x : EngineState). x.flow) same, ap (λ (x : EngineState). x.store.lot) same, ap (λ (x : EngineState). x.journal) same)
-    of (Damaged damage) is = parts (reads.unchanged (λ disk. cc))
-    of Inbox is = parts (reads.unchanged (λ disk. cc))
-    of Outbox is = parts (reads.unchanged (λ disk. cc))
-    of Put is = parts (reads.unchanged (λ disk. cc))
-    of (Limit limit) is = parts (reads.unchanged (λ disk. cc))
-    of MustReopen is = parts (reads.unchanged (λ disk. cc))
-    of Memory is = parts (reads.unchanged (λ disk. cc))
+pub read_same : {A : Type 0} (result : Result A EngineError) (e f : EngineState) → OnlyReads result e f → (error : EngineError) → IsErrOf result error → IsSameRunIn e f
+read_same result e f reads error is = as_it (λ (x : EngineState). IsSameRunIn e x) e f (refl, refl, refl) (refl, refl, refl) (read_is result e f reads error is)
+
+pub read_run : {A : Type 0} (result : Result A EngineError) (e f : EngineState) → OnlyReads result e f → (error : EngineError) → IsErrOf result error → IsOfSameRun e f
+read_run result e f reads error is =
+    as_it (λ (x : EngineState). IsOfSameRun e x) e f (record { flow = refl; most = refl; checkpoint = refl; too_large = refl; lot = refl; id = refl })
+    (record { flow = refl; most = refl; checkpoint = refl; too_large = refl; lot = refl; id = refl }) (read_is result e f reads error is)

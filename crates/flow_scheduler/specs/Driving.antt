@@ -9,30 +9,53 @@ use Rattle.machine_model.specs.State.{Machine}
 use Rattle.engine_choice.specs.Laws.{IsEndAt}
 use Rattle.engine_choice.specs.declared.choice.Ending.{Ending}
 use Rattle.engine_choice.specs.declared.choice.Ending.TheVariants.{Rest}
+use Rattle.flowfile_wal.specs.Calls.{InEach}
 use Rattle.run_law.specs.Puts.{Outgoing, Start}
+use Rattle.run_law.specs.Run.{StandsFor}
 use Rattle.run_law.specs.Turns.{AreMadeAt, ComeInTurn, IsInTurn, step_moment}
 use Rattle.run_law.specs.Work.{WritesLog}
+use Rattle.engine_steps.specs.Checkout.{HasCheckedOut}
 use Rattle.engine_steps.specs.Engine.{EngineState, IsOfSameRun}
 use Rattle.engine_steps.specs.Errors.{HasCause}
 use Rattle.engine_steps.specs.Leaving.{MayGoOn}
+use Rattle.engine_steps.specs.Ready.{IsUsable}
 use Rattle.engine_steps.specs.Running.{IsRunning, IsRunningTo, Stops}
+use Rattle.engine_steps.specs.Showing.{EngineShowsState}
 use Rattle.engine_steps.specs.declared.error.EngineError.{EngineError}
-use Rattle.engine_steps.specs.declared.error.EngineError.TheVariants.{Disk, MustReopen, Put}
+use Rattle.engine_steps.specs.declared.error.EngineError.TheVariants.{Disk, MustReopen, NoSession, Put}
 
 -- ---- whatever the devices tell
 
+-- the engine may go on, and no session is in flight
+pub record MayTurn {D : Type 0} (tells : Bool) (held : D → Files) (moment : D → ℕ) (images : D → ℕ → Files → Type 0)
+    (in_tells : Bool) (files : List NamedFile) (e : EngineState) (disk : D) : Type 0 where
+  pub may : MayGoOn tells held moment images in_tells files e disk
+  pub none : e.out ≡ []
+
 -- What a call leaves. Where it went well, another may follow. The engine has failed only where the disk or a put did, as
--- is answered. The run's constants stay, only what a run writes was written, and each limit and each damage has
--- its cause.
+-- is answered, and is ready else. The run's constants stay, only what a run writes was written, and each limit and each
+-- damage has its cause.
 pub record LeavesRun {D A : Type 0} (result : Result A EngineError) (tells : Bool) (held : D → Files) (moment : D → ℕ)
     (images : D → ℕ → Files → Type 0) (in_tells : Bool) (left : List NamedFile) (e_old e_new : EngineState)
     (old new : D) : Type 0 where
-  pub may : OnOk result (MayGoOn tells held moment images in_tells left e_new new)
+  pub may : OnOk result (MayTurn tells held moment images in_tells left e_new new)
+  pub usable : IsUsable tells held moment images e_new new
   pub failed : e_new.failed ≡ true → IsErrOf result Disk ⊎ IsErrOf result Put
   pub works : IsErrOf result MustReopen → ⊥
+  pub known : IsErrOf result NoSession → ⊥
   pub same : IsOfSameRun e_old e_new
   pub alone : WritesLog moment images e_old.store.log.number old new
   pub why : HasCause result e_old.flow tells held moment images e_old.most e_new.journal e_new.store new
+
+-- The session was checked out as the only one in flight, of an engine that showed each machine's state that the disk
+-- stands for.
+pub record IsOnlySession {D : Type 0} (tells : Bool) (moment_of : D → ℕ) (images : D → ℕ → Files → Type 0)
+    (moment session : ℕ) (e : EngineState) (disk : D) : Type 0 where
+  pub before : EngineState
+  pub none : before.out ≡ []
+  pub checked_out : HasCheckedOut moment session before e
+  pub shows : IsTrue tells → (m : Machine)
+      → InEach (images disk (moment_of disk)) (StandsFor before.flow before.store.lot m) → EngineShowsState before m
 
 -- a turn's journal has one entry more at most, of a step that was made at this moment
 abbrev pub GrowsAt : (moment : ℕ) → (old new : List Entry) → Type 0

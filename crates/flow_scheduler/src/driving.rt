@@ -1,18 +1,15 @@
 //! An engine goes on until nothing is left to do.
 ghost use Rattle.std.specs.Prelude.{◌≡◌, ℕ, None, Some, IfOk, OnOk};
 ghost use Rattle.engine_choice.specs.declared.choice.Ending.{Ending as TheEnding};
-ghost use Rattle.engine_steps.specs.Checkout.{session_in};
 ghost use Rattle.engine_steps.specs.Errors.{CountsEachFault};
 ghost use Rattle.engine_steps.specs.Leaving.{MayGoOn};
 ghost use Rattle.engine_steps.specs.Ready.{due_in};
-ghost use Rattle.flow_scheduler.specs.Driving.{DrivesRun, GrowsAt, IsEnded, IsTurned, KeepsTime, LeavesRun, RunsInTurn};
+ghost use Rattle.flow_scheduler.specs.Driving.{DrivesRun, GrowsAt, IsEnded, IsOnlySession, IsTurned, KeepsTime, LeavesRun, MayTurn, RunsInTurn};
 ghost use Rattle.run_law.specs.Puts.{outgoing};
 ghost use Rattle.run_law.specs.Work.{IsNoEarlier, IsShortOn};
 
 use disk_trait::Disk;
-use engine_choice::{
-    Choice, Ending, choices_are_seen, choices_are_sessions, ends_are_machine_ends,
-};
+use engine_choice::{Ending, choices_are_seen, choices_are_sessions, ends_are_machine_ends};
 use engine_session::{sessions_are_steps, work};
 use engine_steps::{Checkout, Engine, EngineError, Tended};
 use run_law::{faults_end_a_run, run_goes_on, turns_go_on};
@@ -30,7 +27,7 @@ pub(crate) fn drive<D: Disk, I: Inbox, O: Outbox, C: Clock, G: Gate>(
     clock: &mut C,
     gate: &G,
 ) -> Result<Ending, EngineError>
-    requires may { MayGoOn D.tells D.held D.moment D.images I.tells (I.left inbox.old) engine.old disk.old }
+    requires may { MayTurn D.tells D.held D.moment D.images I.tells (I.left inbox.old) engine.old disk.old }
     // The run went on until nothing was left to do, or it was stopped.
     ensures run { DrivesRun result IsEnded D.tells I.tells O.tells D.held D.moment D.images engine.old engine.new
         (C.time clock.old) (C.time clock.new) disk.old disk.new (I.left inbox.old) (I.left inbox.new)
@@ -71,7 +68,7 @@ fn turn<D: Disk, I: Inbox, O: Outbox, G: Gate>(
     moment: u64,
     gate: &G,
 ) -> Result<Option<Ending>, EngineError>
-    requires may { MayGoOn D.tells D.held D.moment D.images I.tells (I.left inbox.old) engine.old disk.old }
+    requires may { MayTurn D.tells D.held D.moment D.images I.tells (I.left inbox.old) engine.old disk.old }
     ensures run { DrivesRun result IsTurned D.tells I.tells O.tells D.held D.moment D.images engine.old engine.new
         moment moment disk.old disk.new (I.left inbox.old) (I.left inbox.new)
         (outgoing O.standing O.puts outbox.old) (outgoing O.standing O.puts outbox.new) }
@@ -102,7 +99,7 @@ fn go_on<D: Disk, I: Inbox, O: Outbox, G: Gate>(
     moment: u64,
     gate: &G,
 ) -> Result<Option<Ending>, EngineError>
-    requires may { MayGoOn D.tells D.held D.moment D.images I.tells (I.left inbox.old) engine.old disk.old }
+    requires may { MayTurn D.tells D.held D.moment D.images I.tells (I.left inbox.old) engine.old disk.old }
     requires tended { due_in engine.old moment ≡ None }
     requires short { IsShortOn D.moment D.images engine.old.checkpoint disk.old }
     ensures run { DrivesRun result IsTurned D.tells I.tells O.tells D.held D.moment D.images engine.old engine.new
@@ -128,10 +125,12 @@ fn go_on<D: Disk, I: Inbox, O: Outbox, G: Gate>(
     match engine.checkout(alloc, moment)? {
         // All that is due was tended before.
         Checkout::Due => unreachable!(),
-        Checkout::Session(choice) => {
-            run_session(engine, alloc, disk, inbox, outbox, moment, choice, gate)?;
+        Checkout::Session(session) => {
+            run_session(engine, alloc, disk, inbox, outbox, moment, session, gate)?;
             Ok(None)
         }
+        // No session is in flight between two turns.
+        Checkout::Wait { .. } => unreachable!(),
         Checkout::Limit(limit) => Err(EngineError::Limit(limit)),
         Checkout::Rest { until } => Ok(Some(Ending::Rest { until })),
         Checkout::Blocked(connection) => Ok(Some(Ending::Blocked(connection))),
@@ -139,8 +138,8 @@ fn go_on<D: Disk, I: Inbox, O: Outbox, G: Gate>(
     }
 }
 
-// Runs the session that comes next: its job is read, worked on and committed. Where the job has changed, nothing is
-// done. Its number at the gate is how many entries the journal has before its own.
+// Runs a session that was checked out as the only one in flight: its job is read, worked on and committed. Where the
+// job has changed, the session has ended, and nothing is done.
 fn run_session<D: Disk, I: Inbox, O: Outbox, G: Gate>(
     engine: &mut Engine<'_>,
     alloc: Global,
@@ -148,11 +147,11 @@ fn run_session<D: Disk, I: Inbox, O: Outbox, G: Gate>(
     inbox: &mut I,
     outbox: &mut O,
     moment: u64,
-    choice: Choice,
+    session: u64,
     gate: &G,
 ) -> Result<(), EngineError>
     requires may { MayGoOn D.tells D.held D.moment D.images I.tells (I.left inbox.old) engine.old disk.old }
-    requires chosen { session_in engine.old moment ≡ Some choice }
+    requires chosen { IsOnlySession D.tells D.moment D.images moment session engine.old disk.old }
     ensures run { DrivesRun result (λ done. RunsInTurn) D.tells I.tells O.tells D.held D.moment D.images
         engine.old engine.new moment moment disk.old disk.new (I.left inbox.old) (I.left inbox.new)
         (outgoing O.standing O.puts outbox.old) (outgoing O.standing O.puts outbox.new) }
@@ -163,14 +162,12 @@ fn run_session<D: Disk, I: Inbox, O: Outbox, G: Gate>(
     ensures cause { CountsEachFault result (D.faults disk.old) (D.faults disk.new)
         (I.faults inbox.old) (I.faults inbox.new) (O.faults outbox.old) (O.faults outbox.new) }
 {
-    engine.shows_its_state(disk);
     choices_are_seen();
     turns_go_on();
     run_goes_on::<D>();
     faults_end_a_run::<D>();
-    let job = engine.read(alloc, disk, inbox, outbox, moment, choice)?;
-    let session = engine.journal().len() as u64;
-    let done = work(alloc, engine.flow(), engine.store_id(), job, session, gate)?;
+    let job = engine.read(alloc, disk, inbox, outbox, session)?;
+    let done = work(alloc, engine.flow(), engine.store_id(), job, gate)?;
     engine.commit(alloc, disk, inbox, outbox, done)?;
     Ok(())
 }

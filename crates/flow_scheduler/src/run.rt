@@ -33,9 +33,8 @@ pub struct Ran {
 
 /// Runs a flow over a store of it that was opened: session after session until nothing is left to do, all of it is
 /// held back by full connections, or the journal has `most` entries. Then the store is closed. Where the log has
-/// `checkpoint` entries, a new one begins behind a snapshot. Each session's processor works inside the gate, under a
-/// number: how many entries the journal has before the session's own. It tells how the run ended; after a fault the
-/// store isn't closed, and is to be opened anew.
+/// `checkpoint` entries, a new one begins behind a snapshot. Each session's processor works inside the gate, under the
+/// session's number. It tells how the run ended; after a fault the store isn't closed, and is to be opened anew.
 pub fn run_flow<D: Disk, I: Inbox, O: Outbox, C: Clock, G: Gate>(
     alloc: Global,
     flow: &Flow,

@@ -2,18 +2,19 @@ pub mod Anew
 pub mod Answers
 pub mod Asked
 pub mod Broken
-pub mod OneStore
 pub mod Complete
 pub mod Empty
 pub mod Lines
+pub mod OneStore
 pub mod Opened
 pub mod Ordered
 pub mod Over
 pub mod Reading
+pub mod Runs
 pub mod Short
 pub mod Started
+mod StillUsable
+pub mod Summed
 pub mod Texts
 pub mod Tried
-pub mod Runs
-pub mod Summed
 pub mod Writing

@@ -40,8 +40,7 @@ use world_io::{Clock, Gate, Inbox, Outbox, Sink, Source};
 /// session, until nothing is left to do, all of it is held back by full connections, or the journal has as many entries
 /// as `--max-commits` says. A log of as many entries as `--checkpoint` says is followed by a new one. The clock tells
 /// the moments of sessions. Whatever `--threads` says, one session runs at a time. Each session's processor works
-/// between one `enter` and one `leave` of the gate, under a number: how many entries the journal has before the
-/// session's own.
+/// between one `enter` and one `leave` of the gate, under the session's number.
 ///
 /// At its end it prints a summary: how many files each connection has and how many bytes they have together, how many
 /// names of the inbox are left, and how many events of each kind the store has; and behind it what held the run back or

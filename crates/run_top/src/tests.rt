@@ -1,8 +1,12 @@
-//! A run over devices in memory, stopped at every moment and begun anew, or ended by the limit of its journal; and a
-//! session that is committed after other files expired.
-ghost use Rattle.std.specs.Prelude.{◌-◌, ◌^◌, ◌<◌, IfOk};
+//! A run over devices in memory, stopped at every moment and begun anew, or ended by the limit of its journal; a
+//! session that is committed after other files expired; and two sessions in flight side by side.
+ghost use Rattle.std.specs.Prelude.{◌≡◌, ◌-◌, ◌^◌, ◌<◌, List, IfOk, OnOk};
+ghost use Rattle.flowfile_record.specs.NamedFile.{NamedFile};
 ghost use Rattle.flowfile_record.specs.Encoding.{IsDigest};
+ghost use Rattle.engine_session.specs.Done.{WorkIsDone};
 ghost use Rattle.engine_steps.specs.Leaving.{MayGoOn};
+ghost use Rattle.engine_steps.specs.Ready.{IsUsableWith};
+ghost use Rattle.store_core.specs.Store.{kept_by};
 ghost use Rattle.machine_model.specs.Sound.{IsSound};
 
 use super::*;
@@ -10,8 +14,8 @@ use crate::command::run_over;
 use crate::opening::open;
 use crate::text::read;
 use disk_trait::{Disk, MemoryDisk, Pick};
-use engine_session::work;
-use engine_steps::{Checkout, Committed, Engine, Tended};
+use engine_session::{Done, work};
+use engine_steps::{Checkout, Committed, Engine, EngineError, Tended};
 use flow_definition::Builder;
 use flow_words::{DEFAULT_CHECKPOINT, DEFAULT_COMMITS};
 use flowfile_record::{Event, EventKind};
@@ -483,13 +487,13 @@ fn commits_behind_an_expiry<D: Disk, I: Inbox, O: Outbox>(
 ) -> Result<(), Fail>
     requires may { MayGoOn D.tells D.held D.moment D.images I.tells (I.left inbox.old) engine.old disk.old }
 {
-    let Ok(Checkout::Session(choice)) = engine.checkout(alloc, 1000) else {
+    let Ok(Checkout::Session(session)) = engine.checkout(alloc, 1000) else {
         return Err("no session comes")?;
     };
-    let Ok(job) = engine.read(alloc, disk, inbox, outbox, 1000, choice) else {
+    let Ok(job) = engine.read(alloc, disk, inbox, outbox, session) else {
         return Err("a job that can't be read")?;
     };
-    let done = work(alloc, engine.flow(), engine.store_id(), job, 0, &FreeGate)?;
+    let done = work(alloc, engine.flow(), engine.store_id(), job, &FreeGate)?;
     let Ok(Tended::Expired) = engine.tend(alloc, disk, 3000) else {
         return Err("no file expires")?;
     };
@@ -512,20 +516,145 @@ fn commits_to_an_empty_outbox<D: Disk, I: Inbox>(
     commits_behind_an_expiry(alloc, engine, disk, inbox, &mut outbox)
 }
 
+// An engine of a flow over its store, which is opened.
+fn engine_over<'f, D: Disk, I: Inbox>(
+    alloc: Global,
+    flow: &'f Flow,
+    disk: &mut D,
+    inbox: &mut I,
+) -> Result<Engine<'f>, Fail>
+    requires sound { IsSound flow.now }
+    requires digest { IsDigest flow.now.digest }
+    ensures may { IfOk result (λ engine. MayGoOn D.tells D.held D.moment D.images I.tells (I.left inbox.new)
+        engine disk.new) }
+{
+    let Ok(store) = open(alloc, 0, disk, flow) else {
+        return Err("a store that can't be opened")?;
+    };
+    let Ok(engine) = Engine::new(alloc, flow, store, 9, DEFAULT_CHECKPOINT, inbox) else {
+        return Err("an inbox that can't be listed")?;
+    };
+    Ok(engine)
+}
+
 // A file was made, and another one is received while the first expires.
 fn receives_behind_an_expiry(alloc: Global) -> Result<(), Fail> {
     let flow = flow_of(alloc, AGING.as_bytes().to_vec(alloc)?)?;
     let mut disk = MemoryDisk::new(Vec::new(alloc));
     goes_on(alloc, &mut disk, &flow, 1, DEFAULT_CHECKPOINT, &FreeGate)?;
-    let Ok(store) = open(alloc, 0, &mut disk, &flow) else {
-        return Err("a store that can't be opened")?;
-    };
     let files = vec![in alloc; (Name::read(alloc, "a.txt")?, b"hi".to_vec(alloc)?)]?;
     let mut inbox = MemoryInbox::new(files, Vec::new(alloc));
-    let Ok(mut engine) = Engine::new(alloc, &flow, store, 9, DEFAULT_CHECKPOINT, &mut inbox) else {
-        return Err("an inbox that can't be listed")?;
-    };
+    let mut engine = engine_over(alloc, &flow, &mut disk, &mut inbox)?;
     commits_to_an_empty_outbox(alloc, &mut engine, &mut disk, &mut inbox)
+}
+
+// A flow that makes two files, and may work on both at a time.
+const TWICE: &str = r#"{"processors": [
+    {"id": "beat", "type": "GenerateFlowFile", "properties": {"Custom Text": "x", "Count": "2"},
+        "tasks": 2, "terminated": ["success"]}
+], "connections": []}"#;
+
+// Checks out the session that comes next, which receives no file, and works on it.
+fn works<D: Disk, I: Inbox, O: Outbox>(
+    alloc: Global,
+    engine: &mut Engine<'_>,
+    disk: &mut D,
+    inbox: &mut I,
+    outbox: &mut O,
+    moment: u64,
+) -> Result<Done, Fail>
+    requires usable { IsUsableWith D.tells D.held D.moment D.images I.tells (I.left inbox.old) engine.old disk.old }
+    ensures usable { OnOk result (IsUsableWith D.tells D.held D.moment D.images I.tells (I.left inbox.new)
+        engine.new disk.new) }
+    ensures same { OnOk result ((engine.new.flow ≡ engine.old.flow)
+        × ((kept_by engine.new.store).store ≡ (kept_by engine.old.store).store)) }
+    // Whatever is left of the inbox, which it has nothing to do with.
+    ensures done { IfOk result (λ done. (left : List NamedFile)
+        → WorkIsDone engine.new.flow (kept_by engine.new.store).store I.tells left done) }
+{
+    let Ok(Checkout::Session(session)) = engine.checkout(alloc, moment) else {
+        return Err("no session comes")?;
+    };
+    let Ok(job) = engine.read(alloc, disk, inbox, outbox, session) else {
+        return Err("a job that can't be read")?;
+    };
+    let done = work(alloc, engine.flow(), engine.store_id(), job, &FreeGate)?;
+    if done.given.file.is_some() {
+        return Err("a session that receives a file")?;
+    }
+    Ok(done)
+}
+
+// Works on two sessions of a generator side by side. Only the first makes its file: the other one has the same index.
+fn commits_one_of_two<D: Disk, I: Inbox, O: Outbox>(
+    alloc: Global,
+    engine: &mut Engine<'_>,
+    disk: &mut D,
+    inbox: &mut I,
+    outbox: &mut O,
+) -> Result<(), Fail>
+    requires { IsUsableWith D.tells D.held D.moment D.images I.tells (I.left inbox.old) engine.old disk.old }
+{
+    let one = works(alloc, engine, disk, inbox, outbox, 1000)?;
+    let other = works(alloc, engine, disk, inbox, outbox, 1000)?;
+    if one.given.index != 1 || other.given.index != 1 {
+        return Err("a session with another index than the first")?;
+    }
+    let Ok(Committed::Acked { .. }) = engine.commit(alloc, disk, inbox, outbox, one) else {
+        return Err("the first session isn't acknowledged")?;
+    };
+    let Ok(Committed::Changed) = engine.commit(alloc, disk, inbox, outbox, other) else {
+        return Err("a session whose index has gone stands")?;
+    };
+    if engine.journal().len() != 1 {
+        return Err("another journal than of one entry")?;
+    }
+    let next = works(alloc, engine, disk, inbox, outbox, 1000)?;
+    if next.given.index != 2 {
+        return Err("another index than the next one")?;
+    }
+    Ok(())
+}
+
+// Ends a session that was worked on: it can neither be committed nor read any more.
+fn ends_before_its_commit<D: Disk, I: Inbox, O: Outbox>(
+    alloc: Global,
+    engine: &mut Engine<'_>,
+    disk: &mut D,
+    inbox: &mut I,
+    outbox: &mut O,
+) -> Result<(), Fail>
+    requires usable { IsUsableWith D.tells D.held D.moment D.images I.tells (I.left inbox.old) engine.old disk.old }
+    ensures usable { OnOk result (IsUsableWith D.tells D.held D.moment D.images I.tells (I.left inbox.new)
+        engine.new disk.new) }
+{
+    let done = works(alloc, engine, disk, inbox, outbox, 1000)?;
+    let session = done.session;
+    if !engine.end(session) {
+        return Err("a session that isn't in flight")?;
+    }
+    let entries = engine.journal().len();
+    let Ok(Committed::Dropped) = engine.commit(alloc, disk, inbox, outbox, done) else {
+        return Err("a session that has ended is committed")?;
+    };
+    if engine.journal().len() != entries {
+        return Err("an entry of a session that has ended")?;
+    }
+    let Err(EngineError::NoSession) = engine.read(alloc, disk, inbox, outbox, session) else {
+        return Err("a session that has ended is read")?;
+    };
+    Ok(())
+}
+
+// Both over devices in memory, one after the other.
+fn has_two_in_flight(alloc: Global) -> Result<(), Fail> {
+    let flow = flow_of(alloc, TWICE.as_bytes().to_vec(alloc)?)?;
+    let mut disk = MemoryDisk::new(Vec::new(alloc));
+    let mut inbox = MemoryInbox::new(Vec::new(alloc), Vec::new(alloc));
+    let mut engine = engine_over(alloc, &flow, &mut disk, &mut inbox)?;
+    let mut outbox = MemoryOutbox::new(Vec::new(alloc), Vec::new(alloc));
+    ends_before_its_commit(alloc, &mut engine, &mut disk, &mut inbox, &mut outbox)?;
+    commits_one_of_two(alloc, &mut engine, &mut disk, &mut inbox, &mut outbox)
 }
 
 #[test]
@@ -551,5 +680,6 @@ fn wherever_a_run_stops_the_next_one_delivers_the_file(rt: HostRuntime) -> Resul
     ends_at_its_limit(alloc)?;
     passes_the_gate(alloc)?;
     receives_behind_an_expiry(alloc)?;
+    has_two_in_flight(alloc)?;
     Ok(())
 }

@@ -8,7 +8,7 @@ use Rattle.process_session.specs.declared.file.Source.{Source}
 use Rattle.store_core.specs.Store.{kept_by, live_in}
 use Rattle.engine_choice.specs.Laws.{numbers_in}
 use Rattle.engine_session.specs.Handing.{live_files}
-use Rattle.engine_steps.specs.Standing.{IsOfChoice}
+use Rattle.engine_steps.specs.Standing.{IsOfFlight}
 use Rattle.engine_steps.proofs.Files.{there_so}
 use Rattle.engine_steps.proofs.StandsStill.{takes_live}
 use Rattle.engine_steps.proofs.standing.handed_stands.Goals as goal
@@ -16,8 +16,8 @@ use Rattle.engine_steps.proofs.standing.handed_stands.Goals as goal
 pub contents_stand-requires-clause-live : goal.contents_stand-requires-clause-live
 contents_stand-requires-clause-live g c κs within =
     let k = kept_by c.args.store.now in
-    let taking = c.args.choice.now.taking in
-    let of : IsOfChoice c.args.done.now c.args.choice.now = c.is_of_choice.ensures (cc) in
+    let taking = c.args.flight.now.choice.taking in
+    let of : IsOfFlight c.args.done.now c.args.flight.now = c.is_of_flight.ensures (cc) in
     let are : c.as_slice-2.result.now ≡ live_files k (numbers_in taking) = c.as_slice-2.ensures ∙ c.in_ok-files.ensures ∙ ap (live_files k) (c.numbers.ensures ∙ of.numbers) in
     subst (λ (files : List FlowFile). All (λ (file : FlowFile). Contains (live_in c.args.store.now) file.content) files) (sym are) (takes_live k taking c.requires.taken)
 
@@ -30,7 +30,7 @@ returns-clause-stands g c is =
     let same : done.files ≡ c.in_ok-files.files = sym c.files.ensures ∙ c.are_same_files.ensures.0 (cc) ∙ c.as_slice.ensures in
     let there : c.in_ok-is_there.field-0 ≡ done.given.there = search rules in
     record {
-      of = c.is_of_choice.ensures (cc);
+      of = c.is_of_flight.ensures (cc);
       files = same ∙ c.in_ok-files.ensures ∙ ap (live_files k) c.numbers.ensures;
       bytes = λ telling.
           sym (ap (λ (sources : List Source). map (λ (source : Source). source.bytes) sources) c.sources.ensures)

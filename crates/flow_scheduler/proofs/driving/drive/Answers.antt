@@ -33,8 +33,10 @@ returns-in_err-turn-clause-leaves g c =
     let inv = c.loop-turn.invariant in
     record {
       may = search rules;
+      usable = c.turn.ensures.leaves.usable;
       failed = search rules;
       works = search rules;
+      known = search rules;
       same = same_run_on c.args.engine.now c.loop-turn.engine c.turn.new.engine inv.same c.turn.ensures.leaves.same;
       alone = writes_on D.moment D.images c.args.engine.now.store.log.number c.loop-turn.engine.store.log.number c.args.disk.now c.loop-turn.disk c.turn.new.disk inv.log inv.alone c.turn.ensures.leaves.alone;
       why = search rules;
@@ -104,8 +106,10 @@ returns-in-Some-Blocked-clause-leaves g c =
     let inv = c.loop-turn.invariant in
     record {
       may = c.in_ok-turn.ensures.leaves.may;
+      usable = c.turn.ensures.leaves.usable;
       failed = search rules;
       works = search rules;
+      known = search rules;
       same = same_run_on c.args.engine.now c.loop-turn.engine c.turn.new.engine inv.same c.turn.ensures.leaves.same;
       alone = writes_on D.moment D.images c.args.engine.now.store.log.number c.loop-turn.engine.store.log.number c.args.disk.now c.loop-turn.disk c.turn.new.disk inv.log inv.alone c.turn.ensures.leaves.alone;
       why = search rules;
@@ -135,8 +139,10 @@ returns-in-Some-Quiet-clause-leaves g c =
     let inv = c.loop-turn.invariant in
     record {
       may = c.in_ok-turn.ensures.leaves.may;
+      usable = c.turn.ensures.leaves.usable;
       failed = search rules;
       works = search rules;
+      known = search rules;
       same = same_run_on c.args.engine.now c.loop-turn.engine c.turn.new.engine inv.same c.turn.ensures.leaves.same;
       alone = writes_on D.moment D.images c.args.engine.now.store.log.number c.loop-turn.engine.store.log.number c.args.disk.now c.loop-turn.disk c.turn.new.disk inv.log inv.alone c.turn.ensures.leaves.alone;
       why = search rules;

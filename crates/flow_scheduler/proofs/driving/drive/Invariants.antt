@@ -3,14 +3,13 @@ use Rattle.machine_model.specs.State.{Machine}
 use Rattle.run_law.specs.Turns.{AreMadeAt}
 use Rattle.run_law.specs.Work.{IsNoEarlier, WritesLog}
 use Rattle.engine_steps.specs.Engine.{IsOfSameRun}
-use Rattle.flow_scheduler.specs.Driving.{RunsInTurn}
-use Rattle.engine_steps.specs.Leaving.{MayGoOn}
+use Rattle.flow_scheduler.specs.Driving.{MayTurn, RunsInTurn}
 use Rattle.run_law.specs.Puts.{Start, outgoing}
 use Rattle.flow_scheduler.proofs.driving.drive.Given as goal
 
 abbrev pub invariant-loop-turn : goal.invariant-loop-turn
 invariant-loop-turn g l = record {
-  may : MayGoOn g.D.Disk.tells g.D.Disk.held g.D.Disk.moment g.D.Disk.images g.I.Inbox.tells (g.I.Inbox.left l.inbox) l.engine l.disk;
+  may : MayTurn g.D.Disk.tells g.D.Disk.held g.D.Disk.moment g.D.Disk.images g.I.Inbox.tells (g.I.Inbox.left l.inbox) l.engine l.disk;
   same : IsOfSameRun l.fn.engine l.engine;
   log : IsNoEarlier l.fn.engine.store.log.number l.engine.store.log.number;
   alone : WritesLog g.D.Disk.moment g.D.Disk.images l.fn.engine.store.log.number l.fn.disk l.disk;

@@ -1,6 +1,5 @@
-use Rattle.std.proofs.Common.{◌≡◌, inl, refl, ◌∙◌, ap, subst, arith, rules, sym, List}
-use Rattle.std.specs.Prelude.{false, Err, None, Result, Some}
-use Rattle.std.proofs.lemmas.Grind.{common_steps}
+use Rattle.std.proofs.Common.{◌≡◌, inl, refl, ◌∙◌, ap, subst, arith, rules, sym, List, true≢false}
+use Rattle.std.specs.Prelude.{false, Err, None, Ok, OnOk, Result, Some}
 use Rattle.std.proofs.lemmas.Result.{err_from_is_err_and}
 use Rattle.flowfile_record.specs.NamedFile.{NamedFile}
 use Rattle.content_repo.specs.Claims.{content_in}
@@ -12,18 +11,20 @@ use Rattle.run_law.proofs.Writing.{reads_only}
 use Rattle.run_law.specs.Turns.{IsWithinRun, last_worker}
 use Rattle.engine_steps.specs.Engine.{EngineState}
 use Rattle.engine_steps.specs.Commit.{IsJournaled}
+use Rattle.engine_steps.specs.Flights.{is_in_flight}
 use Rattle.engine_steps.specs.Running.{undone_step}
 use Rattle.engine_steps.specs.declared.commit.Committed.{Committed}
 use Rattle.engine_steps.specs.declared.error.EngineError.{EngineError}
 use Rattle.engine_steps.proofs.Goes.{spared_by_read, stops_unmoved}
 use Rattle.engine_steps.proofs.Reread.{still_runs}
-use Rattle.engine_choice.proofs.Sessions.{chosen}
-use Rattle.engine_steps.proofs.Due.{chosen_of}
 use Rattle.engine_steps.proofs.StandsStill.{work_is_done}
-use Rattle.engine_steps.specs.Checkout.{known_in}
 use Rattle.flow_scheduler.proofs.Turning.{moment_of_work, read_same, still_works, stopped_at}
+use Rattle.flow_scheduler.specs.Driving.{MayTurn}
+use Rattle.flow_scheduler.proofs.CheckedOut.{leaves_by_error}
 use Rattle.flow_scheduler.proofs.Growing.{committed_grows, grows_behind}
-use Rattle.flow_scheduler.proofs.InTurn.{comes_next, commit_stops, committed_by, in_turn_of, none_stopped, turns_by, turns_of, turns_still}
+use Rattle.flow_scheduler.proofs.InTurn.{commit_stops, committed_by, in_turn_of, none_stopped, turns_by, turns_of, turns_still}
+use Rattle.flow_scheduler.proofs.Only.{done_flies, moment_is, none_behind, only_comes_next, only_flies}
+use Rattle.flow_scheduler.proofs.Read.{commit_leaves, read_leaves}
 use Rattle.run_law.specs.Puts.{outgoing}
 use Rattle.flow_scheduler.proofs.driving.run_session.Goals as goal
 
@@ -43,6 +44,17 @@ returns-in_err-job-clause-run g c telling in_telling out_telling opened first st
       turns = none_stopped c.read.new.self.flow start.time c.args.moment opened c.read.new.self.journal
           (turns_still e c.read.new.self same.0 same.2 start.time c.args.moment opened (c.turns_go_on.ensures.later e.flow start.time time c.args.moment opened (steps e.journal) run.turns le));
     })
+
+pub returns-in_err-job-clause-leaves : goal.returns-in_err-job-clause-leaves
+returns-in_err-job-clause-leaves g c =
+    let D = g.D.Disk in
+    let e : EngineState = c.args.engine.now in
+    let left = g.I.Inbox.left c.read.new.inbox in
+    let p = err_from_is_err_and c.from_residual.result c.from_residual.ensures.1 in
+    leaves_by_error c.read.result c.from_residual.result c.in_err-job.field-0.0 c.in_err-job.was (cc (p.1, p.2)) D.tells D.held D.moment D.images g.I.Inbox.tells left e c.read.new.self c.args.disk.now c.read.new.disk
+    (read_leaves D.tells D.held D.moment D.images D.faults g.I.Inbox.faults g.O.Outbox.faults g.I.Inbox.tells e c.requires.may.works c.read.result c.in_err-job.field-0.0 c.in_err-job.was c.args.session
+    (only_flies D.tells D.moment D.images c.args.moment c.args.session e c.args.disk.now c.requires.chosen) c.read.new.self c.args.disk.now c.read.new.disk c.args.inbox.now c.read.new.inbox c.args.outbox.now c.read.new.outbox left
+    c.read.ensures.engine c.read.ensures.refusal c.read.ensures.world.0 c.read.ensures.usable.usable)
 
 pub returns-in_err-done-clause-run : goal.returns-in_err-done-clause-run
 returns-in_err-done-clause-run g c telling in_telling out_telling opened first start time le run =
@@ -66,8 +78,10 @@ returns-in_err-done-clause-run g c telling in_telling out_telling opened first s
 pub returns-in_err-done-clause-leaves : goal.returns-in_err-done-clause-leaves
 returns-in_err-done-clause-leaves g c = record {
   may = search rules;
+  usable = c.read.ensures.usable.usable;
   failed = search rules;
   works = search rules;
+  known = search rules;
   same = search rules;
   alone = reads_only g.D.Disk.moment g.D.Disk.images c.args.engine.now.store.log.number g.D.Disk.held c.args.disk.now c.read.new.disk c.read.ensures.world.0;
   why = search rules;
@@ -80,12 +94,13 @@ returns-in_err-commit-clause-run g c telling in_telling out_telling opened first
     let f : EngineState = c.commit.new.self in
     let done = c.in_ok-done.done in
     let moment = c.args.moment in
-    let own = c.in_ok-job.ensures.job.0 in
+    let own = c.in_ok-job.ensures.job in
     let same : c.read.new.self ≡ e = c.in_ok-job.ensures.engine.unchanged (λ disk. cc) in
-    let at : done.given.moment ≡ moment = moment_of_work (kept_by e.store) moment c.args.choice c.in_ok-job.job done.given own.handed c.in_ok-done.ensures.given in
+    let worked = moment_of_work (kept_by e.store) own.0 c.in_ok-job.job done.given own.2.handed c.in_ok-done.ensures.given in
+    let at : done.given.moment ≡ moment = worked ∙ moment_is D.tells D.moment D.images moment c.args.session e c.args.disk.now c.requires.chosen own.0 own.2.flying in
     let m = run.run.reached in
-    let comes = comes_next c.choices_are_seen.ensures e m moment c.args.choice (c.shows_its_state.ensures telling m run.run.to.run.holds) run.run.to.coming c.requires.chosen c.in_ok-job.job done own.handed
-    (subst (λ (x : EngineState). IsWorkOn x.flow (kept_by x.store).store c.in_ok-job.job done) same (search rules)) at (last_worker None (steps e.journal)) run.run.to.last in
+    let comes = only_comes_next D.tells D.moment D.images moment c.args.session e c.args.disk.now c.requires.chosen own.0 own.2.flying c.choices_are_seen.ensures telling m run.run.to.run.holds run.run.to.coming c.in_ok-job.job done
+    own.2.handed (subst (λ (x : EngineState). IsWorkOn x.flow (kept_by x.store).store c.in_ok-job.job done) same (search rules)) worked (last_worker None (steps e.journal)) run.run.to.last in
     let turned = c.turns_go_on.ensures.next e.flow start.time time moment opened m (steps e.journal) (step_done done) run.turns run.run.to.run.ran.replays (omega (arith, le, at)) (omega (arith, at)) comes in
     let waited = c.turns_go_on.ensures.later e.flow start.time time moment opened (steps e.journal) run.turns le in
     let within : IsWithinRun start.time moment (step_done done) = (omega (arith, since_start start.time time (steps e.journal) run.run.to.run.within, le, at), omega (arith, at)) in
@@ -104,14 +119,20 @@ returns-in_err-commit-clause-run g c telling in_telling out_telling opened first
     })
 
 pub returns-in_err-commit-clause-leaves : goal.returns-in_err-commit-clause-leaves
-returns-in_err-commit-clause-leaves g c = record {
-  may = search rules;
-  failed = grind (arith, common_steps);
-  works = search rules;
-  same = search rules;
-  alone = search rules;
-  why = search rules;
-}
+returns-in_err-commit-clause-leaves g c =
+    let D = g.D.Disk in
+    let e : EngineState = c.args.engine.now in
+    let own = c.in_ok-job.ensures.job in
+    let done = c.in_ok-done.done in
+    let left = g.I.Inbox.left c.commit.new.inbox in
+    let number : done.session ≡ c.args.session = c.in_ok-done.ensures.session ∙ own.2.handed.session ∙ own.1 in
+    let error = c.in_err-commit.field-0.0 in
+    let p = err_from_is_err_and c.from_residual-in_err-commit.result c.from_residual-in_err-commit.ensures.1 in
+    leaves_by_error c.commit.result c.from_residual-in_err-commit.result error c.in_err-commit.was (cc (p.1, p.2)) D.tells D.held D.moment D.images g.I.Inbox.tells left e c.commit.new.self c.args.disk.now c.commit.new.disk
+    (commit_leaves D.tells D.held D.moment D.images D.faults g.I.Inbox.faults g.O.Outbox.faults g.I.Inbox.tells e c.requires.may.works c.commit.result done.session
+    (done_flies D.tells D.moment D.images c.args.moment c.args.session e c.args.disk.now c.requires.chosen done number) c.read.new.self c.commit.new.self (c.in_ok-job.ensures.engine.unchanged (λ disk. cc)) c.args.disk.now c.read.new.disk c.commit.new.disk
+    c.read.new.inbox c.commit.new.inbox c.read.new.outbox c.commit.new.outbox left c.read.ensures.world.0
+    (subst (λ (r : Result Committed EngineError). OnOk r (MayTurn D.tells D.held D.moment D.images g.I.Inbox.tells left c.commit.new.self c.commit.new.disk)) (sym c.in_err-commit.was) tt) c.commit.ensures.usable.usable c.commit.ensures.alone c.commit.ensures.refusal)
 
 pub returns-clause-run : goal.returns-clause-run
 returns-clause-run g c telling in_telling out_telling opened first start time le run =
@@ -120,12 +141,13 @@ returns-clause-run g c telling in_telling out_telling opened first start time le
     let f : EngineState = c.commit.new.self in
     let done = c.in_ok-done.done in
     let moment = c.args.moment in
-    let own = c.in_ok-job.ensures.job.0 in
+    let own = c.in_ok-job.ensures.job in
     let same : c.read.new.self ≡ e = c.in_ok-job.ensures.engine.unchanged (λ disk. cc) in
-    let at : done.given.moment ≡ moment = moment_of_work (kept_by e.store) moment c.args.choice c.in_ok-job.job done.given own.handed c.in_ok-done.ensures.given in
+    let worked = moment_of_work (kept_by e.store) own.0 c.in_ok-job.job done.given own.2.handed c.in_ok-done.ensures.given in
+    let at : done.given.moment ≡ moment = worked ∙ moment_is D.tells D.moment D.images moment c.args.session e c.args.disk.now c.requires.chosen own.0 own.2.flying in
     let m = run.run.reached in
-    let comes = comes_next c.choices_are_seen.ensures e m moment c.args.choice (c.shows_its_state.ensures telling m run.run.to.run.holds) run.run.to.coming c.requires.chosen c.in_ok-job.job done own.handed
-    (subst (λ (x : EngineState). IsWorkOn x.flow (kept_by x.store).store c.in_ok-job.job done) same (search rules)) at (last_worker None (steps e.journal)) run.run.to.last in
+    let comes = only_comes_next D.tells D.moment D.images moment c.args.session e c.args.disk.now c.requires.chosen own.0 own.2.flying c.choices_are_seen.ensures telling m run.run.to.run.holds run.run.to.coming c.in_ok-job.job done
+    own.2.handed (subst (λ (x : EngineState). IsWorkOn x.flow (kept_by x.store).store c.in_ok-job.job done) same (search rules)) worked (last_worker None (steps e.journal)) run.run.to.last in
     let turned = c.turns_go_on.ensures.next e.flow start.time time moment opened m (steps e.journal) (step_done done) run.turns run.run.to.run.ran.replays (omega (arith, le, at)) (omega (arith, at)) comes in
     let waited = c.turns_go_on.ensures.later e.flow start.time time moment opened (steps e.journal) run.turns le in
     let within : IsWithinRun start.time moment (step_done done) = (omega (arith, since_start start.time time (steps e.journal) run.run.to.run.within, le, at), omega (arith, at)) in
@@ -134,24 +156,45 @@ returns-clause-run g c telling in_telling out_telling opened first start time le
     let entered = subst (λ (x : EngineState). IsJournaled c.commit.result done (D.moment c.commit.new.disk) x f) same c.commit.ensures.entered.journal in
     let flow_is : f.flow ≡ e.flow = c.commit.ensures.alone.same.flow ∙ ap (λ (x : EngineState). x.flow) same in
     let works : c.read.new.self.failed ≡ false = ap (λ (x : EngineState). x.failed) same ∙ c.requires.may.works in
+    let number : done.session ≡ c.args.session = c.in_ok-done.ensures.session ∙ own.2.handed.session ∙ own.1 in
+    let flies = ap (λ (x : EngineState). is_in_flight done.session x.out) same ∙ done_flies D.tells D.moment D.images moment c.args.session e c.args.disk.now c.requires.chosen done number in
     record {
-      run = (c.in_ok-commit.ensures.run telling in_telling out_telling).goes_on (still_works c.in_ok-commit.field-0 c.read.new.self f _ _ works c.in_ok-commit.ensures.refusal.reopen) (λ inbox. absurd cc) opened first start moment within runs;
+      run = (c.in_ok-commit.ensures.run telling in_telling out_telling).goes_on (still_works c.in_ok-commit.field-0 c.read.new.self f _ _ works (c.in_ok-commit.ensures.refusal.asks.reopen flies)) (λ inbox. absurd cc) opened first start moment within runs;
       turns = turns_of e.flow f.flow start.time moment opened (steps f.journal) flow_is
           (turns_by e.flow start.time moment opened (step_done done) e.journal f.journal (committed_by e.flow start.time moment opened done (D.moment c.commit.new.disk) e f turned c.commit.result entered) waited turned);
     }
 
 pub returns-clause-leaves : goal.returns-clause-leaves
 returns-clause-leaves g c =
-    let same : c.read.new.self ≡ c.args.engine.now = c.in_ok-job.ensures.engine.unchanged (λ disk. cc) in
+    let D = g.D.Disk in
+    let e : EngineState = c.args.engine.now in
+    let f : EngineState = c.commit.new.self in
+    let own = c.in_ok-job.ensures.job in
+    let done = c.in_ok-done.done in
+    let left = g.I.Inbox.left c.commit.new.inbox in
+    let same : c.read.new.self ≡ e = c.in_ok-job.ensures.engine.unchanged (λ disk. cc) in
     let works : c.read.new.self.failed ≡ false = ap (λ (x : EngineState). x.failed) same ∙ c.requires.may.works in
-    let well = still_works c.in_ok-commit.field-0 c.read.new.self c.commit.new.self _ _ works c.in_ok-commit.ensures.refusal.reopen in
+    let number : done.session ≡ c.args.session = c.in_ok-done.ensures.session ∙ own.2.handed.session ∙ own.1 in
+    let flies = done_flies D.tells D.moment D.images c.args.moment c.args.session e c.args.disk.now c.requires.chosen done number in
+    let well = still_works c.in_ok-commit.field-0 c.read.new.self f _ _ works (c.in_ok-commit.ensures.refusal.asks.reopen (ap (λ (x : EngineState). is_in_flight done.session x.out) same ∙ flies)) in
+    let entered = subst (λ (x : EngineState). IsJournaled (Ok c.in_ok-commit.field-0) done (D.moment c.commit.new.disk) x f) same c.in_ok-commit.ensures.entered.journal in
+    let may : MayTurn D.tells D.held D.moment D.images g.I.Inbox.tells left f c.commit.new.disk = record {
+      may = record { ready = c.commit.ensures.usable.usable well; works = well; left = c.commit.ensures.usable.takeable well };
+      none = none_behind D.tells D.moment D.images c.args.moment c.args.session e c.args.disk.now c.requires.chosen done number c.in_ok-commit.field-0 (D.moment c.commit.new.disk) f
+          (λ dropped. ap (λ (x : EngineState). is_in_flight done.session x.out) (sym same) ∙ c.in_ok-commit.ensures.refusal.asks.exactly.0 (ap Ok dropped)) entered;
+    } in
+    let leaves = commit_leaves D.tells D.held D.moment D.images D.faults g.I.Inbox.faults g.O.Outbox.faults g.I.Inbox.tells e c.requires.may.works c.commit.result done.session flies c.read.new.self f same c.args.disk.now c.read.new.disk c.commit.new.disk
+    c.read.new.inbox c.commit.new.inbox c.read.new.outbox c.commit.new.outbox left c.read.ensures.world.0
+    (subst (λ (r : Result Committed EngineError). OnOk r (MayTurn D.tells D.held D.moment D.images g.I.Inbox.tells left f c.commit.new.disk)) (sym c.in_ok-commit.was) may) c.commit.ensures.usable.usable c.commit.ensures.alone c.commit.ensures.refusal in
     record {
-      may = record { ready = c.commit.ensures.usable.usable well; works = well; left = c.commit.ensures.usable.takeable };
-      failed = search rules;
-      works = search rules;
-      same = search rules;
-      alone = search rules;
-      why = search rules;
+      may = may;
+      usable = leaves.usable;
+      failed = λ fails. absurd (true≢false (sym fails ∙ well));
+      works = λ is. absurd cc;
+      known = λ is. absurd cc;
+      same = leaves.same;
+      alone = leaves.alone;
+      why = record { limited = λ limit is. absurd cc; damaged = λ damage is. absurd cc };
     }
 
 pub returns-in_err-job-clause-grows : goal.returns-in_err-job-clause-grows
@@ -165,31 +208,29 @@ returns-in_err-done-clause-grows g c = inl (ap (λ (x : EngineState). x.journal)
 pub returns-in_err-commit-clause-grows : goal.returns-in_err-commit-clause-grows
 returns-in_err-commit-clause-grows g c =
     let e : EngineState = c.args.engine.now in
-    let own = c.in_ok-job.ensures.job.0 in
-    let at : c.in_ok-done.done.given.moment ≡ c.args.moment = moment_of_work (kept_by e.store) c.args.moment c.args.choice c.in_ok-job.job c.in_ok-done.done.given own.handed c.in_ok-done.ensures.given in
+    let D = g.D.Disk in
+    let own = c.in_ok-job.ensures.job in
+    let at : c.in_ok-done.done.given.moment ≡ c.args.moment = moment_of_work (kept_by e.store) own.0 c.in_ok-job.job c.in_ok-done.done.given own.2.handed c.in_ok-done.ensures.given
+    ∙ moment_is D.tells D.moment D.images c.args.moment c.args.session e c.args.disk.now c.requires.chosen own.0 own.2.flying in
     grows_behind c.args.moment e.journal c.read.new.self.journal c.commit.new.self.journal (ap (λ (x : EngineState). x.journal) (c.in_ok-job.ensures.engine.unchanged (λ disk. cc)))
     (committed_grows c.in_ok-done.done c.args.moment (g.D.Disk.moment c.commit.new.disk) at c.read.new.self c.commit.new.self c.commit.result c.commit.ensures.entered.journal)
 
 pub returns-clause-grows : goal.returns-clause-grows
 returns-clause-grows g c =
     let e : EngineState = c.args.engine.now in
-    let own = c.in_ok-job.ensures.job.0 in
-    let at : c.in_ok-done.done.given.moment ≡ c.args.moment = moment_of_work (kept_by e.store) c.args.moment c.args.choice c.in_ok-job.job c.in_ok-done.done.given own.handed c.in_ok-done.ensures.given in
+    let D = g.D.Disk in
+    let own = c.in_ok-job.ensures.job in
+    let at : c.in_ok-done.done.given.moment ≡ c.args.moment = moment_of_work (kept_by e.store) own.0 c.in_ok-job.job c.in_ok-done.done.given own.2.handed c.in_ok-done.ensures.given
+    ∙ moment_is D.tells D.moment D.images c.args.moment c.args.session e c.args.disk.now c.requires.chosen own.0 own.2.flying in
     grows_behind c.args.moment e.journal c.read.new.self.journal c.commit.new.self.journal (ap (λ (x : EngineState). x.journal) (c.in_ok-job.ensures.engine.unchanged (λ disk. cc)))
     (committed_grows c.in_ok-done.done c.args.moment (g.D.Disk.moment c.commit.new.disk) at c.read.new.self c.commit.new.self c.commit.result c.commit.ensures.entered.journal)
 
 pub commit-requires-clause-done : goal.commit-requires-clause-done
-commit-requires-clause-done g c κs within =
+commit-requires-clause-done g c κs within flies =
     let e : EngineState = c.args.engine.now in
     let same : c.read.new.self ≡ e = c.in_ok-job.ensures.engine.unchanged (λ disk. cc) in
-    let own = c.in_ok-job.ensures.job.0 in
+    let own = c.in_ok-job.ensures.job in
     let work = subst (λ (x : EngineState). IsWorkOn x.flow (kept_by x.store).store c.in_ok-job.job c.in_ok-done.done) same (search rules) in
     subst (λ (x : EngineState). WorkIsDone x.flow (kept_by x.store).store g.I.Inbox.tells (g.I.Inbox.left c.read.new.inbox) c.in_ok-done.done) (sym same)
     (subst (λ (left : List NamedFile). WorkIsDone e.flow (kept_by e.store).store g.I.Inbox.tells left c.in_ok-done.done) (sym c.read.ensures.world.1)
-    (work_is_done g.D.Disk.tells g.I.Inbox.tells g.O.Outbox.tells e (content_in (g.D.Disk.held c.args.disk.now)) (g.I.Inbox.left c.args.inbox.now) (g.O.Outbox.standing c.args.outbox.now) c.args.moment c.args.choice
-    c.in_ok-job.job c.in_ok-done.done own work))
-
-pub read-requires-clause-stands : goal.read-requires-clause-stands
-read-requires-clause-stands g c κs within =
-    let e : EngineState = c.args.engine.now in
-    chosen e.flow (known_in e c.args.moment) e.last c.args.choice (chosen_of e c.args.moment c.args.choice c.requires.chosen)
+    (work_is_done g.D.Disk.tells g.I.Inbox.tells g.O.Outbox.tells e (content_in (g.D.Disk.held c.args.disk.now)) (g.I.Inbox.left c.args.inbox.now) (g.O.Outbox.standing c.args.outbox.now) own.0 c.in_ok-job.job c.in_ok-done.done own.2 work))

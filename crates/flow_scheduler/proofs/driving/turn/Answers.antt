@@ -1,17 +1,16 @@
 use Rattle.std.proofs.Common.{◌≡◌, ℕ, false, refl, sym, ap, subst, arith}
 use Rattle.std.specs.Prelude.{Ok, None, Result}
 use Rattle.std.proofs.lemmas.Result.{err_from_is_err_and}
-use Rattle.engine_queues.specs.Listing.{Left, names_left}
 use Rattle.run_law.specs.Work.{IsShortOn}
 use Rattle.machine_model.specs.Acknowledged.{steps}
-use Rattle.engine_steps.specs.Engine.{AreTakeable, EngineState}
+use Rattle.engine_steps.specs.Engine.{EngineState}
 use Rattle.engine_steps.specs.Ready.{expiry_in}
 use Rattle.engine_steps.specs.Running.{undone_step}
 use Rattle.engine_steps.specs.Tending.{HasTended}
 use Rattle.engine_steps.specs.declared.error.EngineError.{EngineError}
 use Rattle.engine_steps.specs.declared.tending.Tended.{Tended}
 use Rattle.engine_steps.specs.declared.tending.Tended.TheVariants.{Nothing}
-use Rattle.flow_scheduler.proofs.Turning.{no_fault, still_works, stopped_at}
+use Rattle.flow_scheduler.proofs.Turning.{may_turn, no_fault, still_works, stopped_at}
 use Rattle.flow_scheduler.proofs.Growing.{grows_behind, tended_grows}
 use Rattle.flow_scheduler.proofs.InTurn.{expiry_turns, in_turn_of, tend_stops, tended_turns, turns_of}
 use Rattle.run_law.specs.Puts.{outgoing}
@@ -24,13 +23,13 @@ returns-in_err-tend-clause-run g c telling in_telling out_telling opened first s
     let moment = c.args.moment in
     let m = run.run.reached in
     let waited = c.turns_go_on.ensures.later e.flow start.time time moment opened (steps e.journal) run.turns le in
-    let next = expiry_turns c.turns_go_on.ensures.next e m opened start.time time moment (c.shows_its_state.ensures telling m run.run.to.run.holds) le run.turns run.run.to.run.ran.replays in
+    let next = expiry_turns c.turns_go_on.ensures.next e m opened start.time time moment c.requires.may.none (c.shows_its_state.ensures telling m run.run.to.run.holds) le run.turns run.run.to.run.ran.replays in
     let p = err_from_is_err_and c.from_residual.result c.from_residual.ensures.1 in
     let error = c.in_err-tend.field-0.0 in
     let tended = subst (λ (r : Result Tended EngineError). HasTended r moment (g.D.Disk.moment c.tend.new.disk) e f) c.in_err-tend.was c.tend.ensures.tended.done in
     stopped_at c.from_residual.result _ _ error (cc (p.1, p.2)) (record {
       next = undone_step error (expiry_in e moment);
-      stops = (c.in_err-tend.ensures.run telling).stopped error refl c.requires.may.works opened first start time (g.I.Inbox.left c.args.inbox.now) (outgoing g.O.Outbox.standing g.O.Outbox.puts c.args.outbox.now) le run.run;
+      stops = (c.in_err-tend.ensures.run telling).stopped error refl c.requires.may.may.works opened first start time (g.I.Inbox.left c.args.inbox.now) (outgoing g.O.Outbox.standing g.O.Outbox.puts c.args.outbox.now) le run.run;
       turns = in_turn_of e.flow f.flow start.time moment opened f.journal (undone_step error (expiry_in e moment)) c.tend.ensures.alone.same.flow
           (tend_stops e.flow start.time moment opened moment (g.D.Disk.moment c.tend.new.disk) e f waited next error tended);
     })
@@ -46,22 +45,20 @@ go_on-requires-clause-short g c κs within =
 
 pub go_on-requires-clause-may : goal.go_on-requires-clause-may
 go_on-requires-clause-may g c κs within =
-    let well : c.tend.new.self.failed ≡ false = still_works c.in_ok-tend.field-0 c.args.engine.now c.tend.new.self _ _ c.requires.may.works c.in_ok-tend.ensures.refusal.reopen in
-    record {
-      ready = c.in_ok-tend.ensures.usable well;
-      works = well;
-      left = λ telling. subst (λ (l : Left). AreTakeable (g.I.Inbox.left c.args.inbox.now) (names_left l)) (sym c.tend.ensures.alone.listing) (c.requires.may.left telling);
-    }
+    let well : c.tend.new.self.failed ≡ false = still_works c.in_ok-tend.field-0 c.args.engine.now c.tend.new.self _ _ c.requires.may.may.works c.in_ok-tend.ensures.refusal.reopen in
+    let D = g.D.Disk in
+    may_turn D.tells D.held D.moment D.images g.I.Inbox.tells (g.I.Inbox.left c.args.inbox.now) c.args.engine.now c.tend.new.self c.args.disk.now c.tend.new.disk c.requires.may c.tend.ensures.alone.listing c.tend.ensures.alone.out
+    (c.in_ok-tend.ensures.usable well) well
 
 pub returns-in-Nothing-clause-run : goal.returns-in-Nothing-clause-run
 returns-in-Nothing-clause-run g c telling in_telling out_telling opened first start time le run =
-    let well : c.tend.new.self.failed ≡ false = still_works c.in_ok-tend.field-0 c.args.engine.now c.tend.new.self _ _ c.requires.may.works c.in_ok-tend.ensures.refusal.reopen in
+    let well : c.tend.new.self.failed ≡ false = still_works c.in_ok-tend.field-0 c.args.engine.now c.tend.new.self _ _ c.requires.may.may.works c.in_ok-tend.ensures.refusal.reopen in
     let e : EngineState = c.args.engine.now in
     let f : EngineState = c.tend.new.self in
     let moment = c.args.moment in
     let m = run.run.reached in
     let waited = c.turns_go_on.ensures.later e.flow start.time time moment opened (steps e.journal) run.turns le in
-    let next = expiry_turns c.turns_go_on.ensures.next e m opened start.time time moment (c.shows_its_state.ensures telling m run.run.to.run.holds) le run.turns run.run.to.run.ran.replays in
+    let next = expiry_turns c.turns_go_on.ensures.next e m opened start.time time moment c.requires.may.none (c.shows_its_state.ensures telling m run.run.to.run.holds) le run.turns run.run.to.run.ran.replays in
     c.go_on.ensures.run telling in_telling out_telling opened first start moment (omega arith) (record {
       run = (c.in_ok-tend.ensures.run telling).goes_on well opened first start time (g.I.Inbox.left c.args.inbox.now) (outgoing g.O.Outbox.standing g.O.Outbox.puts c.args.outbox.now) le run.run;
       turns = turns_of e.flow f.flow start.time moment opened (steps f.journal) c.tend.ensures.alone.same.flow
@@ -71,7 +68,7 @@ returns-in-Nothing-clause-run g c telling in_telling out_telling opened first st
 pub returns-in-Expired : goal.returns-in-Expired
 returns-in-Expired g c =
     let D = g.D.Disk in
-    let well : c.tend.new.self.failed ≡ false = still_works c.in_ok-tend.field-0 c.args.engine.now c.tend.new.self _ _ c.requires.may.works c.in_ok-tend.ensures.refusal.reopen in
+    let well : c.tend.new.self.failed ≡ false = still_works c.in_ok-tend.field-0 c.args.engine.now c.tend.new.self _ _ c.requires.may.may.works c.in_ok-tend.ensures.refusal.reopen in
     record {
       run = λ telling in_telling out_telling opened first start time le run.
           let e : EngineState = c.args.engine.now in
@@ -79,7 +76,7 @@ returns-in-Expired g c =
           let moment = c.args.moment in
           let m = run.run.reached in
           let waited = c.turns_go_on.ensures.later e.flow start.time time moment opened (steps e.journal) run.turns le in
-          let next = expiry_turns c.turns_go_on.ensures.next e m opened start.time time moment (c.shows_its_state.ensures telling m run.run.to.run.holds) le run.turns run.run.to.run.ran.replays in
+          let next = expiry_turns c.turns_go_on.ensures.next e m opened start.time time moment c.requires.may.none (c.shows_its_state.ensures telling m run.run.to.run.holds) le run.turns run.run.to.run.ran.replays in
           record {
             run = (c.in_ok-tend.ensures.run telling).goes_on well opened first start time (g.I.Inbox.left c.args.inbox.now) (outgoing g.O.Outbox.standing g.O.Outbox.puts c.args.outbox.now) le run.run;
             turns = turns_of e.flow f.flow start.time moment opened (steps f.journal) c.tend.ensures.alone.same.flow
@@ -87,13 +84,12 @@ returns-in-Expired g c =
           };
       short = λ end is. absurd cc;
       leaves = record {
-        may = record {
-          ready = c.in_ok-tend.ensures.usable well;
-          works = well;
-          left = λ telling. subst (λ (l : Left). AreTakeable (g.I.Inbox.left c.args.inbox.now) (names_left l)) (sym c.tend.ensures.alone.listing) (c.requires.may.left telling);
-        };
+        may = may_turn D.tells D.held D.moment D.images g.I.Inbox.tells (g.I.Inbox.left c.args.inbox.now) c.args.engine.now c.tend.new.self c.args.disk.now c.tend.new.disk c.requires.may c.tend.ensures.alone.listing
+            c.tend.ensures.alone.out (c.in_ok-tend.ensures.usable well) well;
+        usable = c.tend.ensures.usable;
         failed = λ fails. absurd cc;
         works = λ is. absurd cc;
+        known = λ is. absurd cc;
         same = c.tend.ensures.alone.same;
         alone = c.tend.ensures.alone.alone;
         why = record { limited = λ limit is. absurd cc; damaged = λ damage is. absurd cc };

@@ -4,18 +4,17 @@ use Rattle.std.proofs.lemmas.Result.{IfOk-weaker}
 use Rattle.flowfile_record.specs.NamedFile.{NamedFile}
 use Rattle.machine_model.specs.declared.flow.Flow.{Flow}
 use Rattle.store_core.specs.Store.{StoreState}
-use Rattle.engine_change.specs.Committing.{identity_of}
 use Rattle.engine_choice.specs.declared.choice.Ending.{Ending}
 use Rattle.run_law.specs.Run.{HasRun, IsTidied, machine_at}
-use Rattle.run_law.specs.Work.{IsAtWork}
 use Rattle.run_law.specs.declared.ended.Ended.{Ended}
 use Rattle.run_law.specs.declared.ended.Ended.TheVariants as ended
 use Rattle.flow_scheduler.specs.Driving.{IsEnded, StopsInTurn}
 use Rattle.engine_steps.specs.Engine.{EngineState}
 use Rattle.engine_steps.specs.Errors.{ended_by}
 use Rattle.engine_steps.specs.declared.error.EngineError.{EngineError}
-use Rattle.flow_scheduler.proofs.Closing.{IsNoLimit, begun, by_damage, closes_blocked, closes_limited, closes_quiet, closes_so, ends_on_faults, has_ended, limit_met, limit_of, no_limit_faults, not_opened, run_of, wanted_or_disk, works_at_limit, works_on}
+use Rattle.flow_scheduler.proofs.Closing.{IsNoLimit, begun, by_damage, closes_blocked, closes_limited, closes_quiet, closes_so, ends_on_faults, has_ended, limit_met, limit_of, no_limit_faults, not_opened, run_of, wanted_or_disk, works_at_limit}
 use Rattle.flow_scheduler.proofs.Growing.{none_made}
+use Rattle.flow_scheduler.proofs.Opened.{opened_may_turn}
 use Rattle.flow_scheduler.proofs.InTurn.{in_turn_of, none_stopped, turns_of}
 use Rattle.machine_model.specs.Acknowledged.{steps}
 use Rattle.flow_scheduler.proofs.Turning.{each_counts_after}
@@ -44,6 +43,12 @@ returns-in-Err-clause-headline g c telling in_telling out_telling state first st
 pub returns-in-Err-clause-closed : goal.returns-in-Err-clause-closed
 returns-in-Err-clause-closed g c = fails_to_open c.fail.result.closed c.fail.result.ended c.in-Err.error c.fail.ensures.closed c.fail.ensures.ended c.in-Err.ensures.kinds
 
+pub drive-requires-clause-may : goal.drive-requires-clause-may
+drive-requires-clause-may g c κs within =
+    let D = g.D.Disk in
+    opened_may_turn c.args.flow.now c.args.store c.args.most c.args.checkpoint c.in-Ok.engine c.in-Ok.ensures.opened D.tells D.held D.moment D.images g.I.Inbox.tells (g.I.Inbox.left c.args.inbox.now) (g.I.Inbox.left c.new.new.inbox) c.args.disk.now
+    c.requires.sound c.requires.most c.requires.work c.in-Ok.ensures.listed
+
 pub returns-in-Ok-Blocked-clause-headline : goal.returns-in-Ok-Blocked-clause-headline
 returns-in-Ok-Blocked-clause-headline g c telling in_telling out_telling state first start run =
     let D = g.D.Disk in
@@ -58,7 +63,7 @@ returns-in-Ok-Blocked-clause-headline g c telling in_telling out_telling state f
     let is = c.in-Ok.ensures.opened in
     let e : EngineState = c.drive.new.engine in
     let laws = g.met.D.Disk g.world.𝓛 g.world.𝓜 g.world.𝓡 ((λ s x. x), (λ x. x), (λ x. x), λ x. x) in
-    let works : e.failed ≡ false = c.in-Ok-Blocked.ensures.leaves.may.works in
+    let works : e.failed ≡ false = c.in-Ok-Blocked.ensures.leaves.may.may.works in
     let begins = begun D.moment D.images flow c.args.store c.args.most c.args.checkpoint c.in-Ok.engine is opened first c.args.disk.now start (g.C.Clock.time c.args.clock.now) left (g.I.Inbox.left c.new.new.inbox) out c.new.ensures.left
     (c.in-Ok.ensures.listed.coming in_telling state standing) run in
     let end = subst (λ (a : Ending). IsEnded a D.moment D.images e opened first start time c.drive.new.disk now_left now_out) c.in-Ok-Blocked.field-0-is
@@ -67,7 +72,7 @@ returns-in-Ok-Blocked-clause-headline g c telling in_telling out_telling state f
     c.close.ensures.refusal.reopen c.close.ensures.refusal.kinds in
     let ran =
     closes_blocked D.tells D.held D.moment D.images c.faults_end_a_run.ensures.between e flow c.args.store.lot (c.drive.ensures.leaves.same.flow ∙ is.flow_is) (c.drive.ensures.leaves.same.lot ∙ ap (λ (t : StoreState). t.lot) is.store_is)
-    c.in-Ok-Blocked.ensures.leaves.may.ready.work.flow_is opened first c.drive.new.disk c.close.new.disk now_left now_out start time c.leave.result.ended (c.close.ensures.states works)
+    c.in-Ok-Blocked.ensures.leaves.may.may.ready.work.flow_is opened first c.drive.new.disk c.close.new.disk now_left now_out start time c.leave.result.ended (c.close.ensures.states works)
     (laws.held_is_left c.close.new.disk telling) c.close.result c.run_ends.ensures.blocked c.in-Ok-Blocked.connection end closes telling in (
       e.journal,
       None,
@@ -86,7 +91,7 @@ returns-in-Ok-Blocked-clause-closed g c =
 pub returns-in-Ok-Blocked-clause-checkpointed : goal.returns-in-Ok-Blocked-clause-checkpointed
 returns-in-Ok-Blocked-clause-checkpointed g c =
     let e : EngineState = c.drive.new.engine in
-    let works : e.failed ≡ false = c.in-Ok-Blocked.ensures.leaves.may.works in
+    let works : e.failed ≡ false = c.in-Ok-Blocked.ensures.leaves.may.may.works in
     ends_short g.D.Disk.moment g.D.Disk.images c.args.checkpoint e.checkpoint c.leave.result.ended c.drive.new.disk c.close.new.disk (c.drive.ensures.leaves.same.checkpoint ∙ c.in-Ok.ensures.opened.checkpoint_is)
     c.in-Ok-Blocked.ensures.short (c.close.ensures.short works)
 
@@ -111,7 +116,7 @@ returns-in-Ok-Quiet-clause-headline g c telling in_telling out_telling state fir
     let is = c.in-Ok.ensures.opened in
     let e : EngineState = c.drive.new.engine in
     let laws = g.met.D.Disk g.world.𝓛 g.world.𝓜 g.world.𝓡 ((λ s x. x), (λ x. x), (λ x. x), λ x. x) in
-    let works : e.failed ≡ false = c.in-Ok-Quiet.ensures.leaves.may.works in
+    let works : e.failed ≡ false = c.in-Ok-Quiet.ensures.leaves.may.may.works in
     let begins = begun D.moment D.images flow c.args.store c.args.most c.args.checkpoint c.in-Ok.engine is opened first c.args.disk.now start (g.C.Clock.time c.args.clock.now) left (g.I.Inbox.left c.new.new.inbox) out c.new.ensures.left
     (c.in-Ok.ensures.listed.coming in_telling state standing) run in
     let end = subst (λ (a : Ending). IsEnded a D.moment D.images e opened first start time c.drive.new.disk now_left now_out) c.in-Ok-Quiet.field-0-is
@@ -120,7 +125,7 @@ returns-in-Ok-Quiet-clause-headline g c telling in_telling out_telling state fir
     c.close-in-Ok-Quiet.ensures.refusal.reopen c.close-in-Ok-Quiet.ensures.refusal.kinds in
     let ran =
     closes_quiet D.tells D.held D.moment D.images c.faults_end_a_run.ensures.between e flow c.args.store.lot (c.drive.ensures.leaves.same.flow ∙ is.flow_is) (c.drive.ensures.leaves.same.lot ∙ ap (λ (t : StoreState). t.lot) is.store_is)
-    c.in-Ok-Quiet.ensures.leaves.may.ready.work.flow_is opened first c.drive.new.disk c.close-in-Ok-Quiet.new.disk now_left now_out start time c.leave-in-Ok-Quiet.result.ended (c.close-in-Ok-Quiet.ensures.states works)
+    c.in-Ok-Quiet.ensures.leaves.may.may.ready.work.flow_is opened first c.drive.new.disk c.close-in-Ok-Quiet.new.disk now_left now_out start time c.leave-in-Ok-Quiet.result.ended (c.close-in-Ok-Quiet.ensures.states works)
     (laws.held_is_left c.close-in-Ok-Quiet.new.disk telling) c.close-in-Ok-Quiet.result c.run_ends.ensures.quiet end closes telling in (
       e.journal,
       None,
@@ -139,7 +144,7 @@ returns-in-Ok-Quiet-clause-closed g c =
 pub returns-in-Ok-Quiet-clause-checkpointed : goal.returns-in-Ok-Quiet-clause-checkpointed
 returns-in-Ok-Quiet-clause-checkpointed g c =
     let e : EngineState = c.drive.new.engine in
-    let works : e.failed ≡ false = c.in-Ok-Quiet.ensures.leaves.may.works in
+    let works : e.failed ≡ false = c.in-Ok-Quiet.ensures.leaves.may.may.works in
     ends_short g.D.Disk.moment g.D.Disk.images c.args.checkpoint e.checkpoint c.leave-in-Ok-Quiet.result.ended c.drive.new.disk c.close-in-Ok-Quiet.new.disk (c.drive.ensures.leaves.same.checkpoint ∙ c.in-Ok.ensures.opened.checkpoint_is)
     c.in-Ok-Quiet.ensures.short (c.close-in-Ok-Quiet.ensures.short works)
 
@@ -149,13 +154,6 @@ returns-in-Ok-Quiet-clause-alone g c =
     let log = c.args.store.log.number in
     let drives = writes_on D.moment D.images log c.in-Ok.engine.store.log.number c.args.disk.now c.args.disk.now c.drive.new.disk (same_log log c.in-Ok.engine.store.log.number (ap (λ (t : StoreState). t.log.number) c.in-Ok.ensures.opened.store_is)) (writes_none D.moment D.images log c.args.disk.now) c.drive.ensures.leaves.alone in
     writes_in_turn D.moment D.images log c.args.disk.now c.drive.new.disk c.close-in-Ok-Quiet.new.disk drives (writes_by_close D.moment D.images log c.drive.new.engine.store c.drive.new.disk c.close-in-Ok-Quiet.new.disk c.close-in-Ok-Quiet.ensures.alone)
-
-pub close-requires-in-Err-drive-clause-work : goal.close-requires-in-Err-drive-clause-work
-close-requires-in-Err-drive-clause-work g c κs within works =
-    let D = g.D.Disk in
-    let e0 : EngineState = c.in-Ok.engine in
-    subst (λ (f : Flow). IsAtWork f D.tells D.held D.moment D.images c.drive.new.engine.store c.drive.new.disk) (sym c.drive.ensures.leaves.same.flow)
-    (works_on D.tells D.held D.moment D.images e0.flow e0.most c.drive.new.engine.journal c.in-Limit.limit c.drive.new.engine.store c.drive.new.disk (c.drive.ensures.leaves.why.limited c.in-Limit.limit (c.in-Err-drive.is ∙ ap Err c.in-Limit.is)))
 
 pub returns-in-Limit-clause-headline : goal.returns-in-Limit-clause-headline
 returns-in-Limit-clause-headline g c telling in_telling out_telling state first start run =
@@ -176,8 +174,7 @@ returns-in-Limit-clause-headline g c telling in_telling out_telling state first 
     let works : e.failed ≡ false = works_at_limit c.drive.result e.failed limit was c.drive.ensures.leaves.failed in
     let begins = begun D.moment D.images flow c.args.store c.args.most c.args.checkpoint c.in-Ok.engine is opened first c.args.disk.now start (g.C.Clock.time c.args.clock.now) left (g.I.Inbox.left c.new.new.inbox) out c.new.ensures.left
     (c.in-Ok.ensures.listed.coming in_telling state standing) run in
-    let e0 : EngineState = c.in-Ok.engine in
-    let work = works_on D.tells D.held D.moment D.images e0.flow e0.most e.journal limit e.store c.drive.new.disk (c.drive.ensures.leaves.why.limited limit was) in
+    let work = (c.drive.ensures.leaves.usable works).work in
     let stopped = subst (λ (x : EngineError). StopsInTurn x D.tells D.held D.moment D.images e opened first start time c.drive.new.disk now_left now_out) c.in-Limit.is
     (c.in-Err-drive.ensures.run telling in_telling out_telling opened first start (g.C.Clock.time c.args.clock.now) (omega arith) begins) in
     let stop = stopped.stops in
@@ -185,7 +182,7 @@ returns-in-Limit-clause-headline g c telling in_telling out_telling state first 
     c.close-in-Err-drive.ensures.refusal.reopen c.close-in-Err-drive.ensures.refusal.kinds in
     let ran =
     closes_limited D.tells D.held D.moment D.images c.faults_end_a_run.ensures.between e flow c.args.store.lot (c.drive.ensures.leaves.same.flow ∙ is.flow_is) (c.drive.ensures.leaves.same.lot ∙ ap (λ (t : StoreState). t.lot) is.store_is)
-    (work.flow_is ∙ ap identity_of (sym c.drive.ensures.leaves.same.flow)) opened first c.drive.new.disk c.close-in-Err-drive.new.disk now_left now_out start time c.leave-in-Err-drive.result.ended (c.close-in-Err-drive.ensures.states works)
+    work.flow_is opened first c.drive.new.disk c.close-in-Err-drive.new.disk now_left now_out start time c.leave-in-Err-drive.result.ended (c.close-in-Err-drive.ensures.states works)
     (laws.held_is_left c.close-in-Err-drive.new.disk telling) c.close-in-Err-drive.result c.run_ends.ensures.limited limit stopped.next stop closes telling in (
       e.journal,
       stopped.next,
@@ -270,7 +267,7 @@ returns-in_default g c =
         damaged = λ damage ends. c.drive.ensures.leaves.why.damaged damage (c.in-Err-drive.is ∙ ap Err (by_damage error damage (sym so ∙ ends)));
         faults_counted =
             ends_on_faults c.drive.result error end (D.faults c.args.disk.now) (D.faults c.drive.new.disk) (g.I.Inbox.faults c.args.inbox.now) (g.I.Inbox.faults c.drive.new.inbox) (g.O.Outbox.faults c.args.outbox.now) (g.O.Outbox.faults c.drive.new.outbox)
-            c.in-Err-drive.is (λ reopen. c.drive.ensures.leaves.works (c.in-Err-drive.is ∙ ap Err reopen)) so
+            c.in-Err-drive.is (λ reopen. c.drive.ensures.leaves.works (c.in-Err-drive.is ∙ ap Err reopen)) (λ unknown. c.drive.ensures.leaves.known (c.in-Err-drive.is ∙ ap Err unknown)) so
             (each_counts_after c.drive.result (D.faults c.args.disk.now) (D.faults c.args.disk.now) (D.faults c.drive.new.disk) (g.I.Inbox.faults c.args.inbox.now) (g.I.Inbox.faults c.new.new.inbox) (g.I.Inbox.faults c.drive.new.inbox)
             (g.O.Outbox.faults c.args.outbox.now) (g.O.Outbox.faults c.args.outbox.now) (g.O.Outbox.faults c.drive.new.outbox) (omega arith) c.new.ensures.cause.never_falls (omega arith) c.drive.ensures.cause);
       };

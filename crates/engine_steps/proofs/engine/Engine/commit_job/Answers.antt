@@ -1,14 +1,18 @@
-use Rattle.std.proofs.Common.{◌≡◌, true, false, inl, ap, sym, ◌∙◌, arith, rules}
+use Rattle.std.proofs.Common.{◌≡◌, true, false, inl, ap, refl, subst, sym, ◌∙◌, arith, rules}
 use Rattle.std.specs.Prelude.{Err, IsErrOf, Ok, Some}
 use Rattle.std.proofs.lemmas.Result.{err_from_is_err_and}
 use Rattle.run_law.proofs.Writing.{reads_only}
 use Rattle.engine_session.specs.Done.{step_done}
+use Rattle.engine_steps.specs.Ending.{SessionHasEnded}
 use Rattle.engine_steps.specs.Engine.{EngineState}
+use Rattle.engine_steps.specs.Flights.{is_in_flight}
+use Rattle.engine_steps.specs.Ready.{IsReadyInMemory}
 use Rattle.engine_steps.specs.Running.{undone_step}
 use Rattle.engine_steps.specs.declared.error.EngineError.{EngineError}
 use Rattle.engine_steps.proofs.Goes.{spared_by_read, stops_unmoved}
 use Rattle.engine_steps.proofs.AsRead.{as_read, lot_read, read_well, same_error}
-use Rattle.engine_steps.proofs.Reread.{still_ready, still_runs, still_stands}
+use Rattle.engine_steps.proofs.Reread.{still_goes_on, still_ready, still_runs, still_stands}
+use Rattle.engine_steps.proofs.SessionEnded.{ended_leaves, ended_runs, ended_same_run, ended_unjournaled}
 use Rattle.run_law.specs.Puts.{outgoing}
 use Rattle.engine_steps.proofs.engine.Engine.commit_job.Goals as goal
 
@@ -43,6 +47,7 @@ returns-in_err-stands-clause-leaves g c = record {
       still_ready D.tells D.held D.moment D.images c.args.disk.now c.stands.new.disk c.stands.ensures.reread.disk e c.stands.new.self same c.requires.may.ready;
   left = search rules;
   works = search rules;
+  known = search rules;
   failed = search rules;
   from_put = search rules;
   why = search rules;
@@ -52,29 +57,103 @@ pub returns-in_err-stands-clause-alone : goal.returns-in_err-stands-clause-alone
 returns-in_err-stands-clause-alone g c = record {
   same = search rules;
   log = search rules;
+  next_session = search rules;
   alone = reads_only g.D.Disk.moment g.D.Disk.images c.args.self.now.store.log.number g.D.Disk.held c.args.disk.now c.stands.new.disk c.stands.ensures.reread.disk;
 }
+
+pub give_back-requires-clause-ready : goal.give_back-requires-clause-ready
+give_back-requires-clause-ready g c =
+    let e : EngineState = c.args.self.now in
+    let same = as_read c.stands.result e c.stands.new.self c.stands.ensures.reread.store c.stands.ensures.reread.rest (λ disk. read_well c.in_ok-stands.field-0 EngineError.Disk (sym c.in_ok-stands.was ∙ disk)) in
+    subst IsReadyInMemory (sym same) c.requires.may.ready.memory
+
+pub give_back-requires-clause-flying : goal.give_back-requires-clause-flying
+give_back-requires-clause-flying g c =
+    let e : EngineState = c.args.self.now in
+    let same = as_read c.stands.result e c.stands.new.self c.stands.ensures.reread.store c.stands.ensures.reread.rest (λ disk. read_well c.in_ok-stands.field-0 EngineError.Disk (sym c.in_ok-stands.was ∙ disk)) in
+    ap (λ (x : EngineState). is_in_flight c.args.done.session x.out) same ∙ c.requires.flying
+
+pub returns-then-not-branch-clause-entered : goal.returns-then-not-branch-clause-entered
+returns-then-not-branch-clause-entered g c =
+    let e : EngineState = c.args.self.now in
+    let new : EngineState = c.give_back.new.self in
+    let same = as_read c.stands.result e c.stands.new.self c.stands.ensures.reread.store c.stands.ensures.reread.rest (λ disk. read_well c.in_ok-stands.field-0 EngineError.Disk (sym c.in_ok-stands.was ∙ disk)) in
+    let ended = subst (λ (x : EngineState). SessionHasEnded c.args.done.session x new) same c.give_back.ensures.ended in
+    record {
+      journal = (ended_unjournaled c.args.done.session e new ended, ended);
+      inbox = λ telling. c.stands.ensures.reread.inbox;
+      outbox = λ telling. c.stands.ensures.reread.outbox;
+    }
+
+pub returns-then-not-branch-clause-stands : goal.returns-then-not-branch-clause-stands
+returns-then-not-branch-clause-stands g c =
+    let e : EngineState = c.args.self.now in
+    let new : EngineState = c.give_back.new.self in
+    let was = c.in_ok-stands.was in
+    let there = c.in_ok-stands.is in
+    let no = c.if-not-branch.true in
+    let so : c.stands.result ≡ Ok false = cc in
+    let same = as_read c.stands.result e c.stands.new.self c.stands.ensures.reread.store c.stands.ensures.reread.rest (λ disk. read_well c.in_ok-stands.field-0 EngineError.Disk (sym c.in_ok-stands.was ∙ disk)) in
+    let ended = subst (λ (x : EngineState). SessionHasEnded c.args.done.session x new) same c.give_back.ensures.ended in
+    record {
+      stands = inl (record {
+        journal = ap (λ (x : EngineState). x.journal) ended.rest;
+        limit = λ limit is. absurd cc;
+        failed = λ failed. inl (sym (ap (λ (x : EngineState). x.failed) ended.rest) ∙ failed);
+      });
+      changed = λ is. (c.stands.ensures.otherwise so, c.stands.ensures.reread.disk, c.stands.ensures.reread.outbox);
+    }
 
 pub returns-then-not-branch-clause-run : goal.returns-then-not-branch-clause-run
 returns-then-not-branch-clause-run g c telling in_telling out_telling =
     let D = g.D.Disk in
     let e : EngineState = c.args.self.now in
     let left = g.I.Inbox.left c.args.inbox.now in
+    let now_left = g.I.Inbox.left c.stands.new.inbox in
     let out = outgoing g.O.Outbox.standing g.O.Outbox.puts c.args.outbox.now in
+    let now_out = outgoing g.O.Outbox.standing g.O.Outbox.puts c.stands.new.outbox in
     let same = as_read c.stands.result e c.stands.new.self c.stands.ensures.reread.store c.stands.ensures.reread.rest (λ disk. read_well c.in_ok-stands.field-0 EngineError.Disk (sym c.in_ok-stands.was ∙ disk)) in
     record {
       goes_on = λ other works unmoved opened first start time within run.
-          still_runs D.tells D.held D.moment D.images c.args.disk.now c.stands.new.disk c.stands.ensures.reread.disk c.run_goes_on.ensures.spared e c.stands.new.self same opened first start time time (omega arith)
-          left (g.I.Inbox.left c.stands.new.inbox) out (outgoing g.O.Outbox.standing g.O.Outbox.puts c.stands.new.outbox) c.stands.ensures.reread.inbox c.stands.ensures.reread.outbox run;
+          ended_runs c.args.done.session c.stands.new.self c.give_back.new.self c.give_back.ensures.ended D.moment D.images c.stands.new.disk now_left opened first start time now_out
+          (still_runs D.tells D.held D.moment D.images c.args.disk.now c.stands.new.disk c.stands.ensures.reread.disk c.run_goes_on.ensures.spared e c.stands.new.self same opened first start time time (omega arith)
+          left now_left out now_out c.stands.ensures.reread.inbox c.stands.ensures.reread.outbox run);
       stopped = λ error is. absurd cc;
     }
 
+pub returns-then-not-branch-clause-leaves : goal.returns-then-not-branch-clause-leaves
+returns-then-not-branch-clause-leaves g c =
+    let D = g.D.Disk in
+    let e : EngineState = c.args.self.now in
+    let new : EngineState = c.give_back.new.self in
+    let left = g.I.Inbox.left c.args.inbox.now in
+    let now_left = g.I.Inbox.left c.stands.new.inbox in
+    let same = as_read c.stands.result e c.stands.new.self c.stands.ensures.reread.store c.stands.ensures.reread.rest (λ disk. read_well c.in_ok-stands.field-0 EngineError.Disk (sym c.in_ok-stands.was ∙ disk)) in
+    let ended = subst (λ (x : EngineState). SessionHasEnded c.args.done.session x new) same c.give_back.ensures.ended in
+    ended_leaves c.args.done.session e new ended D.moment D.images c.stands.new.disk now_left D.tells D.held g.I.Inbox.tells
+    (still_goes_on D.tells D.held D.moment D.images c.args.disk.now c.stands.new.disk c.stands.ensures.reread.disk e e refl g.I.Inbox.tells left now_left c.stands.ensures.reread.inbox c.requires.may) c.give_back.ensures.ready
+
 pub returns-then-not-branch-clause-alone : goal.returns-then-not-branch-clause-alone
-returns-then-not-branch-clause-alone g c = record {
-  same = search rules;
-  log = search rules;
-  alone = reads_only g.D.Disk.moment g.D.Disk.images c.args.self.now.store.log.number g.D.Disk.held c.args.disk.now c.stands.new.disk c.stands.ensures.reread.disk;
-}
+returns-then-not-branch-clause-alone g c =
+    let D = g.D.Disk in
+    let e : EngineState = c.args.self.now in
+    let new : EngineState = c.give_back.new.self in
+    let same = as_read c.stands.result e c.stands.new.self c.stands.ensures.reread.store c.stands.ensures.reread.rest (λ disk. read_well c.in_ok-stands.field-0 EngineError.Disk (sym c.in_ok-stands.was ∙ disk)) in
+    let ended = subst (λ (x : EngineState). SessionHasEnded c.args.done.session x new) same c.give_back.ensures.ended in
+    record {
+      same = ended_same_run c.args.done.session e new ended;
+      log = ap (λ (x : EngineState). x.store.log.number) ended.rest;
+      next_session = ap (λ (x : EngineState). x.next_session) ended.rest;
+      alone = reads_only D.moment D.images e.store.log.number D.held c.args.disk.now c.stands.new.disk c.stands.ensures.reread.disk;
+    }
+
+pub enter-requires-clause-may : goal.enter-requires-clause-may
+enter-requires-clause-may g c κs within =
+    let D = g.D.Disk in
+    let e : EngineState = c.args.self.now in
+    let same = as_read c.stands.result e c.stands.new.self c.stands.ensures.reread.store c.stands.ensures.reread.rest (λ disk. read_well c.in_ok-stands.field-0 EngineError.Disk (sym c.in_ok-stands.was ∙ disk)) in
+    still_goes_on D.tells D.held D.moment D.images c.args.disk.now c.stands.new.disk c.stands.ensures.reread.disk e c.stands.new.self same g.I.Inbox.tells (g.I.Inbox.left c.args.inbox.now) (g.I.Inbox.left c.stands.new.inbox)
+    c.stands.ensures.reread.inbox c.requires.may
 
 pub enter-requires-clause-stands : goal.enter-requires-clause-stands
 enter-requires-clause-stands g c κs within =
@@ -124,21 +203,4 @@ returns-clause-run g c telling in_telling out_telling =
           (still_runs D.tells D.held D.moment D.images c.args.disk.now c.stands.new.disk c.stands.ensures.reread.disk c.run_goes_on.ensures.spared e c.stands.new.self same opened first start time time (omega arith)
           left (g.I.Inbox.left c.stands.new.inbox) out (outgoing g.O.Outbox.standing g.O.Outbox.puts c.stands.new.outbox) c.stands.ensures.reread.inbox c.stands.ensures.reread.outbox run);
       stopped = λ error is. absurd cc;
-    }
-
-pub returns-then-not-branch-clause-stands : goal.returns-then-not-branch-clause-stands
-returns-then-not-branch-clause-stands g c =
-    let e : EngineState = c.args.self.now in
-    let was = c.in_ok-stands.was in
-    let there = c.in_ok-stands.is in
-    let no = c.if-not-branch.true in
-    let so : c.stands.result ≡ Ok false = cc in
-    let same = as_read c.stands.result e c.stands.new.self c.stands.ensures.reread.store c.stands.ensures.reread.rest (λ disk. read_well c.in_ok-stands.field-0 EngineError.Disk (sym c.in_ok-stands.was ∙ disk)) in
-    record {
-      stands = inl (record {
-        journal = ap (λ (x : EngineState). x.journal) same;
-        limit = λ limit is. absurd cc;
-        failed = λ failed. inl (sym (ap (λ (x : EngineState). x.failed) same) ∙ failed);
-      });
-      changed = λ is. (c.stands.ensures.otherwise so, same, c.stands.ensures.reread.disk, c.stands.ensures.reread.outbox);
     }

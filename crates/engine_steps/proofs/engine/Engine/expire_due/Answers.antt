@@ -12,6 +12,7 @@ use Rattle.engine_queues.specs.Queues.{queue_seen}
 use Rattle.run_law.specs.Ending.{journal_full}
 use Rattle.run_law.specs.Work.{IsRefused}
 use Rattle.engine_steps.specs.Engine.{EngineState, IsOfSameRun}
+use Rattle.engine_steps.specs.Flights.{taken_by}
 use Rattle.engine_steps.specs.Journal.{journaled}
 use Rattle.engine_steps.specs.Ready.{EngineIsReady, expiry_in}
 use Rattle.engine_steps.specs.Running.{IsLimited, IsRunning, Stops, undone_step}
@@ -19,9 +20,11 @@ use Rattle.engine_steps.specs.Committing.{IsAtWorkWithQueues}
 use Rattle.engine_steps.specs.Tending.{HasExpired, IsKeptWithout, StepIsDone, counted_on}
 use Rattle.engine_steps.specs.TendingParts.{RunsOnTended}
 use Rattle.engine_steps.specs.declared.error.EngineError.{EngineError}
-use Rattle.engine_steps.proofs.Expired.{are_of, due_goes, due_kept}
+use Rattle.engine_steps.proofs.Expired.{are_of, at_rest_of, due_goes, due_kept}
+use Rattle.engine_steps.proofs.Flights.{taken_live}
 use Rattle.engine_steps.proofs.RunsBehind.{tended_idle}
 use Rattle.engine_steps.proofs.RunsOn.{runs_idle, runs_stepped, runs_unwritten, stops_failed, stops_limited}
+use Rattle.engine_steps.proofs.StaysReady.{ready_expired}
 use Rattle.engine_steps.proofs.Tends.{journaled_kept}
 use Rattle.engine_steps.proofs.engine.Engine.expire_due.Goals as goal
 
@@ -42,16 +45,16 @@ returns-then-entries-self-clause-run g c telling =
     let images = g.D.Disk.images in
     let disk = c.args.disk.now in
     let i = c.self.inside in
-    let e : EngineState = record { flow = i.flow.now; store = i.store; queues = i.queues; listing = i.listing; last = i.last; journal = i.journal.items; most = i.most; checkpoint = i.checkpoint; since_reclaim = i.since_reclaim; failed = i.has_failed; tended = i.tended } in
+    let e : EngineState = record { flow = i.flow.now; store = i.store; queues = i.queues; listing = i.listing; last = i.last; journal = i.journal.items; most = i.most; checkpoint = i.checkpoint; since_reclaim = i.since_reclaim; failed = i.has_failed; tended = i.tended; out = i.out.items; next_session = i.next_session } in
     let laws = g.met.D.Disk g.world.𝓛 g.world.𝓜 g.world.𝓡 ((λ s x. x), (λ x. x), (λ x. x), λ x. x) in
     let ready = subst (λ (u : EngineState). EngineIsReady tells held moment images u disk) (sym c.self.view_is) c.requires.ready in
     let expiry = c.in-Some.expiry in
     let due : due_expiry i.flow.now (queue_seen i.queues) c.args.moment ≡ Some (expiry.connection, expiry.numbers)
-    = sym (c.in_ok-expiry.ensures i.flow.now (are_of i.flow.now (kept_by i.store) i.queues ready.queues)) ∙ ap (option_map (λ expiry. (expiry.connection, expiry.numbers))) c.in-Some.is in
-    let kept = due_kept c.what_is_kept_is_seen.ensures.shown i.flow.now (kept_by i.store) i.queues expiry.connection expiry.numbers c.args.moment c.holds_its_state.ensures.kept.0 ready.work.flow_is ready.queues due in
+    = sym (c.in_ok-expiry.ensures i.flow.now (are_of i.flow.now (kept_by i.store) (taken_by i.out.items) i.queues ready.memory.queues)) ∙ ap (option_map (λ expiry. (expiry.connection, expiry.numbers))) c.in-Some.is in
+    let kept = due_kept c.what_is_kept_is_seen.ensures.shown i.flow.now (kept_by i.store) (taken_by i.out.items) i.queues expiry.connection expiry.numbers c.args.moment c.holds_its_state.ensures.kept.0 ready.work.flow_is ready.memory.queues due in
     let sizes = c.what_is_kept_is_seen.ensures.sizes i.store (held disk) (c.holds_its_state.ensures.held telling) in
     let count : c.entries.result ≡ length i.journal.items = c.entries.ensures ∙ ap (λ (u : EngineState). length u.journal) (sym c.self.view_is) in
-    let full : length e.journal ≡ e.most = omega (arith, count, c.if-entries-self.true, ready.entries) in
+    let full : length e.journal ≡ e.most = omega (arith, count, c.if-entries-self.true, ready.memory.entries) in
     record {
       goes_on = λ well opened first start time left out by run. runs_idle tells held moment images c.args.self.now opened first disk start time c.args.moment by left out run c.run_goes_on.ensures.spared;
       idle = λ well none opened first start time left out run. run;
@@ -60,7 +63,7 @@ returns-then-entries-self-clause-run g c telling =
           (Expire expiry.connection expiry.numbers c.args.moment) (journal_full i.most) by
           c.run_goes_on.ensures.spared refl refl refl refl
           (λ m stands.
-          let goes = due_goes c.what_is_kept_is_seen.ensures.seen c.due_expiries_may_expire.ensures i.flow.now (kept_by i.store) expiry.connection expiry.numbers c.args.moment c.holds_its_state.ensures.kept.0 c.holds_its_state.ensures.kept.1
+          let goes = due_goes c.what_is_kept_is_seen.ensures.seen c.due_expiries_may_expire.ensures i.flow.now (kept_by i.store) (taken_by i.out.items) expiry.connection expiry.numbers c.args.moment c.holds_its_state.ensures.kept.0 c.holds_its_state.ensures.kept.1
           ready.work.flow_is kept (content_in (held disk)) m sizes (c.holds_its_state.ensures.tied telling i.flow.now ready.work m stands) in
           record { after = goes.after; goes = goes.goes; is_so = (stands (held disk) (laws.held_is_left disk telling), inr (ap journal_full (sym full))) })
           (subst (λ (u : EngineState). IsRunning moment images u opened first start time disk left out) (sym c.self.view_is) run) in
@@ -84,11 +87,23 @@ returns-in_err-reserve-clause-run g c telling =
     let images = g.D.Disk.images in
     let disk = c.args.disk.now in
     let i = c.self.inside in
-    let e : EngineState = record { flow = i.flow.now; store = i.store; queues = i.queues; listing = i.listing; last = i.last; journal = i.journal.items; most = i.most; checkpoint = i.checkpoint; since_reclaim = i.since_reclaim; failed = i.has_failed; tended = i.tended } in
+    let e : EngineState = record { flow = i.flow.now; store = i.store; queues = i.queues; listing = i.listing; last = i.last; journal = i.journal.items; most = i.most; checkpoint = i.checkpoint; since_reclaim = i.since_reclaim; failed = i.has_failed; tended = i.tended; out = i.out.items; next_session = i.next_session } in
     let p = err_from_is_err_and c.from_residual-in_err-reserve.result c.from_residual-in_err-reserve.ensures.1 in
     subst (λ (journal : List Entry). RunsOnTended c.from_residual-in_err-reserve.result true tells held moment images c.args.moment c.args.self.now (record e { journal = journal }) disk disk) (sym {A = List Entry} c.reserve.ensures.items)
     (subst (λ (u : EngineState). RunsOnTended c.from_residual-in_err-reserve.result true tells held moment images c.args.moment u e disk disk) c.self.view_is
     (tended_idle true c.run_goes_on.ensures.spared c.faults_end_a_run.ensures.between e disk c.args.moment (λ error is. cc (p.1, p.2, is))))
+
+pub expire-expired-requires-clause-work : goal.expire-expired-requires-clause-work
+expire-expired-requires-clause-work g c κs within =
+    let i = c.self.inside in
+    let ready = subst (λ (u : EngineState). EngineIsReady g.D.Disk.tells g.D.Disk.held g.D.Disk.moment g.D.Disk.images u c.args.disk.now) (sym c.self.view_is) c.requires.ready in (
+      taken_by i.out.items,
+      record {
+        work = ready.work;
+        are = ready.memory.queues;
+        live = taken_live i.flow.now (kept_by i.store) i.listing i.next_session i.out.items ready.memory.flights;
+      },
+    )
 
 pub returns-in_err-expired-clause-run : goal.returns-in_err-expired-clause-run
 returns-in_err-expired-clause-run g c telling =
@@ -99,14 +114,14 @@ returns-in_err-expired-clause-run g c telling =
     let old = c.args.disk.now in
     let new = c.expire-expired.new.disk in
     let i = c.self.inside in
-    let e : EngineState = record { flow = i.flow.now; store = i.store; queues = i.queues; listing = i.listing; last = i.last; journal = i.journal.items; most = i.most; checkpoint = i.checkpoint; since_reclaim = i.since_reclaim; failed = i.has_failed; tended = i.tended } in
+    let e : EngineState = record { flow = i.flow.now; store = i.store; queues = i.queues; listing = i.listing; last = i.last; journal = i.journal.items; most = i.most; checkpoint = i.checkpoint; since_reclaim = i.since_reclaim; failed = i.has_failed; tended = i.tended; out = i.out.items; next_session = i.next_session } in
     let f : EngineState = record e { store = c.expire-expired.new.store; queues = c.expire-expired.new.queues; journal = c.note.new.journal.items; tended = None } in
     let same : IsOfSameRun e f = record { flow = refl; most = refl; checkpoint = refl; too_large = refl; lot = c.expire-expired.ensures.commits.lot; id = c.expire-expired.ensures.commits.id } in
     let ready = subst (λ (u : EngineState). EngineIsReady tells held moment images u old) (sym c.self.view_is) c.requires.ready in
     let expiry = c.in-Some.expiry in
     let due : due_expiry i.flow.now (queue_seen i.queues) c.args.moment ≡ Some (expiry.connection, expiry.numbers)
-    = sym (c.in_ok-expiry.ensures i.flow.now (are_of i.flow.now (kept_by i.store) i.queues ready.queues)) ∙ ap (option_map (λ expiry. (expiry.connection, expiry.numbers))) c.in-Some.is in
-    let kept = due_kept c.what_is_kept_is_seen.ensures.shown i.flow.now (kept_by i.store) i.queues expiry.connection expiry.numbers c.args.moment c.holds_its_state.ensures.kept.0 ready.work.flow_is ready.queues due in
+    = sym (c.in_ok-expiry.ensures i.flow.now (are_of i.flow.now (kept_by i.store) (taken_by i.out.items) i.queues ready.memory.queues)) ∙ ap (option_map (λ expiry. (expiry.connection, expiry.numbers))) c.in-Some.is in
+    let kept = due_kept c.what_is_kept_is_seen.ensures.shown i.flow.now (kept_by i.store) (taken_by i.out.items) i.queues expiry.connection expiry.numbers c.args.moment c.holds_its_state.ensures.kept.0 ready.work.flow_is ready.memory.queues due in
     let sizes = c.what_is_kept_is_seen.ensures.sizes i.store (held old) (c.holds_its_state.ensures.held telling) in
     let one = Expire expiry.connection expiry.numbers c.args.moment in
     let noted : c.note.new.journal.items ≡ journaled c.expire-expired.result c.in_ok-step.step c.reserve.new.self.items = c.note.ensures in
@@ -151,12 +166,12 @@ returns-in_err-expired-clause-lets_go g c =
     let old = c.args.disk.now in
     let new = c.expire-expired.new.disk in
     let i = c.self.inside in
-    let e : EngineState = record { flow = i.flow.now; store = i.store; queues = i.queues; listing = i.listing; last = i.last; journal = i.journal.items; most = i.most; checkpoint = i.checkpoint; since_reclaim = i.since_reclaim; failed = i.has_failed; tended = i.tended } in
+    let e : EngineState = record { flow = i.flow.now; store = i.store; queues = i.queues; listing = i.listing; last = i.last; journal = i.journal.items; most = i.most; checkpoint = i.checkpoint; since_reclaim = i.since_reclaim; failed = i.has_failed; tended = i.tended; out = i.out.items; next_session = i.next_session } in
     let f : EngineState = record e { store = c.expire-expired.new.store; queues = c.expire-expired.new.queues; journal = c.note.new.journal.items; tended = None } in
     let ready = subst (λ (u : EngineState). EngineIsReady tells held moment images u old) (sym c.self.view_is) c.requires.ready in
     let expiry = c.in-Some.expiry in
     let due : due_expiry i.flow.now (queue_seen i.queues) c.args.moment ≡ Some (expiry.connection, expiry.numbers)
-    = sym (c.in_ok-expiry.ensures i.flow.now (are_of i.flow.now (kept_by i.store) i.queues ready.queues)) ∙ ap (option_map (λ expiry. (expiry.connection, expiry.numbers))) c.in-Some.is in
+    = sym (c.in_ok-expiry.ensures i.flow.now (are_of i.flow.now (kept_by i.store) (taken_by i.out.items) i.queues ready.memory.queues)) ∙ ap (option_map (λ expiry. (expiry.connection, expiry.numbers))) c.in-Some.is in
     let one = Expire expiry.connection expiry.numbers c.args.moment in
     let noted : c.note.new.journal.items ≡ journaled c.expire-expired.result c.in_ok-step.step c.reserve.new.self.items = c.note.ensures in
     let step_is : c.in_ok-step.step ≡ one = c.in_ok-step.ensures in
@@ -202,7 +217,7 @@ returns-clause-due g c =
     let i = c.self.inside in
     let ready = subst (λ (u : EngineState). EngineIsReady g.D.Disk.tells g.D.Disk.held g.D.Disk.moment g.D.Disk.images u c.args.disk.now) (sym c.self.view_is) c.requires.ready in
     let due : due_expiry i.flow.now (queue_seen i.queues) c.args.moment ≡ Some (c.in-Some.expiry.connection, c.in-Some.expiry.numbers)
-    = sym (c.in_ok-expiry.ensures i.flow.now (are_of i.flow.now (kept_by i.store) i.queues ready.queues)) ∙ ap (option_map (λ expiry. (expiry.connection, expiry.numbers))) c.in-Some.is in
+    = sym (c.in_ok-expiry.ensures i.flow.now (are_of i.flow.now (kept_by i.store) (taken_by i.out.items) i.queues ready.memory.queues)) ∙ ap (option_map (λ expiry. (expiry.connection, expiry.numbers))) c.in-Some.is in
     subst (λ (u : EngineState). true ≡ is_some (due_expiry u.flow (queue_seen u.queues) c.args.moment)) c.self.view_is (sym (ap is_some due))
 
 pub returns-clause-run : goal.returns-clause-run
@@ -214,14 +229,14 @@ returns-clause-run g c telling =
     let old = c.args.disk.now in
     let new = c.expire-expired.new.disk in
     let i = c.self.inside in
-    let e : EngineState = record { flow = i.flow.now; store = i.store; queues = i.queues; listing = i.listing; last = i.last; journal = i.journal.items; most = i.most; checkpoint = i.checkpoint; since_reclaim = i.since_reclaim; failed = i.has_failed; tended = i.tended } in
+    let e : EngineState = record { flow = i.flow.now; store = i.store; queues = i.queues; listing = i.listing; last = i.last; journal = i.journal.items; most = i.most; checkpoint = i.checkpoint; since_reclaim = i.since_reclaim; failed = i.has_failed; tended = i.tended; out = i.out.items; next_session = i.next_session } in
     let f : EngineState = record e { store = c.expire-expired.new.store; queues = c.expire-expired.new.queues; journal = c.note.new.journal.items; since_reclaim = c.saturating_add-self-inside.result; tended = None } in
     let same : IsOfSameRun e f = record { flow = refl; most = refl; checkpoint = refl; too_large = refl; lot = c.expire-expired.ensures.commits.lot; id = c.expire-expired.ensures.commits.id } in
     let ready = subst (λ (u : EngineState). EngineIsReady tells held moment images u old) (sym c.self.view_is) c.requires.ready in
     let expiry = c.in-Some.expiry in
     let due : due_expiry i.flow.now (queue_seen i.queues) c.args.moment ≡ Some (expiry.connection, expiry.numbers)
-    = sym (c.in_ok-expiry.ensures i.flow.now (are_of i.flow.now (kept_by i.store) i.queues ready.queues)) ∙ ap (option_map (λ expiry. (expiry.connection, expiry.numbers))) c.in-Some.is in
-    let kept = due_kept c.what_is_kept_is_seen.ensures.shown i.flow.now (kept_by i.store) i.queues expiry.connection expiry.numbers c.args.moment c.holds_its_state.ensures.kept.0 ready.work.flow_is ready.queues due in
+    = sym (c.in_ok-expiry.ensures i.flow.now (are_of i.flow.now (kept_by i.store) (taken_by i.out.items) i.queues ready.memory.queues)) ∙ ap (option_map (λ expiry. (expiry.connection, expiry.numbers))) c.in-Some.is in
+    let kept = due_kept c.what_is_kept_is_seen.ensures.shown i.flow.now (kept_by i.store) (taken_by i.out.items) i.queues expiry.connection expiry.numbers c.args.moment c.holds_its_state.ensures.kept.0 ready.work.flow_is ready.memory.queues due in
     let sizes = c.what_is_kept_is_seen.ensures.sizes i.store (held old) (c.holds_its_state.ensures.held telling) in
     let one = Expire expiry.connection expiry.numbers c.args.moment in
     let noted : c.note.new.journal.items ≡ journaled c.expire-expired.result c.in_ok-step.step c.reserve.new.self.items = c.note.ensures in
@@ -238,7 +253,7 @@ returns-clause-run g c telling =
           (λ m stands. subst (λ (r : Result ℕ EngineError). OnOk r (StepIsDone i.flow.now moment images i.store.lot m one old new)) made (c.expire-expired.ensures.step telling m stands).done)
           (subst (λ (u : EngineState). IsRunning moment images u opened first start time old left out) (sym c.self.view_is) run);
       idle = λ well none opened first start time left out run. absurd (none refl);
-      stopped = λ error is opened first start time left out by run. absurd cc;
+      stopped = λ error is opened first start time left out by run. absurd {A = Stops error tells held moment images f opened first start c.args.moment new left out (undone_step error (expiry_in c.args.self.now c.args.moment))} cc;
     }
 
 pub returns-clause-lets_go : goal.returns-clause-lets_go
@@ -250,12 +265,12 @@ returns-clause-lets_go g c =
     let old = c.args.disk.now in
     let new = c.expire-expired.new.disk in
     let i = c.self.inside in
-    let e : EngineState = record { flow = i.flow.now; store = i.store; queues = i.queues; listing = i.listing; last = i.last; journal = i.journal.items; most = i.most; checkpoint = i.checkpoint; since_reclaim = i.since_reclaim; failed = i.has_failed; tended = i.tended } in
+    let e : EngineState = record { flow = i.flow.now; store = i.store; queues = i.queues; listing = i.listing; last = i.last; journal = i.journal.items; most = i.most; checkpoint = i.checkpoint; since_reclaim = i.since_reclaim; failed = i.has_failed; tended = i.tended; out = i.out.items; next_session = i.next_session } in
     let f : EngineState = record e { store = c.expire-expired.new.store; queues = c.expire-expired.new.queues; journal = c.note.new.journal.items; since_reclaim = c.saturating_add-self-inside.result; tended = None } in
     let ready = subst (λ (u : EngineState). EngineIsReady tells held moment images u old) (sym c.self.view_is) c.requires.ready in
     let expiry = c.in-Some.expiry in
     let due : due_expiry i.flow.now (queue_seen i.queues) c.args.moment ≡ Some (expiry.connection, expiry.numbers)
-    = sym (c.in_ok-expiry.ensures i.flow.now (are_of i.flow.now (kept_by i.store) i.queues ready.queues)) ∙ ap (option_map (λ expiry. (expiry.connection, expiry.numbers))) c.in-Some.is in
+    = sym (c.in_ok-expiry.ensures i.flow.now (are_of i.flow.now (kept_by i.store) (taken_by i.out.items) i.queues ready.memory.queues)) ∙ ap (option_map (λ expiry. (expiry.connection, expiry.numbers))) c.in-Some.is in
     let one = Expire expiry.connection expiry.numbers c.args.moment in
     let noted : c.note.new.journal.items ≡ journaled c.expire-expired.result c.in_ok-step.step c.reserve.new.self.items = c.note.ensures in
     let step_is : c.in_ok-step.step ≡ one = c.in_ok-step.ensures in
@@ -290,6 +305,7 @@ returns-clause-leaves g c =
     let old = c.args.disk.now in
     let new = c.expire-expired.new.disk in
     let i = c.self.inside in
+    let e : EngineState = record { flow = i.flow.now; store = i.store; queues = i.queues; listing = i.listing; last = i.last; journal = i.journal.items; most = i.most; checkpoint = i.checkpoint; since_reclaim = i.since_reclaim; failed = i.has_failed; tended = i.tended; out = i.out.items; next_session = i.next_session } in
     let ready = subst (λ (u : EngineState). EngineIsReady tells held moment images u old) (sym c.self.view_is) c.requires.ready in
     let expiry = c.in-Some.expiry in
     let one = Expire expiry.connection expiry.numbers c.args.moment in
@@ -301,21 +317,31 @@ returns-clause-leaves g c =
     = c.in_ok-expired.was ∙ ap Ok (subst (λ (r : Result ℕ EngineError). IfOk r (λ at. at ≡ moment new)) c.in_ok-expired.was c.expire-expired.ensures.commits.moment_is) in
     let journal : c.note.new.journal.items ≡ i.journal.items ++ record { step = one; acked = Some (moment new) } ∷ [] = grown ∙ ap (λ (r : Result ℕ EngineError). journaled r one i.journal.items) made in
     let count : c.entries.result ≡ length i.journal.items = c.entries.ensures ∙ ap (λ (u : EngineState). length u.journal) (sym c.self.view_is) in
-    let work = subst (λ (r : Result ℕ EngineError). OnOk r (IsAtWorkWithQueues i.flow.now tells held moment images c.expire-expired.new.store c.expire-expired.new.queues new)) made c.expire-expired.ensures.work in
+    let due : due_expiry i.flow.now (queue_seen i.queues) c.args.moment ≡ Some (expiry.connection, expiry.numbers)
+    = sym (c.in_ok-expiry.ensures i.flow.now (are_of i.flow.now (kept_by i.store) (taken_by i.out.items) i.queues ready.memory.queues)) ∙ ap (option_map (λ expiry. (expiry.connection, expiry.numbers))) c.in-Some.is in
+    let at_rest = at_rest_of c.what_is_kept_is_seen.ensures.shown c.what_expires_is_at_rest.ensures i.flow.now (kept_by i.store) (taken_by i.out.items) i.queues expiry.connection expiry.numbers c.args.moment
+    c.holds_its_state.ensures.kept.0 ready.work.flow_is ready.memory.queues due in
+    let room : length c.note.new.journal.items ≤ i.most = subst (λ (es : List Entry). length es ≤ i.most) (sym journal) (omega (arith, length-append i.journal.items (record { step = one; acked = Some (moment new) } ∷ []), count, c.if-entries-self.false)) in
+    let with_queues : IsAtWorkWithQueues i.flow.now tells held moment images i.store (taken_by i.out.items) i.queues old = record {
+      work = ready.work;
+      are = ready.memory.queues;
+      live = taken_live i.flow.now (kept_by i.store) i.listing i.next_session i.out.items ready.memory.flights;
+    } in
+    let work = subst
+    (λ (r : Result ℕ EngineError). OnOk r ((out : List ℕ) → IsAtWorkWithQueues i.flow.now tells held moment images i.store out i.queues old
+    → IsAtWorkWithQueues i.flow.now tells held moment images c.expire-expired.new.store out c.expire-expired.new.queues new)) made c.expire-expired.ensures.work (taken_by i.out.items) with_queues in
+    let kept = subst (λ (r : Result ℕ EngineError). OnOk r (IsKeptWithout expiry.numbers (kept_by i.store) (kept_by c.expire-expired.new.store))) made c.expire-expired.ensures.commits.kept in
     record {
       ready = λ well. record {
-        sound = ready.sound;
         work = work.work;
-        queues = work.are;
-        listing = ready.listing;
-        distinct = ready.distinct;
-        most = ready.most;
-        entries = subst (λ (es : List Entry). length es ≤ i.most) (sym journal) (omega (arith, length-append i.journal.items (record { step = one; acked = Some (moment new) } ∷ []), count, c.if-entries-self.false));
-        due = λ at is. absurd cc;
+        memory = ready_expired e c.expire-expired.new.store ready.memory c.taken_files_stay.ensures c.expire-expired.new.queues c.note.new.journal.items c.saturating_add-self-inside.result expiry.numbers at_rest
+            kept work.work.flow_is work.are room;
       };
       same = search rules;
       listing = search rules;
       last = search rules;
+      out = search rules;
+      next_session = search rules;
       failed = search rules;
       alone = search rules;
       cause = search rules;

@@ -14,7 +14,7 @@ returns-in-Err-Disk-clause-run g c telling =
     let images = g.D.Disk.images in
     let new = c.tend_first-tended.new.disk in
     let i = c.self-2.inside in
-    let e : EngineState = record { flow = i.flow.now; store = i.store; queues = i.queues; listing = i.listing; last = i.last; journal = i.journal.items; most = i.most; checkpoint = i.checkpoint; since_reclaim = i.since_reclaim; failed = i.has_failed; tended = i.tended } in
+    let e : EngineState = record { flow = i.flow.now; store = i.store; queues = i.queues; listing = i.listing; last = i.last; journal = i.journal.items; most = i.most; checkpoint = i.checkpoint; since_reclaim = i.since_reclaim; failed = i.has_failed; tended = i.tended; out = i.out.items; next_session = i.next_session } in
     record {
       goes_on = λ works. absurd cc;
       idle = λ works. absurd cc;

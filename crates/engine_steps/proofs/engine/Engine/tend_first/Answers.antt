@@ -91,7 +91,7 @@ returns-clause-run g c telling =
     let there = c.in_ok-expire_due.is in
     let fresh : c.expire_due.result ≡ Ok false = cc in
     let i = c.self.inside in
-    let e : EngineState = record { flow = i.flow.now; store = i.store; queues = i.queues; listing = i.listing; last = i.last; journal = i.journal.items; most = i.most; checkpoint = i.checkpoint; since_reclaim = i.since_reclaim; failed = i.has_failed; tended = i.tended } in
+    let e : EngineState = record { flow = i.flow.now; store = i.store; queues = i.queues; listing = i.listing; last = i.last; journal = i.journal.items; most = i.most; checkpoint = i.checkpoint; since_reclaim = i.since_reclaim; failed = i.has_failed; tended = i.tended; out = i.out.items; next_session = i.next_session } in
     let noted : RunsOnSpared (Ok Tended.Nothing) D.tells D.held D.moment D.images c.reclaim_due.new.self (record e { tended = Some c.args.moment }) c.reclaim_due.new.disk c.reclaim_due.new.disk = record {
       goes_on = λ well opened first start time left out run. runs_tended D.tells D.held D.moment D.images e (Some c.args.moment) opened first c.reclaim_due.new.disk start time left out
           (subst (λ (u : EngineState). IsRunning D.moment D.images u opened first start time c.reclaim_due.new.disk left out) (sym c.self.view_is) run);
