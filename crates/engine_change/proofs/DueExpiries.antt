@@ -1,7 +1,7 @@
 -- What the machine has due may expire in a store, and there is a step for it.
-use Rattle.std.proofs.Common.{◌≡◌, ℕ, zero, suc, ◌<◌, ◌≤◌, ◌==◌, ◌&&◌, not, Bool, true, false, cond, List, [], ◌∷◌, length, map, refl, sym, ap, subst, ◌∙◌, inl, inr, arith}
-use Rattle.std.specs.Prelude.{IfSome, filter, IsSome, Option, None, Some, find, is_some, nat_lt, option_and_then, option_map, slice_get}
-use Rattle.std.specs.List.{cons_option, enumerate_from, filter_map, list_all}
+use Rattle.std.proofs.Common.{◌≡◌, ℕ, zero, suc, ◌<◌, ◌≤◌, ◌==◌, not, Bool, true, false, cond, List, [], ◌∷◌, length, map, refl, sym, ap, subst, ◌∙◌, inl, inr, arith}
+use Rattle.std.specs.Prelude.{IfSome, filter, Option, None, Some, find, is_some, option_map, slice_get}
+use Rattle.std.specs.List.{cons_option, enumerate_from, filter_map}
 use Rattle.std.proofs.lemmas.Bool.{and_from, and_parts, cases_Bool, eq-eqb, eqb-true, false≢true, true≢false}
 use Rattle.flowfile_record.specs.Stored.{Kept}
 use Rattle.flowfile_record.specs.declared.content.ContentRef.{ContentRef}
@@ -10,12 +10,10 @@ use Rattle.kept_state.specs.Applied.{active_number}
 use Rattle.kept_state.specs.Fits.{active_of, are_active_in, is_in_connection}
 use Rattle.machine_model.specs.declared.flow.Connection.{Connection}
 use Rattle.machine_model.specs.declared.flow.Flow.{Flow}
-use Rattle.machine_model.specs.declared.journal.Step.TheVariants.{Expire}
 use Rattle.machine_model.specs.Due.{at_place, due_expiry, expired_numbers, numbers_of, some_numbers}
 use Rattle.machine_model.specs.Events.{ascending}
-use Rattle.machine_model.specs.Files.{active_files, active_views, are_active, are_distinct, file_numbered, is_active, queue_at, queues_of, view_of}
-use Rattle.machine_model.specs.State.{Machine, QueuedFile, State, World}
-use Rattle.machine_model.specs.Stepping.{expire_step, expired, files_of, same_world, step}
+use Rattle.machine_model.specs.Files.{active_files, active_views, are_active, file_numbered, is_active, queue_at}
+use Rattle.machine_model.specs.State.{QueuedFile, State}
 use Rattle.machine_model.specs.View.{FileView, QueueView, at_rest, is_expired}
 use Rattle.machine_model.proofs.Among.{Among, among_contained, ascending-had, contains_among, is_made, kept_by, makes}
 use Rattle.machine_model.proofs.DueSteps.{active-seen, views-once}

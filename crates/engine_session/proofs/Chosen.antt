@@ -1,6 +1,6 @@
 -- What the session takes that comes next, it may take, and none of it is in flight.
-use Rattle.std.proofs.Common.{◌≡◌, inl, inr, ℕ, zero, suc, ◌+◌, ◌==◌, ◌&&◌, ◌<◌, ◌≤◌, nat_lt, Bool, true, false, cond, List, [], ◌∷◌, length, map, take, drop, refl, sym, ap, subst, ◌∙◌, arith}
-use Rattle.std.specs.Prelude.{All, Option, None, Some, IfSome, filter, find, is_some, not, option_and_then, option_map, slice_get, slice_index}
+use Rattle.std.proofs.Common.{◌≡◌, inl, ℕ, zero, suc, ◌+◌, ◌==◌, ◌<◌, nat_lt, Bool, true, false, cond, List, [], ◌∷◌, length, map, take, drop, refl, sym, ap, subst, ◌∙◌, arith}
+use Rattle.std.specs.Prelude.{All, Option, None, Some, filter, find, is_some, not, option_and_then, option_map, slice_get, slice_index}
 use Rattle.std.specs.List.{enumerate_from, range_with_len}
 use Rattle.std.proofs.lemmas.Bool.{and_parts, eqb-true, ltb-true}
 use Rattle.std.proofs.lemmas.List.Elements.{All-cons, All-nil}
@@ -53,13 +53,12 @@ use Rattle.engine_choice.specs.declared.choice.Taking.{Taking}
 use Rattle.engine_choice.specs.declared.choice.Taking.TheVariants.{Files, Generate, Receive}
 use Rattle.engine_choice.specs.Choice.{Known, choice_at, choice_of, in_turn, is_ready, known_by, may_begin, next_choice, place_behind, taking_by, taking_of}
 use Rattle.engine_choice.specs.Laws.{numbers_in}
-use Rattle.engine_choice.proofs.AtRest.{MayTakeAtRest}
 use Rattle.engine_choice.proofs.Found.{Each, Stands, each-append, each-drop, each-stands, each-take, found, given-by}
 use Rattle.engine_choice.proofs.Sessions.{picks-taken}
 use Rattle.engine_session.specs.Taken.{AreStillThere, ChosenAreTaken, IsFirstName, IsNextIndex, MayStillTake}
 use Rattle.engine_session.proofs.Lookups.{live_head}
 use Rattle.engine_session.proofs.Picks.{AreAmong, eligible_among, picks_among}
-use Rattle.engine_session.proofs.StillThere.{AreSome, AreSomewhere, seen_in, some_admitted, taken_there, takes_files}
+use Rattle.engine_session.proofs.StillThere.{seen_in, some_admitted, taken_there, takes_files}
 
 -- ---- contents and events of a state that is kept
 

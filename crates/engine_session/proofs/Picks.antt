@@ -1,5 +1,5 @@
 -- What a rule picks is among what it picks from.
-use Rattle.std.proofs.Common.{◌≡◌, inl, inr, ℕ, zero, suc, ◌+◌, ◌-◌, Bool, true, false, cond, List, [], ◌∷◌, length, refl, subst}
+use Rattle.std.proofs.Common.{inl, inr, ℕ, zero, suc, ◌+◌, ◌-◌, Bool, true, false, cond, List, [], ◌∷◌, length, refl, subst}
 use Rattle.std.specs.Prelude.{◌&&◌, ◌||◌, nat_le, nat_lt, Option, None, Some, IfSome, filter, find}
 use Rattle.std.proofs.lemmas.List.Sorted.{IsPermutation-sym, Contains-permutation}
 use Rattle.flowfile_record.specs.declared.TheConstants.{CONTENT_MAX}
@@ -8,7 +8,7 @@ use Rattle.machine_model.specs.declared.flow.QueueLimits.{QueueLimits}
 use Rattle.machine_model.specs.declared.kind.TakeRule.{TakeRule}
 use Rattle.machine_model.specs.declared.kind.TakeRule.TheVariants.{Source, One, Bin, Defragment}
 use Rattle.machine_model.specs.Order.{eligible_files, in_order, is_eligible}
-use Rattle.machine_model.specs.Taking.{Fragment, bin_of, filling, first_some, first_whole, fragment_at, fragment_of, fragments_from, is_fragment_at, joined_option, next_would_pass, picks, whole_of}
+use Rattle.machine_model.specs.Taking.{Fragment, filling, first_some, first_whole, fragment_at, fragment_of, fragments_from, is_fragment_at, joined_option, next_would_pass, picks, whole_of}
 use Rattle.machine_model.specs.View.{FileView}
 use Rattle.machine_model.proofs.Among.{Among, among_contained, contains_among, kept_by}
 use Rattle.machine_model.proofs.Options.{if_weaker, if_when}

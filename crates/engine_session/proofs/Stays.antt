@@ -1,5 +1,5 @@
 -- What was taken stays such as it may be taken while its files live as they did.
-use Rattle.std.proofs.Common.{◌≡◌, ℕ, ◌&&◌, true, List, [], ◌∷◌, map, refl, ap, ◌∙◌}
+use Rattle.std.proofs.Common.{◌≡◌, ℕ, ◌&&◌, List, [], ◌∷◌, map, refl, ap, ◌∙◌}
 use Rattle.std.specs.Prelude.{All, option_map}
 use Rattle.std.specs.List.{cons_option, list_all}
 use Rattle.std.proofs.lemmas.List.Elements.{All-head, All-tail}

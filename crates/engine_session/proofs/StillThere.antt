@@ -1,9 +1,8 @@
 -- Files are still there exactly where the machine lets a session take them.
-use Rattle.std.proofs.Common.{◌≡◌, inl, inr, ℕ, suc, ◌&&◌, ◌==◌, Bool, true, false, cond, List, [], ◌∷◌, length, map, refl, sym, ap, subst, ◌∙◌, arith}
-use Rattle.std.specs.Prelude.{All, Contains, Option, None, Some, find, option_and_then, slice_get}
+use Rattle.std.proofs.Common.{◌≡◌, ℕ, ◌&&◌, ◌==◌, Bool, true, false, cond, List, [], ◌∷◌, length, map, refl, sym, ap, subst, ◌∙◌, arith}
+use Rattle.std.specs.Prelude.{All, Contains, Option, None, Some, option_and_then, slice_get}
 use Rattle.std.specs.List.{enumerate_from, list_all}
 use Rattle.std.proofs.lemmas.Bool.{and_from, and_parts, eq-eqb, eqb-true, false≢true, true≢false}
-use Rattle.std.proofs.lemmas.List.{length-map}
 use Rattle.std.proofs.lemmas.List.Elements.{All-head, All-tail, All-weaker}
 use Rattle.flowfile_record.specs.Stored.{Kept}
 use Rattle.flowfile_record.specs.declared.content.ContentRef.{ContentRef}
@@ -24,10 +23,8 @@ use Rattle.machine_model.specs.Kinds.{is_source, take_rule_of}
 use Rattle.machine_model.specs.Laws.{OneConnectionHas}
 use Rattle.machine_model.specs.State.{QueuedFile, State}
 use Rattle.machine_model.specs.Stepping.{admits, files_of, has_all, may_be_taken, source_of, taken_files, taken_from}
-use Rattle.machine_model.specs.View.{FileView}
 use Rattle.machine_model.proofs.Among.{Among, all_among, among_contained, contains_among, makes}
 use Rattle.machine_model.proofs.Places.{enumerated}
-use Rattle.machine_model.proofs.Tally.{find-passes}
 use Rattle.store_core.specs.State.{live_contents, state_with}
 use Rattle.store_core.specs.Flow.{flow_in}
 use Rattle.store_core.specs.Valid.{KeptIsValid, LiveFilesAreQueued, QueuedFilesAreLive}
@@ -38,7 +35,7 @@ use Rattle.engine_queues.specs.Views.{HaveSizes, view_of_kept}
 use Rattle.engine_choice.proofs.Found.{Stands, each-stands, found}
 use Rattle.engine_session.specs.Handing.{live_files}
 use Rattle.engine_session.specs.Taken.{AreStillThere}
-use Rattle.engine_session.proofs.Lookups.{distinct_as, live_count, live_there}
+use Rattle.engine_session.proofs.Lookups.{distinct_as, live_there}
 use Rattle.engine_session.proofs.Machines as machines
 
 -- what is kept, as the machine sees it

@@ -1,5 +1,5 @@
 -- What may still be taken is a session of the machine.
-use Rattle.std.proofs.Common.{◌≡◌, ℕ, ◌+◌, ◌&&◌, ◌==◌, ◌≤◌, Bool, true, false, cond, List, [], map, refl, sym, ap, ◌∙◌}
+use Rattle.std.proofs.Common.{◌≡◌, ℕ, ◌+◌, ◌==◌, Bool, true, false, cond, List, [], map, refl, ap, ◌∙◌}
 use Rattle.std.specs.Prelude.{Contains, Option, None, Some, filter, find, is_some, nat_le, slice_index, bytes_eq}
 use Rattle.std.proofs.lemmas.Bool.{and_from, eq-eqb, le-leb, true≢false}
 use Rattle.flowfile_record.specs.NamedFile.{bytes_of}
@@ -29,7 +29,7 @@ use Rattle.engine_choice.specs.Laws.{given_for, numbers_in}
 use Rattle.engine_choice.proofs.Found.{each-among}
 use Rattle.engine_choice.proofs.Sessions.{stands-among}
 use Rattle.engine_session.specs.Handing.{live_files}
-use Rattle.engine_session.specs.Taken.{AreStillThere, IsAmong, IsNextIndex, MayStillGet, MayStillMake, MayStillTake, TakenAreSessions}
+use Rattle.engine_session.specs.Taken.{IsAmong, IsNextIndex, MayStillGet, MayStillMake, MayStillTake, TakenAreSessions}
 use Rattle.engine_session.proofs.StillThere.{seen_in, takes_files, there_taken}
 
 -- ---- names

@@ -21,7 +21,6 @@ use Rattle.engine_steps.specs.Ready.{Due as WhatIsDue, due_in}
 use Rattle.engine_steps.specs.declared.checkout.Checkout.{Checkout}
 use Rattle.engine_steps.specs.declared.checkout.Checkout.TheVariants.{Due, Session, Wait, Limit, Rest, Blocked, Quiet}
 use Rattle.engine_steps.specs.declared.error.EngineError.{EngineError}
-use Rattle.engine_steps.specs.declared.flight.InFlight.{InFlight}
 
 -- ---- a session
 

@@ -84,9 +84,9 @@ pub record HasWritten {D : Type 0} (result : Result ℕ EngineError) (tells : Bo
   pub passes : (limit : TheLimit) → IsErrOf result (Limit limit) → IsLimitOf s changed.settled limit
   pub kinds : IfErr result (λ error. (error ≡ Disk) ⊎ (error ≡ Memory) ⊎ (error ≡ Put)
       ⊎ ((limit : TheLimit) × (error ≡ Limit limit)))
-  pub work : (IsErrOf result Disk → ⊥) → (flow : Flow) (out : List ℕ)
-      → IsAtWorkWithQueues flow tells held moment images s out queues old
-      → IsAtWorkWithQueues flow tells held moment images t (out_behind result changed.settled.gone out) now_queues new
+  pub work : (IsErrOf result Disk → ⊥) → (flow : Flow) (taken : List ℕ)
+      → IsAtWorkWithQueues flow tells held moment images s taken queues old
+      → IsAtWorkWithQueues flow tells held moment images t (out_behind result changed.settled.gone taken) now_queues new
   pub stay : (IsErrOf result Disk → ⊥) → (number : ℕ) → is_out changed.settled.gone number ≡ false
       → IsSome (active_of number (kept_by s).files)
       → active_of number (kept_by t).files ≡ active_of number (kept_by s).files

@@ -1,5 +1,5 @@
 -- The sessions in flight of an engine: what they took stays theirs.
-use Rattle.std.specs.Prelude.{◌≡◌, ◌≢◌, ⊤, ℕ, ◌≤◌, ◌<◌, ◌==◌, not, Bool, true, false, List, [], ◌∷◌, map, filter, count_by, All, Contains, Option, None, Some, slice_get}
+use Rattle.std.specs.Prelude.{◌≡◌, ◌≢◌, ⊤, ℕ, ◌≤◌, ◌<◌, ◌==◌, not, Bool, true, false, List, [], ◌∷◌, map, filter, count_by, All, Option, None, Some, slice_get}
 use Rattle.std.specs.List.{AllPairs, enumerate_from, flat_map, list_any}
 use Rattle.std.specs.Option.{option_map_or}
 use Rattle.flowfile_record.specs.Stored.{Kept}

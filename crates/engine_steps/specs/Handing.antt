@@ -1,5 +1,5 @@
 -- What a session in flight is handed.
-use Rattle.std.specs.Prelude.{◌≡◌, ⊤, ℕ, ◌≤◌, Bool, IsTrue, true, List, Option, None, Some, length, map}
+use Rattle.std.specs.Prelude.{◌≡◌, ⊤, ℕ, ◌≤◌, Bool, IsTrue, true, List, Option, None, length, map}
 use Rattle.std.specs.Option.{IsSomeAnd}
 use Rattle.flowfile_record.specs.NamedFile.{NamedFile, bytes_of}
 use Rattle.flowfile_record.specs.Stored.{Kept}

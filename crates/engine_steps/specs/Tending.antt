@@ -113,8 +113,7 @@ pub record TendsFirst {D : Type 0} (result : Result Tended EngineError) (moment_
   pub nothing : result ≡ Ok Nothing → (new ≡ old) × IsShortOn moment_of images e_old.checkpoint old
 
 -- What stays: the run's constants, the names and which are taken, who worked last, the sessions in flight, and the number
--- of the next one. The log is no earlier one. Only claims, files of
--- events, the log and what may follow it are written.
+-- of the next one. The log is no earlier one. Only claims, files of events, the log and what may follow it are written.
 pub record TendsAlone {D : Type 0} (result : Result Tended EngineError) (moment_of : D → ℕ)
     (images : D → ℕ → Files → Type 0) (e_old e_new : EngineState) (old new : D) : Type 0 where
   pub same : IsOfSameRun e_old e_new

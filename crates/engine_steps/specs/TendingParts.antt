@@ -61,8 +61,8 @@ pub record RunsOnSpared {D A : Type 0} (result : Result A EngineError) (tells : 
 -- ---- what each call leaves of any engine
 
 -- It is ready, unless the disk failed, and of the same run, with the names that it had, who worked last, and the sessions
--- in flight. Only claims,
--- files of events, the log and what may follow it are written. The disk's error is answered only where it failed.
+-- in flight. Only claims, files of events, the log and what may follow it are written. The disk's error is answered only
+-- where it failed.
 pub record LeavesTended {D A : Type 0} (result : Result A EngineError) (tells : Bool) (held : D → Files)
     (moment : D → ℕ) (images : D → ℕ → Files → Type 0) (faults : D → ℕ) (e_old e_new : EngineState) (old new : D)
     : Type 0 where

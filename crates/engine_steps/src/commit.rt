@@ -66,9 +66,9 @@ impl Engine<'_> {
     /// Makes a session in flight part of the run. First it looks whether its job still stands: where a generator's index
     /// isn't the next one by now, or the contents or the outbox aren't what was worked on, the session ends, and nothing
     /// else is done. The file that it received is read again only where something differs; else the inbox is asked for
-    /// it, and answers with a failure where it changed. Then what the session sends is put into the outbox, its change is committed, and the file that it
-    /// received is removed from the inbox. Before the put all its memory is taken. After a refusal that isn't of a device
-    /// the session is still in flight.
+    /// it, and answers with a failure where it changed. Then what the session sends is put into the outbox, its change
+    /// is committed, and the file that it received is removed from the inbox. Before the put all its memory is taken.
+    /// After a refusal that isn't of a device the session is still in flight.
     pub fn commit<D: Disk, I: Inbox, O: Outbox>(
         &mut self,
         alloc: Global,

@@ -6,6 +6,7 @@ use Rattle.disk_trait.specs.Files.{Files}
 use Rattle.flowfile_record.specs.NamedFile.{NamedFile}
 use Rattle.flowfile_wal.specs.Calls.{InEach}
 use Rattle.machine_model.specs.declared.flow.Flow.{Flow}
+use Rattle.machine_model.specs.declared.journal.Entry.{Entry}
 use Rattle.machine_model.specs.declared.journal.Step.{Step}
 use Rattle.machine_model.specs.Acknowledged.{steps}
 use Rattle.machine_model.specs.Laws.{StepsLoseNames}
@@ -16,7 +17,7 @@ use Rattle.run_law.specs.Ending.{IsFault}
 use Rattle.run_law.specs.Puts.{Outgoing, Start}
 use Rattle.run_law.specs.Run.{StandsFor, machine_at}
 use Rattle.run_law.specs.declared.ended.Ended.{Ended}
-use Rattle.engine_steps.specs.Closing.{EngineIsClosed, Shows, ShowsState}
+use Rattle.engine_steps.specs.Closing.{EngineIsClosed, ShowsState}
 use Rattle.engine_steps.specs.Engine.{EngineState}
 use Rattle.engine_steps.specs.Errors.{ended_by}
 use Rattle.engine_steps.specs.Running.{IsRunningTo}
@@ -25,6 +26,7 @@ use Rattle.engine_steps.specs.declared.error.EngineError.{EngineError}
 use Rattle.engine_steps.specs.declared.error.EngineError.TheVariants.{Damaged, Disk, Inbox, Outbox, Put, Limit, MustReopen, NoSession, Memory}
 use Rattle.flow_scheduler.proofs.Closing.{IsNoLimit}
 use Rattle.engine_steps.specs.Flights.{names_to_come}
+use Rattle.flow_scheduler.specs.Driving.{HandsOver}
 use Rattle.flow_scheduler.proofs.Counted.{all_counted}
 
 -- ---- where it is closed
@@ -65,8 +67,8 @@ closes_or_fails (Err error) r wanted o is ok err kinds no_fault =
 
 -- ---- what is handed over
 
-pub none_shown : (flow : Flow) (o : Option Closed) (m : Machine) → o ≡ None → IfSome o (Shows flow m)
-none_shown flow o m none = subst (λ (x : Option Closed). IfSome x (Shows flow m)) (sym none) tt
+pub none_shown : (flow : Flow) (o : Option Closed) (m : Machine) (journal : List Entry) → o ≡ None → IfSome o (HandsOver flow m journal)
+none_shown flow o m journal none = subst (λ (x : Option Closed). IfSome x (HandsOver flow m journal)) (sym none) tt
 
 -- the machine that a journal leads to is one
 one_end : (flow other : Flow) (opened one two : Machine) (journal : List Step) → other ≡ flow → replay other opened journal ≡ Some one → replay flow opened journal ≡ Some two → one ≡ two
@@ -77,8 +79,8 @@ shown : {D : Type 0} (tells : Bool) (held : D → Files) (moment : D → ℕ) (i
     → IfOk result (EngineIsClosed tells held moment images e new)
     → IfOk result (λ closed. IsTrue tells → (m : Machine) → InEach (images old (moment old)) (StandsFor e.flow e.store.lot m) → ShowsState e.flow m closed)
     → IsTrue tells → InEach (images old (moment old)) (StandsFor e.flow e.store.lot reached) → length reached.world.left ≡ length (names_to_come e) + e.listing.too_large
-    → IfSome (result_ok result) (Shows e.flow reached)
-shown tells held moment images e old new reached (Ok closed) is shows telling stands counted = record { state = shows telling reached stands; left = is.left ∙ sym counted }
+    → IfSome (result_ok result) (HandsOver e.flow reached e.journal)
+shown tells held moment images e old new reached (Ok closed) is shows telling stands counted = record { journal = is.journal; shows = record { state = shows telling reached stands; left = is.left ∙ sym counted } }
 shown tells held moment images e old new reached (Err error) is shows telling stands counted = tt
 
 -- the store of a run that leads to this machine was closed
@@ -87,12 +89,12 @@ pub run_shows : StepsLoseNames → {D : Type 0} (tells : Bool) (held : D → Fil
     → coming_of (machine_at state left standing).world ≡ (names_to_come e0) → length left ≡ length (names_to_come e0) + e0.listing.too_large
     → IsRunningTo moment images e (machine_at state left standing) first start time old now_left now_out reached
     → replay flow (machine_at state left standing) (steps e.journal) ≡ Some m → o ≡ result_ok result → IfOk result (EngineIsClosed tells held moment images e new)
-    → IfOk result (λ closed. IsTrue tells → (m : Machine) → InEach (images old (moment old)) (StandsFor e.flow e.store.lot m) → ShowsState e.flow m closed) → IsTrue tells → IfSome o (Shows flow m)
+    → IfOk result (λ closed. IsTrue tells → (m : Machine) → InEach (images old (moment old)) (StandsFor e.flow e.store.lot m) → ShowsState e.flow m closed) → IsTrue tells → IfSome o (HandsOver flow m e.journal)
 run_shows law tells held moment images flow e0 e state left now_left standing now_out first old new start time reached m result o flow_is large_is coming counted to ends is closed shows telling =
     let all : length reached.world.left ≡ length (names_to_come e) + e0.listing.too_large
     = all_counted law e.flow state left standing (steps e.journal) reached (names_to_come e0) (names_to_come e) e0.listing.too_large to.run.ran.replays coming counted to.coming in
     let same : reached ≡ m = one_end flow e.flow (machine_at state left standing) reached m (steps e.journal) flow_is to.run.ran.replays ends in
-    subst (λ (x : Option Closed). IfSome x (Shows flow m)) (sym is)
-    (subst (λ (f : Flow). IfSome (result_ok result) (Shows f m)) flow_is
-    (subst (λ (x : Machine). IfSome (result_ok result) (Shows e.flow x)) same
+    subst (λ (x : Option Closed). IfSome x (HandsOver flow m e.journal)) (sym is)
+    (subst (λ (f : Flow). IfSome (result_ok result) (HandsOver f m e.journal)) flow_is
+    (subst (λ (x : Machine). IfSome (result_ok result) (HandsOver e.flow x e.journal)) same
     (shown tells held moment images e old new reached result closed shows telling to.run.holds (all ∙ ap (λ (n : ℕ). length (names_to_come e) + n) (sym large_is)))))

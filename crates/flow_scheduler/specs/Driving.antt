@@ -2,6 +2,7 @@
 use Rattle.std.specs.Prelude.{◌≡◌, ◌⊎◌, ℕ, ◌≤◌, Bool, true, IsTrue, List, [], ◌∷◌, ◌++◌, Option, None, Some, Result, MatchResult, OnOk, IsErrOf}
 use Rattle.disk_trait.specs.Files.{Files}
 use Rattle.flowfile_record.specs.NamedFile.{NamedFile}
+use Rattle.machine_model.specs.declared.flow.Flow.{Flow}
 use Rattle.machine_model.specs.declared.journal.Entry.{Entry}
 use Rattle.machine_model.specs.declared.journal.Step.{Step}
 use Rattle.machine_model.specs.Acknowledged.{steps}
@@ -15,12 +16,14 @@ use Rattle.run_law.specs.Run.{StandsFor}
 use Rattle.run_law.specs.Turns.{AreMadeAt, ComeInTurn, IsInTurn, step_moment}
 use Rattle.run_law.specs.Work.{WritesLog}
 use Rattle.engine_steps.specs.Checkout.{HasCheckedOut}
+use Rattle.engine_steps.specs.Closing.{Shows}
 use Rattle.engine_steps.specs.Engine.{EngineState, IsOfSameRun}
 use Rattle.engine_steps.specs.Errors.{HasCause}
 use Rattle.engine_steps.specs.Leaving.{MayGoOn}
 use Rattle.engine_steps.specs.Ready.{IsUsable}
 use Rattle.engine_steps.specs.Running.{IsRunning, IsRunningTo, Stops}
 use Rattle.engine_steps.specs.Showing.{EngineShowsState}
+use Rattle.engine_steps.specs.declared.close.Closed.{Closed}
 use Rattle.engine_steps.specs.declared.error.EngineError.{EngineError}
 use Rattle.engine_steps.specs.declared.error.EngineError.TheVariants.{Disk, MustReopen, NoSession, Put}
 
@@ -69,6 +72,11 @@ pub record KeepsTime {A : Type 0} (result : Result A EngineError) (is_given : �
   pub later : time_old ≤ time_new
   pub moments : AreMadeAt is_given journal_old → AreMadeAt is_given journal_new
   pub given : OnOk result (is_given time_new)
+
+-- what is handed over of a run whose store was closed: this journal, and what this machine has
+pub record HandsOver (flow : Flow) (m : Machine) (journal : List Entry) (closed : Closed) : Type 0 where
+  pub journal : closed.journal ≡ journal
+  pub shows : Shows flow m closed
 
 -- ---- where all devices tell
 

@@ -9,8 +9,8 @@ ghost use Rattle.run_law.specs.Going.{IsRunningAt};
 ghost use Rattle.run_law.specs.Run.{HasRun, machine_at};
 ghost use Rattle.run_law.specs.Ending.{EndsForCause, EndsShort, IsQuietOrBlocked, IsFault};
 ghost use Rattle.run_law.specs.Turns.{AreMadeAt, IsInTurn};
-ghost use Rattle.engine_steps.specs.Closing.{Shows};
 ghost use Rattle.engine_steps.specs.Errors.{ended_by};
+ghost use Rattle.flow_scheduler.specs.Driving.{HandsOver};
 ghost use Rattle.run_law.specs.Work.{IsAtWork, WritesLog};
 ghost use Rattle.run_law.specs.Puts.{Start, outgoing};
 
@@ -64,7 +64,7 @@ pub fn run_flow<D: Disk, I: Inbox, O: Outbox, C: Clock, G: Gate>(
         × IsInTurn flow.now start.time (C.time clock.new)
         (machine_at state (I.left inbox.old) (O.standing outbox.old)) journal next
         × AreMadeAt C.given journal
-        × IfSome result.closed (Shows flow.now ran.reached) }
+        × IfSome result.closed (HandsOver flow.now ran.reached journal) }
     // At rest the time is one that the clock gave.
     ensures given { IsQuietOrBlocked result.ended → C.given (C.time clock.new) }
     // The store was closed unless something failed.

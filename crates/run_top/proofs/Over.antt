@@ -23,7 +23,7 @@ use Rattle.run_law.specs.Work.{DoesNotTell, IsEndedByLimit}
 use Rattle.run_law.specs.declared.ended.Ended.{Ended}
 use Rattle.run_law.specs.declared.ended.Ended.TheVariants as ending
 use Rattle.run_law.specs.declared.ended.Fault.TheVariants as fault
-use Rattle.engine_steps.specs.Closing.{Shows}
+use Rattle.flow_scheduler.specs.Driving.{HandsOver}
 use Rattle.flow_scheduler.specs.declared.run.Ran.{Ran}
 use Rattle.store_core.specs.Touched.{Revives}
 use Rattle.flowfile_wal.specs.Current.{current_number}
@@ -140,7 +140,7 @@ module _ {D : Type 0} (tells : Bool) (held : D → Files) (moment : D → ℕ) (
   pub ran_ends : (ran : Ran) (given : ℕ → Type 0) (start : Start) (time most checkpoint : ℕ) (opened : Machine) (old mid new : D) (left : List NamedFile) (out : Outgoing) → moment old + 1 ≤ moment mid
       → ((limit : Limit) → ran.ended ≡ ending.Limit limit → IsLimitMet flow tells held moment images other (moment mid) most limit new)
       → (journal : List Entry) (next : Option Step) (run : HasRun flow ran.ended start time tells held moment images other opened old new left out journal next) → IsInTurn flow start.time time opened journal next → AreMadeAt given journal
-      → IfSome ran.closed (Shows flow run.reached)
+      → IfSome ran.closed (HandsOver flow run.reached journal)
       → (IsQuietOrBlocked ran.ended → given time) → EndsShort moment images checkpoint ran.ended new
       → HasEnded flow ran given start time tells held moment images lot most checkpoint opened old new left out
   ran_ends ran given start time most checkpoint opened old mid new left out begun met journal next run turns made shows at_rest short =

@@ -4,6 +4,7 @@ use Rattle.std.specs.Prelude.{IfErr, IfOk, IfSome, IsTrue, MatchOption, None, Op
 use Rattle.disk_trait.specs.Files.{Files}
 use Rattle.flowfile_record.specs.NamedFile.{NamedFile}
 use Rattle.machine_model.specs.declared.flow.Flow.{Flow}
+use Rattle.machine_model.specs.declared.journal.Entry.{Entry}
 use Rattle.machine_model.specs.State.{Machine, State}
 use Rattle.store_core.specs.Opened.{IsShut}
 use Rattle.engine_change.specs.Committing.{identity_of}
@@ -13,10 +14,9 @@ use Rattle.run_law.specs.Puts.{Start, outgoing}
 use Rattle.run_law.specs.Run.{machine_at}
 use Rattle.run_law.specs.declared.ended.Ended.{Ended}
 use Rattle.run_law.specs.declared.ended.Ended.TheVariants as ending
-use Rattle.engine_steps.specs.Closing.{Shows}
+use Rattle.flow_scheduler.specs.Driving.{HandsOver}
 use Rattle.engine_steps.specs.declared.close.Closed.{Closed}
 use Rattle.flow_scheduler.specs.declared.run.Ran.{Ran}
-use Rattle.run_top.specs.Opening.{IsOfFlow}
 use Rattle.run_top.specs.Printing.{IsLine, AnswerIsPrinted, IsRefusingAnswer, closing_text, end_text, refusal_line}
 use Rattle.run_top.specs.Run.{RunCountsFaults, AnswerHasCause, HasFailed, HasNotRun, HasRunOver, HasShownEnd, RunHasWritten, IsLeftShut, IsNotOpened, IsShownAs, IsToldAs, Runs}
 use Rattle.run_top.specs.Status.{answer_of_run, answer_of_end}
@@ -26,12 +26,12 @@ use Rattle.run_top.proofs.Short.{not_shown}
 use Rattle.run_top.proofs.Summed.{text_is}
 
 -- what was printed of what a run left is the text of the machine
-pub printed_at : (flow : Flow) (answer : Answer) (ended : Ended) (m : Machine) (o : Option Closed) (sink_tells : Bool) (before after : List ℕ) → MatchOption o (IsFault ended) (λ closed. IsFault ended → ⊥)
-    → IfSome o (Shows flow m) → IfSome o (λ closed. IsTrue sink_tells → AnswerIsPrinted answer (closing_text flow ended closed) before after)
+pub printed_at : (flow : Flow) (answer : Answer) (ended : Ended) (m : Machine) (journal : List Entry) (o : Option Closed) (sink_tells : Bool) (before after : List ℕ) → MatchOption o (IsFault ended) (λ closed. IsFault ended → ⊥)
+    → IfSome o (HandsOver flow m journal) → IfSome o (λ closed. IsTrue sink_tells → AnswerIsPrinted answer (closing_text flow ended closed) before after)
     → (IsFault ended → ⊥) → IsTrue sink_tells → AnswerIsPrinted answer (end_text flow ended m) before after
-printed_at flow answer ended m None sink_tells before after closes shows printed no_fault told = absurd (no_fault closes)
-printed_at flow answer ended m (Some closed) sink_tells before after closes shows printed no_fault told =
-    subst (λ (text : List ℕ). AnswerIsPrinted answer text before after) (text_is flow ended m closed shows) (printed told)
+printed_at flow answer ended m journal None sink_tells before after closes shows printed no_fault told = absurd (no_fault closes)
+printed_at flow answer ended m journal (Some closed) sink_tells before after closes shows printed no_fault told =
+    subst (λ (text : List ℕ). AnswerIsPrinted answer text before after) (text_is flow ended m closed shows.shows) (printed told)
 
 -- where only the printing failed
 sink_why : {D I O : Type 0} (flow : Flow) (answer : Answer) (tells : Bool) (held : D → Files) (moment : D → ℕ) (images : D → ℕ → Files → Type 0) (lot most : ℕ) (old new : D) (inbox_old inbox_new : I) (outbox_old outbox_new : O) → answer ≡ Sink
@@ -105,7 +105,7 @@ module _ {D I O S : Type 0} (flow : Flow) (answer : Answer) (given : ℕ → Typ
           ended = ran.ended;
           told = told;
           ends = ends.ends;
-          printed = printed_at flow answer ran.ended ends.ends.ran.reached ran.closed sink_tells (written sink_old) (written sink_new) over.closed ends.shows printed;
+          printed = printed_at flow answer ran.ended ends.ends.ran.reached ends.ends.journal ran.closed sink_tells (written sink_old) (written sink_new) over.closed ends.shows printed;
         });
     shut = λ disk_told shut. absurd (fits disk_told shut);
     alone = inl (⊎_elim

@@ -133,7 +133,7 @@ tried count lot flow (Ok ran) answer sink_tells before after is in_memory closes
         ended = ran.ended;
         told = told;
         ends = ends.ends;
-        printed = printed_at flow answer ran.ended ends.ends.ran.reached ran.closed sink_tells before after closes ends.shows printed;
+        printed = printed_at flow answer ran.ended ends.ends.ran.reached ends.ends.journal ran.closed sink_tells before after closes ends.shows printed;
       };
     })
 tried count lot flow (Err instead) answer sink_tells before after is in_memory closes memory told printed = inr (told ∙ memory)

@@ -28,7 +28,7 @@ use Rattle.run_law.specs.Work.{DoesNotTell, IsShortOn, MayWriteFrom}
 use Rattle.run_law.specs.declared.ended.Ended.{Ended}
 use Rattle.run_law.specs.declared.ended.Ended.TheVariants as ending
 use Rattle.run_law.specs.declared.ended.Fault.{Fault}
-use Rattle.engine_steps.specs.Closing.{Shows}
+use Rattle.flow_scheduler.specs.Driving.{HandsOver}
 use Rattle.flow_scheduler.specs.declared.run.Ran.{Ran}
 use Rattle.run_top.specs.Opening.{IsOfFlow, IsOfStore, IsShutAnswer, IsToldBy}
 use Rattle.run_top.specs.Printing.{IsLine, AnswerIsPrinted, IsRefusingAnswer, end_text, refusal_line}
@@ -56,13 +56,13 @@ pub record RunEndsWith {D : Type 0} (flow : Flow) (ended : Ended) (given : ℕ �
   pub moments : AreMadeAt given journal
   pub rest : IsQuietOrBlocked ended → given time × IsShortOn moment images checkpoint new
 
--- a run has ended so, and where its store was closed what it left is what the machine reached
+-- a run has ended so; where its store was closed, this journal was handed over, and what the machine reached
 pub record HasEnded {D : Type 0} (flow : Flow) (ran : Ran) (given : ℕ → Type 0) (start : Start) (time : ℕ)
     (tells : Bool) (held : D → Files) (moment : D → ℕ) (images : D → ℕ → Files → Type 0) (lot most checkpoint : ℕ)
     (opened : Machine) (old new : D) (left : List NamedFile) (out : Outgoing) : Type 0 where
   pub ends : RunEndsWith flow ran.ended given start time tells held moment images lot most checkpoint opened old new
       left out
-  pub shows : IfSome ran.closed (Shows flow ends.ran.reached)
+  pub shows : IfSome ran.closed (HandsOver flow ends.ran.reached ends.journal)
 
 -- behind its first sync the opening of the store failed, which ended a run that has done nothing
 pub record HasFailed {D : Type 0} (flow : Flow) (answer : Answer) (given : ℕ → Type 0) (start : Start) (time : ℕ)

@@ -37,7 +37,7 @@ returns-in-Err-clause-headline g c telling in_telling out_telling state first st
           (g.I.Inbox.left c.new.new.inbox) out c.in-Err.error c.fail.result.ended c.in-Err.ensures.kinds c.fail.ensures.ended c.new.ensures.left run,
       none_stopped c.args.flow.now start.time (g.C.Clock.time c.args.clock.now) (machine_at state left standing) [] run.within,
       tt,
-      none_shown c.args.flow.now c.fail.result.closed _ c.fail.ensures.closed,
+      none_shown c.args.flow.now c.fail.result.closed _ _ c.fail.ensures.closed,
     )
 
 pub returns-in-Err-clause-closed : goal.returns-in-Err-clause-closed
@@ -254,7 +254,7 @@ returns-in_default g c =
                 (has_ended D.tells D.held D.moment D.images e opened first c.drive.new.disk now_left now_out start time error stop.next none stop.stops)),
             in_turn_of e.flow c.args.flow.now start.time time opened e.journal stop.next (sym (c.drive.ensures.leaves.same.flow ∙ is.flow_is)) stop.turns,
             c.drive.ensures.clock.moments (none_made g.C.Clock.given c.in-Ok.engine.journal c.in-Ok.ensures.opened.journal),
-            none_shown c.args.flow.now c.fail-in_default.result.closed _ c.fail-in_default.ensures.closed,
+            none_shown c.args.flow.now c.fail-in_default.result.closed _ _ c.fail-in_default.ensures.closed,
           );
       given = λ rest. absurd (no_rest error end so rest);
       closed = fails_to_run c.fail-in_default.result.closed end error c.fail-in_default.ensures.closed so none;
