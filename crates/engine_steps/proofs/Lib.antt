@@ -12,6 +12,7 @@ pub mod Expired
 pub mod Files
 pub mod Fitting
 pub mod Flights
+pub mod Follows
 pub mod Goes
 pub mod HandedBack
 pub mod LastWorker
