@@ -34,5 +34,6 @@ pub mod Staying
 pub mod Steps
 pub mod Tends
 pub mod Tidied
+pub mod Told
 pub mod Worked
 pub mod Written
