@@ -1,4 +1,4 @@
-use Rattle.std.proofs.Common.{rules, ◌≡◌, ◌∙◌, ℕ, List, ap, sym, subst, refl, false}
+use Rattle.std.proofs.Common.{rules, ◌≡◌, sym, subst, refl, false}
 use Rattle.std.specs.Prelude.{None, Some}
 use Rattle.content_repo.specs.Claims.{content_in}
 use Rattle.store_core.specs.Store.{kept_by}
