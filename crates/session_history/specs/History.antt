@@ -5,9 +5,9 @@ use Rattle.machine_model.specs.declared.journal.Step.{Step}
 use Rattle.machine_model.specs.declared.journal.Step.TheVariants.{Expire, Session}
 use Rattle.machine_model.specs.Due.{due_expiry}
 use Rattle.machine_model.specs.Files.{queues_of}
-use Rattle.machine_model.specs.Queues.{QueueView}
 use Rattle.machine_model.specs.State.{Machine}
 use Rattle.machine_model.specs.Stepping.{step}
+use Rattle.machine_model.specs.View.{QueueView}
 use Rattle.engine_queues.specs.Beside.{beside}
 use Rattle.engine_choice.specs.Choice.{Known, coming_of, next_choice}
 use Rattle.engine_choice.specs.Laws.{given_for, numbers_in}
@@ -45,7 +45,7 @@ name_received (Generate index) = None
 -- these names, but for those of files that sessions receive
 abbrev pub names_beside : (out : List InFlight) → List (List ℕ) → List (List ℕ)
 names_beside [] names = names
-names_beside (flight ∷ out) names = names_without (name_received flight.choice.taking) (names_beside out names)
+names_beside (flight ∷ out) names = names_beside out (names_without (name_received flight.choice.taking) names)
 
 -- what the choice goes by at a moment, beside the sessions in flight
 abbrev pub known_beside : Flow → Play → (moment : ℕ) → Known

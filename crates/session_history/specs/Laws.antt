@@ -1,6 +1,5 @@
 -- That each thing that an engine does to its sessions is a move of their history, and what the history says of the journal.
 use Rattle.std.specs.Prelude.{◌≡◌, ℕ, ◌≤◌, Bool, true, List, [], ◌∷◌, ◌++◌, Option, None, Some}
-use Rattle.disk_trait.specs.Files.{Files}
 use Rattle.flowfile_record.specs.NamedFile.{NamedFile}
 use Rattle.flowfile_record.specs.declared.content.ContentRef.{ContentRef}
 use Rattle.machine_model.specs.declared.flow.Flow.{Flow}

@@ -6,4 +6,6 @@
 
 mod laws;
 
-pub use laws::{histories_are_replays, histories_begin, histories_come_in_turn, histories_go_on, moves_are_made};
+pub use laws::{
+    histories_are_replays, histories_begin, histories_come_in_turn, histories_go_on, moves_are_made,
+};
