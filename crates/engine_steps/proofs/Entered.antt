@@ -1,5 +1,5 @@
 -- What an engine is behind a session that was written: acknowledged, it is no longer in flight; refused, all stay.
-use Rattle.std.proofs.Common.{◌≡◌, ◌⊎◌, inl, inr, ⊎_elim, ℕ, ◌<◌, ◌≤◌, Bool, List, length, refl, sym, ap, subst, ◌∙◌}
+use Rattle.std.proofs.Common.{◌≡◌, ◌⊎◌, inl, inr, ⊎_elim, ℕ, ◌<◌, ◌≤◌, Bool, List, [], ◌∷◌, ◌++◌, length, refl, sym, ap, subst, ◌∙◌}
 use Rattle.std.specs.Prelude.{All, find, get_or, IfErr, IfOk, IsErrOf, IsTrue, None, Ok, OnOk, Err, Option, Result, Some}
 use Rattle.disk_trait.specs.Files.{Files}
 use Rattle.disk_trait.specs.declared.damage.Damage.{Damage}
@@ -34,6 +34,7 @@ use Rattle.engine_steps.specs.Tending.{counted_on}
 use Rattle.engine_steps.specs.declared.error.EngineError.{EngineError}
 use Rattle.engine_steps.specs.declared.flight.InFlight.{InFlight}
 use Rattle.engine_steps.proofs.Commits.{refuses}
+use Rattle.engine_steps.proofs.Follows.{follows_grown, follows_put, follows_still}
 use Rattle.engine_steps.proofs.Flights.{flights_stay, flights_without, names_committed, others_not_taken, received_in, taken_live, taken_without}
 use Rattle.engine_steps.proofs.Readied.{knows_none, no_entry, not_both, one_more, ready_by, rest_is, the_error}
 
@@ -107,23 +108,34 @@ module _ {D : Type 0} (tells : Bool) (held : D → Files) (moment : D → ℕ) (
       abbrev Enters : Result ℕ EngineError → Type 0
       Enters answer = EntersSession answer done (moment new) in_tells out_tells e w files files out now_out
 
+      abbrev wanted : Option Sending
+      wanted = sending_of done.outcome.sent done.sources
+
       pub enters_refused : (error : EngineError) → result ≡ Err error → Enters (Err error)
       enters_refused error is = by_kind (subst (λ (r : Result ℕ EngineError). IfErr r IsKind) is written.kinds)
         where
           by_kind : IsKind error → Enters (Err error)
           by_kind (inl disk) =
               let cut = is ∙ ap Err disk in
+              let journal_is : w.journal ≡ e.journal ++ record { step = step_done done; acked = None } ∷ [] = noted.journal ∙ (λ i. journaled (cut i) (one_is i) e.journal) in
+              let put : IsTrue out_tells → now_out ≡ with_sending wanted out = λ telling. written.sent_before cut telling ∙ ap (λ (o : Option Sending). with_sending o out) sending in
               subst (λ (er : EngineError). Enters (Err er)) (sym disk) (record {
-                journal = inr (noted.journal ∙ (λ i. journaled (cut i) (one_is i) e.journal), uncounted, ap (λ (x : EngineState). x.out) noted.rest);
+                journal = inr (journal_is, uncounted, ap (λ (x : EngineState). x.out) noted.rest);
                 inbox = λ telling. refl;
-                outbox = λ telling. written.sent_before cut telling ∙ ap (λ (o : Option Sending). with_sending o out) sending;
+                outbox = put;
+                follow = follows_grown (Err EngineError.Disk) in_tells out_tells wanted e.journal w.journal files files out now_out (record { step = step_done done; acked = None }) journal_is put;
               })
           by_kind (inr (inl memory)) =
               let so = is ∙ ap Err memory in
               let other : EngineError.Memory ≡ EngineError.Disk → ⊥ = λ e. cc in
               let another : EngineError.Memory ≡ EngineError.Put → ⊥ = λ e. cc in
               subst (λ (er : EngineError). Enters (Err er)) (sym memory)
-              (record { journal = stays_in_flight EngineError.Memory so other; inbox = λ telling. refl; outbox = λ telling. written.unsent EngineError.Memory so other another })
+              (record {
+                journal = stays_in_flight EngineError.Memory so other;
+                inbox = λ telling. refl;
+                outbox = λ telling. written.unsent EngineError.Memory so other another;
+                follow = follows_still (Err EngineError.Memory) in_tells out_tells wanted e.journal w.journal files files out now_out (unjournaled EngineError.Memory so other) (λ telling. refl) (λ telling. written.unsent EngineError.Memory so other another);
+              })
           by_kind (inr (inr (inl put))) =
               let so = is ∙ ap Err put in
               let other : EngineError.Put ≡ EngineError.Disk → ⊥ = λ e. cc in
@@ -131,13 +143,20 @@ module _ {D : Type 0} (tells : Bool) (held : D → Files) (moment : D → ℕ) (
                 journal = stays_in_flight EngineError.Put so other;
                 inbox = λ telling. refl;
                 outbox = λ telling. subst (λ (o : Option Sending). IsLeftBySend o out now_out) sending (written.put so telling);
+                follow = follows_put (Err EngineError.Put) in_tells out_tells wanted e.journal w.journal files files out now_out refl (unjournaled EngineError.Put so other) (λ telling. refl);
               })
           by_kind (inr (inr (inr limited))) =
               let so = is ∙ ap Err limited.1 in
               let other : EngineError.Limit limited.0 ≡ EngineError.Disk → ⊥ = λ e. cc in
               let another : EngineError.Limit limited.0 ≡ EngineError.Put → ⊥ = λ e. cc in
               subst (λ (er : EngineError). Enters (Err er)) (sym limited.1)
-              (record { journal = stays_in_flight (EngineError.Limit limited.0) so other; inbox = λ telling. refl; outbox = λ telling. written.unsent (EngineError.Limit limited.0) so other another })
+              (record {
+                journal = stays_in_flight (EngineError.Limit limited.0) so other;
+                inbox = λ telling. refl;
+                outbox = λ telling. written.unsent (EngineError.Limit limited.0) so other another;
+                follow = follows_still (Err (EngineError.Limit limited.0)) in_tells out_tells wanted e.journal w.journal files files out now_out (unjournaled (EngineError.Limit limited.0) so other) (λ telling. refl)
+                    (λ telling. written.unsent (EngineError.Limit limited.0) so other another);
+              })
 
     -- it was acknowledged, and is no longer in flight
     module _ (m : ℕ) (is : result ≡ Ok m) (done : Done) (one_is : one ≡ step_done done) (flight : InFlight) (found : find (has_session done.session) e.out ≡ Some flight)
@@ -216,9 +235,19 @@ module _ {D : Type 0} (tells : Bool) (held : D → Files) (moment : D → ℕ) (
 
         -- and the file that it received was removed
         pub enters_acknowledged : (IsTrue in_tells → now_files ≡ without_received done.given.file files) → EntersSession (Ok m) done (moment new) in_tells out_tells e f files now_files out now_out
-        enters_acknowledged removed = record { journal = (moment_is, acknowledged back leave); inbox = removed; outbox = sent }
+        enters_acknowledged removed = record {
+          journal = (moment_is, acknowledged back leave);
+          inbox = removed;
+          outbox = sent;
+          follow = follows_grown (Ok m) in_tells out_tells (sending_of done.outcome.sent done.sources) e.journal f.journal files now_files out now_out (record { step = step_done done; acked = Some m }) (acknowledged back leave).journal sent;
+        }
 
         -- .. or was to be
         pub enters_unremoved : (IsTrue in_tells → (now_files ≡ files) ⊎ (now_files ≡ without_received done.given.file files))
             → EntersSession (Err EngineError.Inbox) done (moment new) in_tells out_tells e f files now_files out now_out
-        enters_unremoved either = record { journal = subst (λ (at : ℕ). SessionIsAcknowledged done at e f) moment_is (acknowledged back leave); inbox = either; outbox = sent }
+        enters_unremoved either = record {
+          journal = subst (λ (at : ℕ). SessionIsAcknowledged done at e f) moment_is (acknowledged back leave);
+          inbox = either;
+          outbox = sent;
+          follow = follows_grown (Err EngineError.Inbox) in_tells out_tells (sending_of done.outcome.sent done.sources) e.journal f.journal files now_files out now_out (record { step = step_done done; acked = Some m }) (acknowledged back leave).journal sent;
+        }

@@ -1,8 +1,9 @@
 -- The files that a session takes, and what it is handed of them.
-use Rattle.std.proofs.Common.{◌≡◌, ℕ, ◌≤◌, Bool, true, false, List, [], ◌∷◌, length, map, refl, sym, ap, subst, ◌∙◌}
-use Rattle.std.specs.Prelude.{All, Contains, Result, Ok, Err, IfOk, Option, None, Some, IsSome, IfSome, slice_get, is_some}
-use Rattle.std.specs.Option.{IsSomeAnd, option_map_or}
+use Rattle.std.proofs.Common.{◌≡◌, ℕ, ◌≤◌, Bool, true, false, List, [], ◌∷◌, length, refl, sym, ap, subst, ◌∙◌}
+use Rattle.std.specs.Prelude.{All, Contains, Result, Ok, Err, IfOk, IsTrue, Option, None, Some, IsSome, IfSome}
+use Rattle.std.specs.Option.{IsSomeAnd}
 use Rattle.std.proofs.lemmas.List.Elements.{All-cons, All-head, All-nil, All-tail}
+use Rattle.flowfile_record.specs.NamedFile.{NamedFile}
 use Rattle.flowfile_record.specs.Stored.{Kept}
 use Rattle.flowfile_record.specs.declared.TheConstants.{CONTENT_MAX}
 use Rattle.flowfile_record.specs.declared.content.ContentRef.{ContentRef}
@@ -10,20 +11,18 @@ use Rattle.flowfile_record.specs.declared.flow_file.FlowFile.{FlowFile}
 use Rattle.flowfile_record.specs.declared.stored.ActiveFile.{ActiveFile}
 use Rattle.record_codec.specs.ActiveFile.{active}
 use Rattle.kept_state.specs.Fits.{are_active_in, are_distinct_numbers}
+use Rattle.machine_model.specs.declared.flow.Flow.{Flow}
 use Rattle.machine_model.specs.declared.given.Given.{Given}
-use Rattle.machine_model.specs.Acting.{name_in}
-use Rattle.machine_model.specs.Changing.{queued_file}
-use Rattle.machine_model.specs.State.{World}
-use Rattle.machine_model.specs.Stepping.{is_there}
 use Rattle.machine_model.proofs.Among.{among_contained, contains_among, makes}
 use Rattle.store_core.specs.State.{live_contents}
 use Rattle.engine_choice.specs.declared.choice.Taking.{Taking}
 use Rattle.engine_choice.specs.declared.choice.Taking.TheVariants.{Generate, Receive}
 use Rattle.engine_session.specs.Handing.{AreReadOf, AreTaken, files_fit_a_content, live_files}
 use Rattle.engine_session.proofs.Lookups.{live_there}
-use Rattle.engine_steps.specs.Handing.{JobIsHanded}
+use Rattle.engine_steps.specs.Handing.{HasBytesOf, IsHandedAs, JobIsHanded}
 use Rattle.engine_session.specs.declared.job.Job.{Job}
 use Rattle.engine_steps.specs.declared.flight.InFlight.{InFlight}
+use Rattle.engine_steps.proofs.Told.{none_there}
 
 pub some_and : {A : Type 0} (P : A → Type 0) (o : Option A) → IsSomeAnd o P → IsSome o × IfSome o P
 some_and P None is = absurd is
@@ -46,14 +45,6 @@ module _ (k : Kept) (connection : ℕ) (numbers : List ℕ) (may : (are_active_i
   pub taken_so : (bytes : ContentRef → List ℕ) (files : List FlowFile) (contents : List (Option (List ℕ))) → files ≡ live_files k numbers → AreReadOf bytes (files_fit_a_content files) files contents
       → AreTaken k connection numbers bytes files contents
   taken_so bytes files contents are read = record { active = may.0; distinct = may.1; are = are; read = read }
-
--- ---- what the outbox has
-
-pub there_so : (world : World) (standing : List ℕ → Option (List ℕ)) (contents : ContentRef → List ℕ) (files : List FlowFile) (there : Bool) → world.outbox ≡ standing
-    → there ≡ option_map_or (λ (file : FlowFile). option_map_or (λ name. is_some (standing name)) (name_in file.attributes) false) (slice_get files 0) false
-    → there ≡ is_there world (map (queued_file contents) files)
-there_so world standing contents [] there same is = is
-there_so world standing contents (file ∷ files) there same is = is ∙ ap (λ (s : List ℕ → Option (List ℕ)). option_map_or (λ name. is_some (s name)) (name_in file.attributes) false) (sym same)
 
 -- ---- the job of a session
 
@@ -86,6 +77,19 @@ handed_name k name file bytes flight job takes same most is =
     subst (λ (j : Job). JobIsHanded k flight j) (sym as_named)
     (handed_as k flight (Receive name) (without_files flight (record { moment = flight.moment; index = 0; there = false; file = Some name; bytes = Some bytes })) takes
     (record { session = refl; processor = refl; connection = refl; numbers = refl; given = refl; has = most; bytes = λ at. []; taken = none_taken k }))
+
+-- one that takes no files is told no
+pub told_without_files : (tells in_tells out_tells : Bool) (flow : Flow) (k : Kept) (contents : ContentRef → List ℕ) (left : List NamedFile) (standing : List ℕ → Option (List ℕ)) (flight : InFlight) (given : Given) (job : Job)
+    → job ≡ without_files flight given → given.there ≡ false → (IsTrue in_tells → HasBytesOf left flight.choice.taking given.bytes)
+    → IsHandedAs tells in_tells out_tells flow k contents left standing flight.choice job
+told_without_files tells in_tells out_tells flow k contents left standing flight given job is untold bytes =
+    subst (λ (j : Job). IsHandedAs tells in_tells out_tells flow k contents left standing flight.choice j) (sym is)
+    (record {
+      read = λ telling. record { active = refl; distinct = refl; are = refl; read = tt };
+      received = bytes;
+      there = λ telling world same. untold ∙ none_there flow flight.choice.processor world standing contents [] refl;
+      unasked = λ unasked. untold;
+    })
 
 pub if_ok : {A E : Type 0} (r : Result A E) (P Q : A → Type 0) → ((a : A) → P a → Q a) → IfOk r P → IfOk r Q
 if_ok (Ok a) P Q to is = to a is

@@ -12,6 +12,7 @@ pub mod Expired
 pub mod Files
 pub mod Fitting
 pub mod Flights
+pub mod Follows
 pub mod Goes
 pub mod HandedBack
 pub mod LastWorker
@@ -33,5 +34,6 @@ pub mod Staying
 pub mod Steps
 pub mod Tends
 pub mod Tidied
+pub mod Told
 pub mod Worked
 pub mod Written

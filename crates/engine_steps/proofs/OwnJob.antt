@@ -67,7 +67,7 @@ module _ (e : EngineState) (ready : IsReadyInMemory e) (session : ℕ) (flight :
 
   -- what it was handed is its job
   pub flight_job : (tells in_tells out_tells : Bool) (contents : ContentRef → List ℕ) (left : List NamedFile) (standing : List ℕ → Option (List ℕ)) (job : Job)
-      → JobIsHanded (kept_by e.store) flight job → IsHandedAs tells in_tells out_tells (kept_by e.store) contents left standing flight.choice.taking job
+      → JobIsHanded (kept_by e.store) flight job → IsHandedAs tells in_tells out_tells e.flow (kept_by e.store) contents left standing flight.choice job
       → IsJobOf tells in_tells out_tells e contents left standing flight job
   flight_job tells in_tells out_tells contents left standing job handed told =
       record { flying = (found_flies session e.out flight is).0; handed = handed; told = told; may = flight_may_hand job handed }
@@ -82,7 +82,7 @@ module _ (e : EngineState) (ready : IsReadyInMemory e) (session : ℕ) (flight :
 -- what it was handed is its job, as it is answered
 pub flight_job_if : (result : Result Job EngineError) (tells in_tells out_tells : Bool) (e : EngineState) → IsReadyInMemory e → (session : ℕ) (flight : InFlight) → find (has_session session) e.out ≡ Some flight
     → (contents : ContentRef → List ℕ) (left : List NamedFile) (standing : List ℕ → Option (List ℕ)) → IfOk result (JobIsHanded (kept_by e.store) flight)
-    → IfOk result (IsHandedAs tells in_tells out_tells (kept_by e.store) contents left standing flight.choice.taking)
+    → IfOk result (IsHandedAs tells in_tells out_tells e.flow (kept_by e.store) contents left standing flight.choice)
     → IfOk result (λ job. (other : InFlight) → find (has_session session) e.out ≡ Some other → IsJobOf tells in_tells out_tells e contents left standing other job)
 flight_job_if (Ok job) tells in_tells out_tells e ready session flight is contents left standing handed told =
     found_alone e ready session flight is (λ (f : InFlight). IsJobOf tells in_tells out_tells e contents left standing f job)

@@ -1,6 +1,6 @@
 -- What a session in flight is handed stands in the machine's state and world.
 use Rattle.std.proofs.Common.{◌≡◌, ℕ, Bool, true, false, cond, ◌≤◌, List, [], ◌∷◌, length, map, true≢false, refl, sym, ap, subst, ◌∙◌}
-use Rattle.std.specs.Prelude.{IsTrue, Option, None, Some, filter, slice_get, slice_index, bytes_eq, option_and_then}
+use Rattle.std.specs.Prelude.{◌&&◌, IsTrue, Option, None, Some, filter, slice_get, slice_index, bytes_eq, option_and_then}
 use Rattle.std.specs.Option.{IsSomeAnd}
 use Rattle.std.proofs.lemmas.Slice.Eq.{bytes_eq-Decides}
 use Rattle.flowfile_record.specs.NamedFile.{NamedFile, bytes_of}
@@ -24,6 +24,7 @@ use Rattle.engine_change.specs.Committing.{identity_of}
 use Rattle.engine_queues.specs.Views.{HaveSizes}
 use Rattle.engine_choice.specs.Choice.{coming_of}
 use Rattle.engine_choice.specs.Laws.{IsSessionAt, given_for, numbers_in}
+use Rattle.engine_choice.specs.declared.choice.Choice.{Choice}
 use Rattle.engine_choice.specs.declared.choice.Taking.{Taking}
 use Rattle.engine_choice.specs.declared.choice.Taking.TheVariants.{Files, Generate, Receive}
 use Rattle.engine_session.specs.Handing.{live_files}
@@ -31,10 +32,11 @@ use Rattle.engine_session.specs.Laws.{MachinesFilesAreLive}
 use Rattle.engine_session.specs.Taken.{IsAmong, IsNextIndex, MayStillTake, TakenAreSessions, TakesStill}
 use Rattle.run_law.specs.Journal.{inbox_left}
 use Rattle.run_law.specs.Run.{IsStateOf}
-use Rattle.engine_steps.specs.Handing.{HasBytes, HasBytesOf, JobIsHanded, IsHandedAs}
+use Rattle.engine_steps.specs.Handing.{HasBytes, HasBytesOf, JobIsHanded, IsHandedAs, asks_outbox, there_for}
 use Rattle.engine_session.specs.Job.{JobStandsIn}
 use Rattle.engine_session.specs.declared.job.Job.{Job}
 use Rattle.engine_steps.specs.declared.flight.InFlight.{InFlight}
+use Rattle.engine_steps.proofs.Told.{asks_by, told_given}
 
 -- ---- a file that is left
 
@@ -106,10 +108,10 @@ module _ (flow : Flow) (k : Kept) (moment place : ℕ) (state : State) (world : 
   handed_so kind (Receive name) takes is has bytes gives = absurd takes
 
 -- where all devices tell
-pub all_told : {tells in_tells out_tells : Bool} {k : Kept} {contents : ContentRef → List ℕ} {left : List NamedFile} {standing : List ℕ → Option (List ℕ)} {taking : Taking} {job : Job}
-    → IsHandedAs tells in_tells out_tells k contents left standing taking job → IsTrue tells → IsTrue in_tells → IsTrue out_tells → IsHandedAs true true true k contents left standing taking job
+pub all_told : {tells in_tells out_tells : Bool} {flow : Flow} {k : Kept} {contents : ContentRef → List ℕ} {left : List NamedFile} {standing : List ℕ → Option (List ℕ)} {choice : Choice} {job : Job}
+    → IsHandedAs tells in_tells out_tells flow k contents left standing choice job → IsTrue tells → IsTrue in_tells → IsTrue out_tells → IsHandedAs true true true flow k contents left standing choice job
 all_told told telling in_telling out_telling =
-    record { read = λ all. told.read telling; received = λ all. told.received in_telling; there = λ all. told.there out_telling }
+    record { read = λ all. told.read telling; received = λ all. told.received in_telling; there = λ all. told.there out_telling; unasked = told.unasked }
 
 moment_of : (moment : ℕ) (there : Bool) (taking : Taking) → (given_for moment there taking).moment ≡ moment
 moment_of moment there (Files connection numbers) = refl
@@ -126,7 +128,7 @@ module _ (sessions : TakenAreSessions) (live : MachinesFilesAreLive) (flow : Flo
 
   pub stands_in : IsSound flow → IsConsistent k → k.batches ≡ [] → flow_in k ≡ identity_of flow → HaveSizes contents k → TakesStill flow k flight.moment flight.choice → IsNextIndex k.counts place taking
       → IsAmong (coming_of m.world) taking → IsStateOf m contents k → left ≡ inbox_left m.world → standing ≡ m.world.outbox
-      → JobIsHanded k flight job → IsHandedAs true true true k contents left standing taking job → JobStandsIn flow k contents m job
+      → JobIsHanded k flight job → IsHandedAs true true true flow k contents left standing flight.choice job → JobStandsIn flow k contents m job
   stands_in sound consistent no_batches flow_is sizes still next comes tied lies stands handed told =
       let at = subst (λ (s : State). IsSessionAt flow s m.world flight.moment flight.choice) tied.is
       (sessions flow contents m.state.events k m.world flight.moment flight.choice sound consistent no_batches flow_is tied.events sizes still next comes) in
@@ -139,10 +141,12 @@ module _ (sessions : TakenAreSessions) (live : MachinesFilesAreLive) (flow : Flo
       let files : at.files ≡ map (queued_file contents) job.files =
       are_live.are ∙ ap (map (queued_file contents)) (ap (live_files k) (sym handed.numbers) ∙ sym handed.taken.are) in
       let time : job.given.moment ≡ flight.moment = ap (λ (g : Given). g.moment) handed.given ∙ moment_of flight.moment job.given.there taking in
-      let there : job.given.there ≡ is_there m.world at.files = told.there refl m.world (sym stands) ∙ ap (is_there m.world) (sym files) in
-      let gives : given_in at.processor.kind place m.state m.world at.files (record job.given { bytes = None }) ≡ Some at.handed =
-      ap (given_in at.processor.kind place m.state m.world at.files) (handed.given ∙ ap (λ b. given_for flight.moment b taking) there) ∙ at.given in
-      let back = handed_so flow k flight.moment place m.state m.world at.files left lies job.given at.handed at.processor.kind taking takes handed.given handed.has (told.received refl) gives in
+      let there : job.given.there ≡ asks_outbox at.processor.kind && is_there m.world at.files =
+      told.there refl m.world (sym stands) ∙ ap (there_for flow place m.world) (sym files) ∙ ap (λ (b : Bool). b && is_there m.world at.files) (asks_by flow place at.processor at.found) in
+      let given = told_given at.processor.kind place m.state m.world at.files flight.moment job.given.there taking at.handed there at.given in
+      let gives : given_in at.processor.kind place m.state m.world at.files (record job.given { bytes = None }) ≡ Some given.0 =
+      ap (given_in at.processor.kind place m.state m.world at.files) handed.given ∙ given.1 in
+      let back = handed_so flow k flight.moment place m.state m.world at.files left lies job.given given.0 at.processor.kind taking takes handed.given handed.has (told.received refl) gives in
       record {
         processor = at.processor;
         found = ap (slice_get flow.processors) handed.processor ∙ at.found;

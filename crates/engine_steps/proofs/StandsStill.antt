@@ -9,7 +9,6 @@ use Rattle.flowfile_record.specs.declared.content.ContentRef.{ContentRef}
 use Rattle.flowfile_record.specs.declared.flow_file.FlowFile.{FlowFile}
 use Rattle.kept_state.specs.Fits.{are_active_in, are_distinct_numbers}
 use Rattle.machine_model.specs.Changing.{queued_file}
-use Rattle.machine_model.specs.Stepping.{is_there}
 use Rattle.machine_model.specs.declared.given.Given.{Given}
 use Rattle.process_session.specs.Bench.{taken_source}
 use Rattle.process_session.specs.declared.file.Source.{Source}
@@ -26,7 +25,7 @@ use Rattle.engine_session.specs.declared.job.Job.{Job}
 use Rattle.engine_steps.specs.Commit.{IndexIsNext, StandsSo}
 use Rattle.engine_steps.specs.Engine.{EngineState}
 use Rattle.engine_steps.specs.Flights.{has_session}
-use Rattle.engine_steps.specs.Handing.{HasBytes, HasBytesOf, JobIsHanded, IsHandedAs, MayBeTaken, connection_in}
+use Rattle.engine_steps.specs.Handing.{HasBytes, HasBytesOf, JobIsHanded, IsHandedAs, MayBeTaken, connection_in, there_for}
 use Rattle.engine_steps.specs.OwnJob.{IsJobOf}
 use Rattle.engine_steps.specs.Ready.{IsReadyInMemory}
 use Rattle.engine_steps.specs.Standing.{HandedStands}
@@ -115,7 +114,7 @@ work_is_done tells in_tells out_tells e contents left standing flight job done o
 
 module _ (tells in_tells out_tells : Bool) (e : EngineState) (contents : ContentRef → List ℕ) (left : List NamedFile) (standing : List ℕ → Option (List ℕ)) (flight : InFlight) (done : Done)
     (of : WorkIsDone e.flow (kept_by e.store).store in_tells left done) (flying : Contains e.out flight) (next : IndexIsNext e flight)
-    (stands : HandedStands tells out_tells (kept_by e.store) contents standing flight done) (may : MayBeTaken (kept_by e.store) flight.choice.taking)
+    (stands : HandedStands tells out_tells e.flow (kept_by e.store) contents standing flight done) (may : MayBeTaken (kept_by e.store) flight.choice.taking)
     (hand : (job : Job) → JobIsHanded (kept_by e.store) flight job → MayHand e.flow (kept_by e.store) job) where
   abbrev k : Kept
   k = kept_by e.store
@@ -177,11 +176,13 @@ module _ (tells in_tells out_tells : Bool) (e : EngineState) (contents : Content
       ∙ stands.bytes telling
       ∙ ap (λ (files : List FlowFile). map (λ (file : FlowFile). Some (contents file.content)) files) work.files
 
-  told : IsHandedAs tells in_tells out_tells k contents left standing taking job
+  told : IsHandedAs tells in_tells out_tells e.flow k contents left standing flight.choice job
   told = record {
     read = λ telling. taken_so contents (stands_as_read of.read.0 contents (files_fit_a_content job.files) job.files job.contents of.read.1 (contents_are telling));
     received = λ telling. has_bytes_of in_tells left job.given.file job.given.bytes of.received telling taking file_is;
-    there = λ telling world same. there_is ∙ stands.there telling world same ∙ ap (λ (files : List FlowFile). is_there world (map (queued_file contents) files)) work.files;
+    there = λ telling world same.
+        there_is ∙ stands.there telling world same ∙ ap (λ (files : List FlowFile). there_for e.flow flight.choice.processor world (map (queued_file contents) files)) work.files;
+    unasked = λ unasked. there_is ∙ stands.unasked unasked;
   }
 
   own : IsJobOf tells in_tells out_tells e contents left standing flight job
@@ -194,7 +195,7 @@ module _ (tells in_tells out_tells : Bool) (e : EngineState) (contents : Content
 -- .. of a session in flight of an engine that is ready
 pub flight_stands_so : (tells in_tells out_tells : Bool) (e : EngineState) (contents : ContentRef → List ℕ) (left : List NamedFile) (standing : List ℕ → Option (List ℕ)) (session : ℕ) (flight : InFlight) (done : Done)
     → IsReadyInMemory e → find (has_session session) e.out ≡ Some flight → IndexIsNext e flight → WorkIsDone e.flow (kept_by e.store).store in_tells left done
-    → HandedStands tells out_tells (kept_by e.store) contents standing flight done → StandsSo tells in_tells out_tells e contents left standing done
+    → HandedStands tells out_tells e.flow (kept_by e.store) contents standing flight done → StandsSo tells in_tells out_tells e contents left standing done
 flight_stands_so tells in_tells out_tells e contents left standing session flight done ready is next of stands =
     stands_so tells in_tells out_tells e contents left standing flight done of (found_flies session e.out flight is).0 next stands
     (flight_takes e ready session flight is) (flight_may_hand e ready session flight is)

@@ -54,7 +54,7 @@ module _ (tells : Bool) {D : Type 0} (held : D → Files) (moment : D → ℕ) (
   pub steps : TakenAreSessions → HeldContentsHaveSizes → MachinesFilesAreLive → IsConsistent (kept_by e.store) → (kept_by e.store).batches ≡ [] → FilesHold e.store (held disk) → IndexIsNext e flight
       → (opened : Machine) (first : D) (start : Start) (since : ℕ) (left : List NamedFile) (out : Outgoing) (run : IsRunning moment images e opened first start since disk left out)
       → IsStateOf run.reached (content_in (held disk)) (kept_by e.store) → (job : Job) (changed : Changed)
-      → JobIsHanded (kept_by e.store) flight job → IsHandedAs true true true (kept_by e.store) (content_in (held disk)) left out.standing flight.choice.taking job
+      → JobIsHanded (kept_by e.store) flight job → IsHandedAs true true true e.flow (kept_by e.store) (content_in (held disk)) left out.standing flight.choice job
       → MakesStep e.flow (kept_by e.store) job changed → IsStepOf e.flow (content_in (held disk)) run.reached job changed
   steps sessions sizes live consistent no_batches holds next opened first start since left out run tied job changed handed told makes =
       let comes = subst (λ (names : List (List ℕ)). IsAmong names flight.choice.taking) (sym run.to.coming) is_to_come in

@@ -6,6 +6,7 @@ use Rattle.flowfile_record.specs.NamedFile.{NamedFile}
 use Rattle.flowfile_record.specs.declared.content.ContentRef.{ContentRef}
 use Rattle.content_repo.specs.Claims.{content_in}
 use Rattle.kept_state.specs.declared.limit.Limit.{Limit as TheLimit}
+use Rattle.machine_model.specs.declared.journal.Entry.{Entry}
 use Rattle.run_law.specs.Puts.{Outgoing}
 use Rattle.store_core.specs.Store.{kept_by}
 use Rattle.run_law.specs.Work.{WritesLog}
@@ -122,6 +123,15 @@ IsOutboxBehind (Err Inbox) sending old new = (new ≡ old) ⊎ (new ≡ with_sen
 IsOutboxBehind (Err Put) sending old new = IsLeftBySend sending old new
 IsOutboxBehind _ sending old new = new ≡ old
 
+-- Inbox and outbox follow the journal. Where that is as it was, so are both, but for a put that failed; and where it isn't,
+-- what the session sends was put.
+pub record DevicesFollow {A : Type 0} (result : Result A EngineError) (in_tells out_tells : Bool)
+    (sending : Option Sending) (old new : List Entry) (left now_left : List NamedFile) (out now_out : Outgoing) : Type 0
+  where
+    pub inbox : new ≡ old → IsTrue in_tells → now_left ≡ left
+    pub outbox : new ≡ old → (IsErrOf result Put → ⊥) → IsTrue out_tells → now_out ≡ out
+    pub sent : (new ≡ old → ⊥) → IsTrue out_tells → now_out ≡ with_sending sending out
+
 -- Nothing was made of the session: there is no entry, no limit was met, and the store must be opened anew only where it
 -- had to be before, or the disk failed.
 pub record IsLeftOut {A : Type 0} (result : Result A EngineError) (old new : EngineState) : Type 0 where
@@ -136,6 +146,8 @@ pub record MakesEntry (result : Result Committed EngineError) (done : Done) (now
   pub journal : IsJournaled result done now old new
   pub inbox : IsTrue in_tells → IsInboxBehind result done.given.file left now_left
   pub outbox : IsTrue out_tells → IsOutboxBehind result (sending_of done.outcome.sent done.sources) out now_out
+  pub follow : DevicesFollow result in_tells out_tells (sending_of done.outcome.sent done.sources) old.journal new.journal
+      left now_left out now_out
 
 -- Only what stands is made part of the run. Where something has changed, that is so, and nothing is done but that the
 -- session has ended.

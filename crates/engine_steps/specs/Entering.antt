@@ -18,7 +18,7 @@ use Rattle.run_law.specs.Work.{DoesNotTell}
 use Rattle.engine_session.specs.Sending.{sending_of}
 use Rattle.engine_session.specs.declared.change.Changed.{Changed}
 use Rattle.engine_session.specs.declared.done.Done.{Done}
-use Rattle.engine_steps.specs.Commit.{IsEntered, IsInboxLeft}
+use Rattle.engine_steps.specs.Commit.{DevicesFollow, IsEntered, IsInboxLeft}
 use Rattle.engine_steps.specs.Committing.{IsOutboxLeft}
 use Rattle.engine_steps.specs.Engine.{EngineState}
 use Rattle.engine_steps.specs.Errors.{IsReadBy}
@@ -83,6 +83,8 @@ pub record EntersSession (result : Result ℕ EngineError) (done : Done) (now : 
   pub journal : IsEntered result done now old new
   pub inbox : IsTrue in_tells → IsInboxLeft result done.given.file left now_left
   pub outbox : IsTrue out_tells → IsOutboxLeft result (sending_of done.outcome.sent done.sources) out now_out
+  pub follow : DevicesFollow result in_tells out_tells (sending_of done.outcome.sent done.sources) old.journal new.journal
+      left now_left out now_out
 
 -- What a run becomes by a session that is this step: it goes on, unless disk or put failed, or the file that was received
 -- couldn't be removed; and any error may stop it.

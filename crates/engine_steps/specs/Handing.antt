@@ -1,15 +1,19 @@
 -- What a session in flight is handed.
-use Rattle.std.specs.Prelude.{◌≡◌, ⊤, ℕ, ◌≤◌, Bool, IsTrue, true, List, Option, None, length, map}
-use Rattle.std.specs.Option.{IsSomeAnd}
+use Rattle.std.specs.Prelude.{◌≡◌, ⊤, ℕ, ◌≤◌, ◌&&◌, Bool, IsTrue, true, false, List, Option, None, length, map, slice_get}
+use Rattle.std.specs.Option.{IsSomeAnd, option_map_or}
 use Rattle.flowfile_record.specs.NamedFile.{NamedFile, bytes_of}
 use Rattle.flowfile_record.specs.Stored.{Kept}
 use Rattle.flowfile_record.specs.declared.TheConstants.{CONTENT_MAX}
 use Rattle.flowfile_record.specs.declared.content.ContentRef.{ContentRef}
 use Rattle.kept_state.specs.Fits.{are_active_in, are_distinct_numbers}
+use Rattle.machine_model.specs.declared.flow.Flow.{Flow}
+use Rattle.machine_model.specs.declared.kind.Kind.{Kind}
+use Rattle.machine_model.specs.declared.kind.Kind.TheVariants.{PutFile}
 use Rattle.machine_model.specs.Changing.{queued_file}
-use Rattle.machine_model.specs.State.{World}
+use Rattle.machine_model.specs.State.{QueuedFile, World}
 use Rattle.machine_model.specs.Stepping.{is_there}
 use Rattle.engine_choice.specs.Laws.{given_for, numbers_in}
+use Rattle.engine_choice.specs.declared.choice.Choice.{Choice}
 use Rattle.engine_choice.specs.declared.choice.Taking.{Taking}
 use Rattle.engine_choice.specs.declared.choice.Taking.TheVariants.{Files, Receive}
 use Rattle.engine_session.specs.Handing.{AreTaken}
@@ -28,6 +32,21 @@ MayBeTaken k _ = ⊤
 abbrev pub MayBeReceived : List NamedFile → Taking → Type 0
 MayBeReceived left (Receive name) = IsSomeAnd (bytes_of left name) (λ bytes. length bytes ≤ CONTENT_MAX)
 MayBeReceived left _ = ⊤
+
+-- ---- what the outbox is asked
+
+-- a PutFile alone is told whether the outbox has the file's name
+abbrev pub asks_outbox : Kind → Bool
+asks_outbox (PutFile conflict) = true
+asks_outbox _ = false
+
+-- .. of the processor at a place
+abbrev pub asks_at : Flow → (place : ℕ) → Bool
+asks_at flow place = option_map_or (λ processor. asks_outbox processor.kind) (slice_get flow.processors place) false
+
+-- what a session of the processor at a place is told: no, where it doesn't ask
+abbrev pub there_for : Flow → (place : ℕ) → World → List QueuedFile → Bool
+there_for flow place world files = asks_at flow place && is_there world files
 
 -- ---- what is handed
 
@@ -58,10 +77,11 @@ pub record JobIsHanded (k : Kept) (flight : InFlight) (job : Job) : Type 0 where
   pub taken : AreTaken k job.connection job.numbers bytes job.files job.contents
 
 -- Of disk, inbox and outbox, as far as each tells: what was read are the bytes that references stand for, and those of
--- the inbox's file; and what is said of the outbox is so.
-pub record IsHandedAs (tells in_tells out_tells : Bool) (k : Kept) (contents : ContentRef → List ℕ)
-    (left : List NamedFile) (standing : List ℕ → Option (List ℕ)) (taking : Taking) (job : Job) : Type 0 where
+-- the inbox's file; and what is said of the outbox is so. Where the processor doesn't ask, that is no, whatever it tells.
+pub record IsHandedAs (tells in_tells out_tells : Bool) (flow : Flow) (k : Kept) (contents : ContentRef → List ℕ)
+    (left : List NamedFile) (standing : List ℕ → Option (List ℕ)) (choice : Choice) (job : Job) : Type 0 where
   pub read : IsTrue tells → AreTaken k job.connection job.numbers contents job.files job.contents
-  pub received : IsTrue in_tells → HasBytesOf left taking job.given.bytes
+  pub received : IsTrue in_tells → HasBytesOf left choice.taking job.given.bytes
   pub there : IsTrue out_tells → (world : World) → world.outbox ≡ standing
-      → job.given.there ≡ is_there world (map (queued_file contents) job.files)
+      → job.given.there ≡ there_for flow choice.processor world (map (queued_file contents) job.files)
+  pub unasked : asks_at flow choice.processor ≡ false → job.given.there ≡ false

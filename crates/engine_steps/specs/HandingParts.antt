@@ -35,6 +35,11 @@ pub record AsksOutbox {O A : Type 0} (result : Result A EngineError) (standing :
   pub unput : IsErrOf result Put → ⊥
   pub cause : CountsFaults (faults old) (faults new) (IsErrOf result Outbox)
 
+-- The outbox isn't called: it is as it was, and no failure of it is answered.
+pub record IsUncalled {O A : Type 0} (result : Result A EngineError) (old new : O) : Type 0 where
+  pub same : new ≡ old
+  pub unfailed : IsErrOf result Outbox → ⊥
+
 -- A job was handed out, or was to be: so of the store and of all devices. No limit is met by that, and it isn't refused
 -- because the store must be opened anew, or no such session is in flight.
 pub record LeavesAsRead {D I O A : Type 0} (result : Result A EngineError) (tells : Bool) (held : D → Files)

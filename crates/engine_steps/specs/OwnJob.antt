@@ -15,5 +15,5 @@ pub record IsJobOf (tells in_tells out_tells : Bool) (e : EngineState) (contents
     (left : List NamedFile) (standing : List ℕ → Option (List ℕ)) (flight : InFlight) (job : Job) : Type 0 where
   pub flying : Contains e.out flight
   pub handed : JobIsHanded (kept_by e.store) flight job
-  pub told : IsHandedAs tells in_tells out_tells (kept_by e.store) contents left standing flight.choice.taking job
+  pub told : IsHandedAs tells in_tells out_tells e.flow (kept_by e.store) contents left standing flight.choice job
   pub may : MayHand e.flow (kept_by e.store) job

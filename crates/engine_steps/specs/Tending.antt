@@ -104,13 +104,14 @@ HasTended (Err _) moment now old new =
     (new.journal ≡ old.journal) × (new.since_reclaim ≡ old.since_reclaim) × (kept_by new.store ≡ kept_by old.store)
 
 -- The first thing that is due at the moment is what was done, and only files that expired meet a limit. Where nothing
--- is due, the disk isn't called, and the log is short.
+-- is due, the disk isn't called, and the log is short. A refusal that isn't the disk's leaves the disk as it was.
 pub record TendsFirst {D : Type 0} (result : Result Tended EngineError) (moment_of : D → ℕ)
     (images : D → ℕ → Files → Type 0) (moment : ℕ) (e_old e_new : EngineState) (old new : D) : Type 0 where
   pub due : IfOk result (λ tended. due_behind tended ≡ due_in e_old moment)
   pub wanted : (limit : TheLimit) → IsErrOf result (Limit limit) → due_in e_old moment ≡ Some Expiry
   pub done : HasTended result moment (moment_of new) e_old e_new
   pub nothing : result ≡ Ok Nothing → (new ≡ old) × IsShortOn moment_of images e_old.checkpoint old
+  pub refused : (error : EngineError) → IsErrOf result error → (error ≡ Disk → ⊥) → new ≡ old
 
 -- What stays: the run's constants, the names and which are taken, who worked last, the sessions in flight, and the number
 -- of the next one. The log is no earlier one. Only claims, files of events, the log and what may follow it are written.

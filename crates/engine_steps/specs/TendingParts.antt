@@ -79,15 +79,15 @@ pub record LeavesTended {D A : Type 0} (result : Result A EngineError) (tells : 
 -- ---- files expire
 
 -- What a call leaves that lets expired files go, at a disk whose moment is then this one. If there were any the journal
--- has an entry more, of these; where the disk failed, one that isn't acknowledged; and else neither it nor what the
--- store keeps changes. Only an entry is counted. If there were none, nothing is done.
+-- has an entry more, of these; where the disk failed, one that isn't acknowledged; and else neither it, what the store
+-- keeps nor the disk changes. Only an entry is counted. If there were none, nothing is done.
 pub record LetsExpiredGo {D : Type 0} (result : Result Bool EngineError) (moment now : ℕ) (e_old e_new : EngineState)
     (old new : D) : Type 0 where
   pub expired : result ≡ Ok true → HasExpired moment (Some now) e_old e_new
       × (e_new.since_reclaim ≡ counted_on e_old.since_reclaim)
   pub cut_off : IsErrOf result Disk → HasExpired moment None e_old e_new
   pub kept : (error : EngineError) → IsErrOf result error → (error ≡ Disk → ⊥)
-      → (e_new.journal ≡ e_old.journal) × (kept_by e_new.store ≡ kept_by e_old.store)
+      → (e_new.journal ≡ e_old.journal) × (kept_by e_new.store ≡ kept_by e_old.store) × (new ≡ old)
   pub since : (error : EngineError) → IsErrOf result error → e_new.since_reclaim ≡ e_old.since_reclaim
   pub none : result ≡ Ok false → (e_new ≡ e_old) × (new ≡ old)
 

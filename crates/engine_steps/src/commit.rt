@@ -221,7 +221,16 @@ impl Engine<'_> {
         let Some(flight) = flight_in(&self.out, done.session) else {
             unreachable!()
         };
-        handed_stands(alloc, &mut self.store, disk, inbox, outbox, flight, done)
+        handed_stands(
+            alloc,
+            self.flow,
+            &mut self.store,
+            disk,
+            inbox,
+            outbox,
+            flight,
+            done,
+        )
     }
 
     // Whether the job of this work still stands, by a job that is read again.

@@ -1,21 +1,21 @@
 //! Whether what a session was handed stands as it stood. No content is read into memory for that, and none is digested.
-ghost use Rattle.std.specs.Prelude.{◌≡◌, [], None, Some, map, All, Contains, IfOk, IfErr, IsTrue};
+ghost use Rattle.std.specs.Prelude.{◌≡◌, [], None, Some, false, map, All, Contains, IfOk, IfErr, IsTrue};
 ghost use Rattle.content_repo.specs.Claims.{content_in};
 ghost use Rattle.machine_model.specs.declared.flow.Flow.{Flow as TheFlow};
 ghost use Rattle.store_core.specs.Store.{kept_by, live_in};
-ghost use Rattle.engine_steps.specs.Handing.{MayBeReceived, MayBeTaken};
-ghost use Rattle.engine_steps.specs.HandingParts.{AsksInbox, LeavesAsRead, ReadsContents};
+ghost use Rattle.engine_steps.specs.Handing.{MayBeReceived, MayBeTaken, asks_at};
+ghost use Rattle.engine_steps.specs.HandingParts.{AsksInbox, IsUncalled, LeavesAsRead, ReadsContents};
 ghost use Rattle.engine_steps.specs.Standing.{HandedStands, IsOfFlight};
 ghost use Rattle.run_law.specs.Work.{IsAtWork};
 
 use crate::EngineError;
 use crate::flight::InFlight;
-use crate::handing_out::is_there;
+use crate::handing_out::{asks_outbox, is_there};
 use disk_trait::Disk;
 use engine_choice::Taking;
 use engine_session::{Done, are_same_files, live_files};
 use flowfile_record::{ContentRef, FlowFile, Name};
-use machine_model::Given;
+use machine_model::{Flow, Given};
 use process_session::Source;
 use std::alloc::Global;
 use store_core::{Store, StoreError};
@@ -25,6 +25,7 @@ use world_io::{Inbox, Outbox};
 /// handed, where together they are too large: then the job has to be read again.
 pub(crate) fn handed_stands<D: Disk, I: Inbox, O: Outbox>(
     alloc: Global,
+    flow: &Flow,
     store: &mut Store,
     disk: &mut D,
     inbox: &mut I,
@@ -32,12 +33,14 @@ pub(crate) fn handed_stands<D: Disk, I: Inbox, O: Outbox>(
     flight: &InFlight,
     done: &Done,
 ) -> Result<bool, EngineError>
-    requires work { (flow : TheFlow) × IsAtWork flow D.tells D.held D.moment D.images store.old disk.old }
+    requires work { (of : TheFlow) × IsAtWork of D.tells D.held D.moment D.images store.old disk.old }
     requires taken { MayBeTaken (kept_by store.old) flight.now.choice.taking }
     requires received { IsTrue I.tells → MayBeReceived (I.left inbox.old) flight.now.choice.taking }
     ensures stands { IfOk result (λ stands. IsTrue stands
-        → HandedStands D.tells O.tells (kept_by store.old) (content_in (D.held disk.old)) (O.standing outbox.old)
-        flight.now done.now) }
+        → HandedStands D.tells O.tells flow.now (kept_by store.old) (content_in (D.held disk.old))
+        (O.standing outbox.old) flight.now done.now) }
+    ensures uncalled { asks_at flow.now flight.now.choice.processor ≡ false
+        → IsUncalled result outbox.old outbox.new }
     ensures leaves { LeavesAsRead result D.tells D.held D.moment D.images D.faults I.left I.faults
         O.standing O.puts O.faults store.old store.new disk.old disk.new inbox.old inbox.new outbox.old outbox.new }
 {
@@ -51,7 +54,8 @@ pub(crate) fn handed_stands<D: Disk, I: Inbox, O: Outbox>(
     if !contents_stand(store, disk, files.as_slice(), done.sources())? {
         return Ok(false);
     }
-    if is_there(alloc, outbox, files.as_slice())? != done.given.there {
+    let asks = asks_outbox(flow, flight.choice.processor);
+    if is_there(alloc, outbox, asks, files.as_slice())? != done.given.there {
         return Ok(false);
     }
     ask_for_received(inbox, &flight.choice.taking)?;

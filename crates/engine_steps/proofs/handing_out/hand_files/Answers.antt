@@ -1,5 +1,5 @@
 use Rattle.std.proofs.Common.{◌≡◌, ℕ, ap, ◌∙◌, sym, subst, refl, rules, List, false}
-use Rattle.std.specs.Prelude.{Err, All, Contains, None, is_some, slice_get}
+use Rattle.std.specs.Prelude.{◌&&◌, Err, All, Contains, None, is_some, slice_get}
 use Rattle.std.specs.Option.{option_map_or}
 use Rattle.std.proofs.lemmas.Result.{err_from_is_err_and}
 use Rattle.flowfile_record.specs.declared.flow_file.FlowFile.{FlowFile}
@@ -9,9 +9,10 @@ use Rattle.store_core.specs.Store.{kept_by, live_in}
 use Rattle.engine_choice.specs.Laws.{given_for, numbers_in}
 use Rattle.engine_choice.specs.declared.choice.Taking.{Taking}
 use Rattle.engine_session.specs.Handing.{AreReadOf, AreTaken, files_fit_a_content, live_files}
-use Rattle.engine_steps.specs.Handing.{HasBytes, connection_in}
+use Rattle.engine_steps.specs.Handing.{HasBytes, HasBytesOf, connection_in}
 use Rattle.engine_steps.specs.declared.error.EngineError.{EngineError}
-use Rattle.engine_steps.proofs.Files.{all_are_live, taken_so, there_so}
+use Rattle.engine_steps.proofs.Files.{all_are_live, taken_so}
+use Rattle.engine_steps.proofs.Told.{there_so}
 use Rattle.engine_steps.proofs.handing_out.hand_files.Goals as goal
 
 pub read_contents-requires-clause-live : goal.read_contents-requires-clause-live
@@ -61,8 +62,9 @@ returns-clause-told g c in_tells left =
           subst (λ (numbers : List ℕ). AreTaken k c.args.connection numbers contents c.in_ok-files.files c.in_ok-contents.contents) (sym c.in_ok-from_slice.ensures)
           (taken_so k c.args.connection c.args.numbers.now c.requires.taken contents c.in_ok-files.files c.in_ok-contents.contents are
           (subst (λ (files : List FlowFile). AreReadOf contents (files_fit_a_content files) files c.in_ok-contents.contents) c.as_slice.ensures (c.in_ok-contents.ensures.told telling)));
-      received = λ in_telling. tt;
-      there = λ out_telling world same. there_so world standing contents c.in_ok-files.files c.in_ok-there.there same
+      received = λ in_telling. subst (λ (t : Taking). HasBytesOf left t None) (sym c.requires.taking) tt;
+      there = λ out_telling world same. there_so c.args.flow.now c.args.flight.now.choice.processor world standing contents c.in_ok-files.files c.asks_outbox-asks.result c.in_ok-there.there same c.asks_outbox-asks.ensures
           (c.in_ok-there.ensures.there out_telling
-          ∙ ap (λ (files : List FlowFile). option_map_or (λ (file : FlowFile). option_map_or (λ name. is_some (standing name)) (name_in file.attributes) false) (slice_get files 0) false) c.as_slice-2.ensures);
+          ∙ ap (λ (files : List FlowFile). c.asks_outbox-asks.result && option_map_or (λ (file : FlowFile). option_map_or (λ name. is_some (standing name)) (name_in file.attributes) false) (slice_get files 0) false) c.as_slice-2.ensures);
+      unasked = λ unasked. c.in_ok-there.ensures.unasked (c.asks_outbox-asks.ensures ∙ unasked);
     }

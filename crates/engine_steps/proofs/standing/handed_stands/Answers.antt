@@ -1,5 +1,5 @@
 use Rattle.std.proofs.Common.{rules, ◌≡◌, ◌∙◌, ℕ, List, false, map, sym, ap, subst}
-use Rattle.std.specs.Prelude.{All, Contains, Some, is_some, slice_get}
+use Rattle.std.specs.Prelude.{◌&&◌, All, Contains, Some, is_some, slice_get}
 use Rattle.std.specs.Option.{option_map_or}
 use Rattle.flowfile_record.specs.declared.flow_file.FlowFile.{FlowFile}
 use Rattle.content_repo.specs.Claims.{content_in}
@@ -9,8 +9,8 @@ use Rattle.store_core.specs.Store.{kept_by, live_in}
 use Rattle.engine_choice.specs.Laws.{numbers_in}
 use Rattle.engine_session.specs.Handing.{live_files}
 use Rattle.engine_steps.specs.Standing.{IsOfFlight}
-use Rattle.engine_steps.proofs.Files.{there_so}
 use Rattle.engine_steps.proofs.StandsStill.{takes_live}
+use Rattle.engine_steps.proofs.Told.{there_so}
 use Rattle.engine_steps.proofs.standing.handed_stands.Goals as goal
 
 pub contents_stand-requires-clause-live : goal.contents_stand-requires-clause-live
@@ -36,7 +36,8 @@ returns-clause-stands g c is =
           sym (ap (λ (sources : List Source). map (λ (source : Source). source.bytes) sources) c.sources.ensures)
           ∙ c.in_ok-contents_stand.ensures.stands (cc) telling
           ∙ ap (λ (files : List FlowFile). map (λ (file : FlowFile). Some (contents file.content)) files) (c.as_slice-2.ensures ∙ sym same);
-      there = λ out_telling world stands. sym there ∙ there_so world standing contents done.files c.in_ok-is_there.field-0 stands
+      there = λ out_telling world stands. sym there ∙ there_so c.args.flow.now c.args.flight.now.choice.processor world standing contents done.files c.asks_outbox-asks.result c.in_ok-is_there.field-0 stands c.asks_outbox-asks.ensures
           (c.in_ok-is_there.ensures.there out_telling
-          ∙ ap (λ (files : List FlowFile). option_map_or (λ (file : FlowFile). option_map_or (λ (name : List ℕ). is_some (standing name)) (name_in file.attributes) false) (slice_get files 0) false) (c.as_slice-3.ensures ∙ sym same));
+          ∙ ap (λ (files : List FlowFile). c.asks_outbox-asks.result && option_map_or (λ (file : FlowFile). option_map_or (λ (name : List ℕ). is_some (standing name)) (name_in file.attributes) false) (slice_get files 0) false) (c.as_slice-3.ensures ∙ sym same));
+      unasked = λ unasked. sym there ∙ c.in_ok-is_there.ensures.unasked (c.asks_outbox-asks.ensures ∙ unasked);
     }

@@ -14,7 +14,16 @@ use Rattle.engine_steps.proofs.AsRead.{as_read, lot_read, read_well, same_error}
 use Rattle.engine_steps.proofs.Reread.{still_goes_on, still_ready, still_runs, still_stands}
 use Rattle.engine_steps.proofs.SessionEnded.{ended_leaves, ended_runs, ended_same_run, ended_unjournaled}
 use Rattle.run_law.specs.Puts.{outgoing}
+use Rattle.engine_steps.proofs.Follows.{follows_behind, follows_still}
 use Rattle.engine_steps.proofs.engine.Engine.commit_job.Goals as goal
+
+pub returns-in_err-stands-clause-entered : goal.returns-in_err-stands-clause-entered
+returns-in_err-stands-clause-entered g c = record {
+  journal = search rules;
+  inbox = search rules;
+  outbox = search rules;
+  follow = follows_still _ _ _ _ _ _ _ _ _ _ (ap (λ (x : EngineState). x.journal) c.stands.ensures.reread.rest) (λ telling. c.stands.ensures.reread.inbox) (λ telling. c.stands.ensures.reread.outbox);
+}
 
 pub returns-in_err-stands-clause-run : goal.returns-in_err-stands-clause-run
 returns-in_err-stands-clause-run g c telling in_telling out_telling =
@@ -83,6 +92,7 @@ returns-then-not-branch-clause-entered g c =
       journal = (ended_unjournaled c.args.done.session e new ended, ended);
       inbox = λ telling. c.stands.ensures.reread.inbox;
       outbox = λ telling. c.stands.ensures.reread.outbox;
+      follow = follows_still _ _ _ _ _ _ _ _ _ _ (ended_unjournaled c.args.done.session e new ended).0 (λ telling. c.stands.ensures.reread.inbox) (λ telling. c.stands.ensures.reread.outbox);
     }
 
 pub returns-then-not-branch-clause-stands : goal.returns-then-not-branch-clause-stands
@@ -169,6 +179,17 @@ enter-requires-clause-stands g c κs within =
     g.I.Inbox.tells g.O.Outbox.tells left (g.I.Inbox.left c.stands.new.inbox) out (outgoing g.O.Outbox.standing g.O.Outbox.puts c.stands.new.outbox)
     c.stands.ensures.reread.inbox c.stands.ensures.reread.outbox c.args.done (c.stands.ensures.so so)
 
+pub returns-in_err-moment-clause-entered : goal.returns-in_err-moment-clause-entered
+returns-in_err-moment-clause-entered g c =
+    let p = err_from_is_err_and c.from_residual-in_err-moment.result c.from_residual-in_err-moment.ensures.1 in
+    record {
+      journal = search rules;
+      inbox = search rules;
+      outbox = search rules;
+      follow = follows_behind c.enter.result c.from_residual-in_err-moment.result _ _ _ _ _ _ _ _ _ _ _ _ (λ put. p.1 ∙ ap Err (p.2 ∙ same_error c.in_err-moment.field-0.0 EngineError.Put (sym c.in_err-moment.was ∙ put)))
+          (ap (λ (x : EngineState). x.journal) c.stands.ensures.reread.rest) c.stands.ensures.reread.inbox c.stands.ensures.reread.outbox c.enter.ensures.entered.follow;
+    }
+
 pub returns-in_err-moment-clause-run : goal.returns-in_err-moment-clause-run
 returns-in_err-moment-clause-run g c telling in_telling out_telling =
     let D = g.D.Disk in
@@ -189,6 +210,15 @@ returns-in_err-moment-clause-run g c telling in_telling out_telling =
           (still_runs D.tells D.held D.moment D.images c.args.disk.now c.stands.new.disk c.stands.ensures.reread.disk c.run_goes_on.ensures.spared e c.stands.new.self same opened first start time time (omega arith)
           left (g.I.Inbox.left c.stands.new.inbox) out (outgoing g.O.Outbox.standing g.O.Outbox.puts c.stands.new.outbox) c.stands.ensures.reread.inbox c.stands.ensures.reread.outbox run);
     }
+
+pub returns-clause-entered : goal.returns-clause-entered
+returns-clause-entered g c = record {
+  journal = search rules;
+  inbox = search rules;
+  outbox = search rules;
+  follow = follows_behind c.enter.result _ _ _ _ _ _ _ _ _ _ _ _ _ (λ put. absurd (read_well c.in_ok-moment.moment EngineError.Put (sym c.in_ok-moment.was ∙ put))) (ap (λ (x : EngineState). x.journal) c.stands.ensures.reread.rest)
+      c.stands.ensures.reread.inbox c.stands.ensures.reread.outbox c.enter.ensures.entered.follow;
+}
 
 pub returns-clause-run : goal.returns-clause-run
 returns-clause-run g c telling in_telling out_telling =

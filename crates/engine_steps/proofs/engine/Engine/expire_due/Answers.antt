@@ -194,9 +194,11 @@ returns-in_err-expired-clause-lets_go g c =
       kept = λ error is apart.
           let told : c.in_err-expired.field-0.0 ≡ error = cc (p.1, p.2, is) in
           let was : c.expire-expired.result ≡ Err error = c.in_err-expired.was ∙ ap Err told in
-          subst (λ (u : EngineState). (f.journal ≡ u.journal) × (kept_by f.store ≡ kept_by u.store)) c.self.view_is (
+          let unwritten = c.expire-expired.ensures.commits.unwritten error was apart in
+          subst (λ (u : EngineState). (f.journal ≡ u.journal) × (kept_by f.store ≡ kept_by u.store) × (new ≡ old)) c.self.view_is (
             grown ∙ ap (λ (r : Result ℕ EngineError). journaled r one i.journal.items) was ∙ journaled_kept error one i.journal.items apart,
-            ap kept_by ((c.expire-expired.ensures.commits.unwritten error was apart).1),
+            ap kept_by unwritten.1,
+            unwritten.0,
           );
       since = search rules;
       none = search rules;

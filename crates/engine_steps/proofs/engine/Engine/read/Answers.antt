@@ -56,7 +56,7 @@ returns-else-self g c =
     let refusal = refuses_read c.read_job-job.result c.args.session D.tells D.held D.moment D.images D.faults I.left I.faults O.standing O.puts O.faults c.args.self.now c.read_job-job.new.self c.args.self.now.store c.read_job-job.new.self.store
     c.args.disk.now c.read_job-job.new.disk c.args.inbox.now c.read_job-job.new.inbox c.args.outbox.now c.read_job-job.new.outbox flying works c.read_job-job.ensures.leaves from
     (λ failed. inl (sym (ap (λ (e : EngineState). e.failed) c.read_job-job.ensures.rest) ∙ failed)) in
-    record { job = job; engine = search rules; world = search rules; usable = search rules; refusal = refusal }
+    record { job = job; engine = search rules; world = search rules; usable = search rules; uncalled = c.read_job-job.ensures.uncalled; refusal = refusal }
 
 pub returns-else-self-2-clause-job : goal.returns-else-self-2-clause-job
 returns-else-self-2-clause-job g c =

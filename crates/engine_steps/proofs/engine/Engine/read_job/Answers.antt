@@ -1,4 +1,4 @@
-use Rattle.std.proofs.Common.{◌≡◌, ◌∙◌, Bor, List, ap, sym, subst}
+use Rattle.std.proofs.Common.{◌≡◌, ◌∙◌, Bor, List, ap, sym, subst, false}
 use Rattle.std.specs.Prelude.{find, Some, IfOk}
 use Rattle.std.proofs.lemmas.Result.{IfOk-weaker}
 use Rattle.content_repo.specs.Claims.{content_in}
@@ -8,10 +8,12 @@ use Rattle.engine_session.specs.declared.job.Job.{Job}
 use Rattle.engine_session.proofs.SessionSteps.{may_work}
 use Rattle.engine_steps.specs.Engine.{AreTakeable, EngineState}
 use Rattle.engine_steps.specs.Flights.{has_session, is_in_flight, names_to_come}
+use Rattle.engine_steps.specs.Handing.{asks_at}
+use Rattle.engine_steps.specs.HandingParts.{IsUncalled}
 use Rattle.engine_steps.specs.OwnJob.{IsJobOf}
 use Rattle.engine_steps.specs.Ready.{IsReadyInMemory}
 use Rattle.engine_steps.specs.declared.flight.InFlight.{InFlight}
-use Rattle.engine_steps.proofs.OwnJob.{flight_job_if, flight_may_hand, flight_receives, flight_takes, found_at, must_be_found}
+use Rattle.engine_steps.proofs.OwnJob.{flight_job_if, flight_may_hand, flight_receives, flight_takes, found_alone, found_at, must_be_found}
 use Rattle.engine_steps.proofs.engine.Engine.read_job.Goals as goal
 
 pub unreachable-requires : goal.unreachable-requires
@@ -40,6 +42,14 @@ returns-clause-job g c =
     (flight_job_if c.hand.result g.D.Disk.tells g.I.Inbox.tells g.O.Outbox.tells _ (subst (λ (e : EngineState). IsReadyInMemory e) (sym c.self.view_is) c.requires.ready.memory) c.args.session c.in-Some.flight.now
     (found_at c.args.session c.deref.result.now (λ (f : Bor InFlight). f.now) c.flight_in.result c.flight_in.ensures c.self.inside.out.items c.deref.ensures.value c.in-Some.flight c.in-Some.is)
     contents left standing c.hand.ensures.handed c.hand.ensures.told)
+
+pub returns-clause-uncalled : goal.returns-clause-uncalled
+returns-clause-uncalled g c =
+    subst (λ (e : EngineState). (flight : InFlight) → find (has_session c.args.session) e.out ≡ Some flight → asks_at e.flow flight.choice.processor ≡ false
+    → IsUncalled c.hand.result c.args.outbox.now c.hand.new.outbox) c.self.view_is
+    (found_alone _ (subst (λ (e : EngineState). IsReadyInMemory e) (sym c.self.view_is) c.requires.ready.memory) c.args.session c.in-Some.flight.now
+    (found_at c.args.session c.deref.result.now (λ (f : Bor InFlight). f.now) c.flight_in.result c.flight_in.ensures c.self.inside.out.items c.deref.ensures.value c.in-Some.flight c.in-Some.is)
+    (λ (f : InFlight). asks_at c.self.inside.flow.now f.choice.processor ≡ false → IsUncalled c.hand.result c.args.outbox.now c.hand.new.outbox) c.hand.ensures.uncalled)
 
 pub returns-clause-may : goal.returns-clause-may
 returns-clause-may g c =

@@ -47,11 +47,11 @@ returns-clause-so g c is other other_is next =
     let found : find (has_session done.session) e.out ≡ Some flight = sym (c.in-Some.ensures ∙ ap (λ (fs : List InFlight). find (has_session done.session) fs) out) in
     let both : Some flight ≡ Some other = sym found ∙ other_is in
     let same : flight ≡ other = cc in
-    let stands : HandedStands g.D.Disk.tells g.O.Outbox.tells (kept_by c.self.inside.store) contents standing flight done =
-    subst (λ r. IfOk r (λ stands. IsTrue stands → HandedStands g.D.Disk.tells g.O.Outbox.tells (kept_by c.self.inside.store) contents standing flight done)) is c.handed_stands.ensures.stands refl in
+    let stands : HandedStands g.D.Disk.tells g.O.Outbox.tells c.self.inside.flow.now (kept_by c.self.inside.store) contents standing flight done =
+    subst (λ r. IfOk r (λ stands. IsTrue stands → HandedStands g.D.Disk.tells g.O.Outbox.tells c.self.inside.flow.now (kept_by c.self.inside.store) contents standing flight done)) is c.handed_stands.ensures.stands refl in
     flight_stands_so g.D.Disk.tells g.I.Inbox.tells g.O.Outbox.tells e contents (g.I.Inbox.left c.args.inbox.now) standing done.session other done c.requires.ready.memory other_is next c.requires.done
-    (subst (λ (f : InFlight). HandedStands g.D.Disk.tells g.O.Outbox.tells (kept_by e.store) contents standing f done) same
-    (subst (λ (x : EngineState). HandedStands g.D.Disk.tells g.O.Outbox.tells (kept_by x.store) contents standing flight done) c.self.view_is stands))
+    (subst (λ (f : InFlight). HandedStands g.D.Disk.tells g.O.Outbox.tells e.flow (kept_by e.store) contents standing f done) same
+    (subst (λ (x : EngineState). HandedStands g.D.Disk.tells g.O.Outbox.tells x.flow (kept_by x.store) contents standing flight done) c.self.view_is stands))
 
 pub returns-clause-refusal : goal.returns-clause-refusal
 returns-clause-refusal g c =

@@ -77,6 +77,7 @@ returns-clause-tended g c =
       due = search rules;
       wanted = search rules;
       done = search rules;
+      refused = λ error is other. absurd cc;
       nothing = λ is. (
         none_last.1 ∙ none_too.1 ∙ none.1,
         subst (λ (e : EngineState). IsShortOn D.moment D.images e.checkpoint c.args.disk.now) none.0
