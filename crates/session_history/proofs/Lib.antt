@@ -1,0 +1,4 @@
+mod Alone
+mod Moves
+mod NamesBeside
+mod Played
