@@ -73,9 +73,9 @@ pub record KeepsTime {A : Type 0} (result : Result A EngineError) (is_given : �
   pub moments : AreMadeAt is_given journal_old → AreMadeAt is_given journal_new
   pub given : OnOk result (is_given time_new)
 
--- what is handed over of a run whose store was closed: this journal, and what this machine has
-pub record HandsOver (flow : Flow) (m : Machine) (journal : List Entry) (closed : Closed) : Type 0 where
-  pub journal : closed.journal ≡ journal
+-- what is handed over of a run whose store was closed: a journal of these entries, and what this machine has
+pub record HandsOver (flow : Flow) (m : Machine) (entries : List Entry) (closed : Closed) : Type 0 where
+  pub journal : closed.journal ≡ entries
   pub shows : Shows flow m closed
 
 -- ---- where all devices tell
