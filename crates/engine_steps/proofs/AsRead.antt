@@ -1,11 +1,11 @@
 -- What reading leaves of an engine, and what a journal has more.
-use Rattle.std.proofs.Common.{◌≡◌, ℕ, List, [], ◌∷◌, ◌++◌, length, refl, sym, ap, ◌∙◌, arith, length-append}
+use Rattle.std.proofs.Common.{◌≡◌, ◌⊎◌, inl, inr, ℕ, true, List, [], ◌∷◌, ◌++◌, length, refl, sym, ap, subst, ◌∙◌, arith, length-append}
 use Rattle.std.specs.Prelude.{Some, Result, Ok, Err, IsErrOf}
 use Rattle.machine_model.specs.declared.journal.Entry.{Entry}
 use Rattle.store_core.specs.Store.{StoreState}
 use Rattle.engine_session.specs.Done.{step_done}
-use Rattle.engine_steps.specs.Engine.{EngineState}
-use Rattle.engine_steps.specs.Errors.{IsReadBy}
+use Rattle.engine_steps.specs.Engine.{EngineState, IsOfSameRun}
+use Rattle.engine_steps.specs.Errors.{IsReadBy, OnlyReads}
 use Rattle.engine_session.specs.declared.done.Done.{Done}
 use Rattle.engine_steps.specs.declared.error.EngineError.{EngineError}
 
@@ -54,3 +54,35 @@ longer done old new mid at same unmoved entered = omega (
   ap length same,
   length-append mid (record { step = step_done done; acked = Some at } ∷ []),
 )
+
+-- ---- a read that failed
+
+-- it is as it was, or has failed
+read_is : {A : Type 0} (result : Result A EngineError) (e f : EngineState) → OnlyReads result e f → (error : EngineError) → IsErrOf result error
+    → (f ≡ e) ⊎ (f ≡ record e { store = record e.store { failed = true }; failed = true })
+read_is result e f reads EngineError.Disk is = inr (reads.failed is)
+read_is result e f reads (EngineError.Damaged damage) is = inl (reads.unchanged (λ disk. cc))
+read_is result e f reads EngineError.Inbox is = inl (reads.unchanged (λ disk. cc))
+read_is result e f reads EngineError.Outbox is = inl (reads.unchanged (λ disk. cc))
+read_is result e f reads EngineError.Put is = inl (reads.unchanged (λ disk. cc))
+read_is result e f reads (EngineError.Limit limit) is = inl (reads.unchanged (λ disk. cc))
+read_is result e f reads EngineError.MustReopen is = inl (reads.unchanged (λ disk. cc))
+read_is result e f reads EngineError.NoSession is = inl (reads.unchanged (λ disk. cc))
+read_is result e f reads EngineError.Memory is = inl (reads.unchanged (λ disk. cc))
+
+-- the run's parts of an engine are as they were
+abbrev pub IsSameRunIn : (e f : EngineState) → Type 0
+IsSameRunIn e f = (f.flow ≡ e.flow) × (f.store.lot ≡ e.store.lot) × (f.journal ≡ e.journal)
+
+-- .. as in one that is the same, but for whether it has failed
+as_it : (P : EngineState → Type 0) (e f : EngineState) → P e → P (record e { store = record e.store { failed = true }; failed = true }) → (f ≡ e) ⊎ (f ≡ record e { store = record e.store { failed = true }; failed = true }) → P f
+as_it P e f was failed (inl same) = subst P (sym same) was
+as_it P e f was failed (inr same) = subst P (sym same) failed
+
+pub read_same : {A : Type 0} (result : Result A EngineError) (e f : EngineState) → OnlyReads result e f → (error : EngineError) → IsErrOf result error → IsSameRunIn e f
+read_same result e f reads error is = as_it (λ (x : EngineState). IsSameRunIn e x) e f (refl, refl, refl) (refl, refl, refl) (read_is result e f reads error is)
+
+pub read_run : {A : Type 0} (result : Result A EngineError) (e f : EngineState) → OnlyReads result e f → (error : EngineError) → IsErrOf result error → IsOfSameRun e f
+read_run result e f reads error is =
+    as_it (λ (x : EngineState). IsOfSameRun e x) e f (record { flow = refl; most = refl; checkpoint = refl; too_large = refl; lot = refl; id = refl })
+    (record { flow = refl; most = refl; checkpoint = refl; too_large = refl; lot = refl; id = refl }) (read_is result e f reads error is)

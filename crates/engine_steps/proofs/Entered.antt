@@ -27,7 +27,7 @@ use Rattle.engine_steps.specs.Committing.{HasWritten, IsAtWorkWithQueues, IsLeft
 use Rattle.engine_steps.specs.Engine.{EngineState}
 use Rattle.engine_steps.specs.Entering.{EntersSession, NotesStep}
 use Rattle.engine_steps.specs.Errors.{HasCause}
-use Rattle.engine_steps.specs.Flights.{AreInFlight, files_of_flight, has_session, names_to_come, taken_by, without_session}
+use Rattle.engine_steps.specs.Flights.{AreInFlight, files_of_flight, has_session, names_to_come, received_in, taken_by, without_session}
 use Rattle.engine_steps.specs.Journal.{journaled}
 use Rattle.engine_steps.specs.Ready.{EngineIsReady, KnowsDue}
 use Rattle.engine_steps.specs.Tending.{counted_on}
@@ -35,7 +35,7 @@ use Rattle.engine_steps.specs.declared.error.EngineError.{EngineError}
 use Rattle.engine_steps.specs.declared.flight.InFlight.{InFlight}
 use Rattle.engine_steps.proofs.Commits.{refuses}
 use Rattle.engine_steps.proofs.Follows.{follows_grown, follows_put, follows_still}
-use Rattle.engine_steps.proofs.Flights.{flights_stay, flights_without, names_committed, others_not_taken, received_in, taken_live, taken_without}
+use Rattle.engine_steps.proofs.Flights.{flights_stay, flights_without, names_committed, others_not_taken, taken_live, taken_without}
 use Rattle.engine_steps.proofs.Readied.{knows_none, no_entry, not_both, one_more, ready_by, rest_is, the_error}
 
 module _ {D : Type 0} (tells : Bool) (held : D → Files) (moment : D → ℕ) (images : D → ℕ → Files → Type 0) (e : EngineState) (old : D) (ready : EngineIsReady tells held moment images e old) where

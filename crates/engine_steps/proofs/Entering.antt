@@ -32,17 +32,18 @@ use Rattle.engine_session.proofs.Lookups.{live_head, live_one, live_rest}
 use Rattle.run_law.specs.Journal.{TakesFromInbox}
 use Rattle.run_law.specs.Puts.{Outgoing, Start}
 use Rattle.run_law.specs.Run.{IsStateOf, StandsFor}
+use Rattle.run_law.specs.Turns.{IsWithinRun}
 use Rattle.run_law.specs.Work.{IsAtWork}
 use Rattle.engine_steps.specs.Commit.{IndexIsNext, StandsSo}
 use Rattle.engine_steps.specs.Engine.{AreTakeable, EngineState}
-use Rattle.engine_steps.specs.Flights.{files_of_flight, has_session, names_to_come}
+use Rattle.engine_steps.specs.Flights.{IsCheckedOutWithin, files_of_flight, has_session, names_to_come, received_in}
 use Rattle.engine_steps.specs.Handing.{JobIsHanded, MayBeReceived}
 use Rattle.engine_steps.specs.OwnJob.{IsJobOf}
 use Rattle.engine_steps.specs.Ready.{EngineIsReady}
 use Rattle.engine_steps.specs.Running.{IsRunning}
 use Rattle.engine_steps.specs.declared.flight.InFlight.{InFlight}
 use Rattle.engine_steps.proofs.Files.{some_and}
-use Rattle.engine_steps.proofs.Flights.{received_in, the_flight}
+use Rattle.engine_steps.proofs.Flights.{the_flight}
 use Rattle.engine_steps.proofs.Goes.{takes_received}
 use Rattle.engine_steps.proofs.Stands.{all_told}
 use Rattle.engine_steps.proofs.Steps.{is_received, steps}
@@ -74,6 +75,11 @@ taken_numbers k flight job handed =
     ap (map (λ (file : FlowFile). file.number)) handed.taken.are ∙ live_numbers k job.connection job.numbers handed.taken.active ∙ handed.numbers
 
 -- ---- work whose job stands
+
+moment_given : (moment : ℕ) (there : Bool) (taking : Taking) → (given_for moment there taking).moment ≡ moment
+moment_given moment there (OfFiles connection numbers) = refl
+moment_given moment there (Generate index) = refl
+moment_given moment there (Receive name) = refl
 
 module _ (tells : Bool) {D : Type 0} (held : D → Files) (moment : D → ℕ) (images : D → ℕ → Files → Type 0) (e : EngineState) (disk : D) (ready : EngineIsReady tells held moment images e disk) (in_tells out_tells : Bool)
     (left : List NamedFile) (out : Outgoing) (done : Done) (stands : StandsSo tells in_tells out_tells e (content_in (held disk)) left out.standing done) where
@@ -108,6 +114,14 @@ module _ (tells : Bool) {D : Type 0} (held : D → Files) (moment : D → ℕ) (
   pub gone_at : (changed : Changed) → TellsOfWork done changed → changed.settled.gone ≡ files_of_flight flight_at
   gone_at changed told =
       told.session.gone ∙ ap (map (λ (file : FlowFile). file.number)) work_at.files ∙ taken_numbers (kept_by e.store) flight_at job_at own_at.handed
+
+  -- it was checked out at the step's moment
+  pub within_at : (since until : ℕ) → IsCheckedOutWithin since until done.session e.out → IsWithinRun since until (step_done done)
+  within_at since until out =
+      let within = out flight_at found_at in
+      let at : done.given.moment ≡ flight_at.moment =
+      ap (λ (g : Given). g.moment) work_at.given.but_bytes ∙ ap (λ (g : Given). g.moment) own_at.handed.given ∙ moment_given flight_at.moment job_at.given.there flight_at.choice.taking in
+      (subst (λ (m : ℕ). since ≤ m) (sym at) within.0, subst (λ (m : ℕ). m ≤ until) (sym at) within.1)
 
   -- ---- the file that it receives
 

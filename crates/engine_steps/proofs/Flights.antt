@@ -34,7 +34,7 @@ use Rattle.engine_choice.specs.declared.choice.Taking.TheVariants.{Files, Genera
 use Rattle.engine_session.specs.Change.{names_without}
 use Rattle.engine_session.specs.Taken.{IsFirstName, IsTakenBy, MayStillTake, TakenStays, TakesStill}
 use Rattle.engine_steps.specs.Checkout.{TakesPlace}
-use Rattle.engine_steps.specs.Flights.{AreInFlight, AreTwoSessions, HaveNames, HaveOtherPlaces, HoldsName, HoldsInFlight, busy_by, files_of_flight, given_back, has_session, is_in_flight, sessions_of, taken_by, with_name, without_session}
+use Rattle.engine_steps.specs.Flights.{AreInFlight, AreTwoSessions, HaveNames, HaveOtherPlaces, HoldsName, HoldsInFlight, busy_by, files_of_flight, given_back, has_session, is_in_flight, received_in, sessions_of, taken_by, with_name, without_session}
 use Rattle.engine_steps.specs.Handing.{MayBeTaken}
 use Rattle.engine_steps.specs.declared.flight.InFlight.{InFlight}
 
@@ -590,12 +590,6 @@ queues_with_flight flow k out flight queues are =
     queues_alike flow k (files_of_flight flight ++ taken_by out) (taken_by (out ++ flight ∷ [])) queues (λ n. sym (taken_with out flight n)) are
 
 -- ---- names
-
--- the name of a file that is received
-abbrev pub received_in : Taking → Option (List ℕ)
-received_in (Receive name) = Some name
-received_in (Files connection numbers) = None
-received_in (Generate index) = None
 
 pub holds_names : (flow : Flow) (k : Kept) (listing : Left) (next : ℕ) (out : List InFlight) → AreInFlight flow k listing next out → HaveNames listing out
 holds_names flow k listing next out are = record {

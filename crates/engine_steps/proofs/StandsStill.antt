@@ -24,14 +24,14 @@ use Rattle.engine_session.specs.declared.done.Done.{Done}
 use Rattle.engine_session.specs.declared.job.Job.{Job}
 use Rattle.engine_steps.specs.Commit.{IndexIsNext, StandsSo}
 use Rattle.engine_steps.specs.Engine.{EngineState}
-use Rattle.engine_steps.specs.Flights.{has_session}
+use Rattle.engine_steps.specs.Flights.{has_session, received_in}
 use Rattle.engine_steps.specs.Handing.{HasBytes, HasBytesOf, JobIsHanded, IsHandedAs, MayBeTaken, connection_in, there_for}
 use Rattle.engine_steps.specs.OwnJob.{IsJobOf}
 use Rattle.engine_steps.specs.Ready.{IsReadyInMemory}
 use Rattle.engine_steps.specs.Standing.{HandedStands}
 use Rattle.engine_steps.specs.declared.flight.InFlight.{InFlight}
 use Rattle.engine_steps.proofs.Files.{all_are_live}
-use Rattle.engine_steps.proofs.Flights.{found_flies, received_in}
+use Rattle.engine_steps.proofs.Flights.{found_flies}
 use Rattle.engine_steps.proofs.OwnJob.{flight_may_hand, flight_takes}
 
 -- ---- what is taken
@@ -194,8 +194,8 @@ module _ (tells in_tells out_tells : Bool) (e : EngineState) (contents : Content
 
 -- .. of a session in flight of an engine that is ready
 pub flight_stands_so : (tells in_tells out_tells : Bool) (e : EngineState) (contents : ContentRef → List ℕ) (left : List NamedFile) (standing : List ℕ → Option (List ℕ)) (session : ℕ) (flight : InFlight) (done : Done)
-    → IsReadyInMemory e → find (has_session session) e.out ≡ Some flight → IndexIsNext e flight → WorkIsDone e.flow (kept_by e.store).store in_tells left done
+    → IsReadyInMemory e → find (has_session session) e.out ≡ Some flight → IndexIsNext e flight → (done.given.file ≡ received_in flight.choice.taking → WorkIsDone e.flow (kept_by e.store).store in_tells left done)
     → HandedStands tells out_tells e.flow (kept_by e.store) contents standing flight done → StandsSo tells in_tells out_tells e contents left standing done
 flight_stands_so tells in_tells out_tells e contents left standing session flight done ready is next of stands =
-    stands_so tells in_tells out_tells e contents left standing flight done of (found_flies session e.out flight is).0 next stands
+    stands_so tells in_tells out_tells e contents left standing flight done (of (file_given flight.moment done.given.there flight.choice.taking done.given stands.of.given)) (found_flies session e.out flight is).0 next stands
     (flight_takes e ready session flight is) (flight_may_hand e ready session flight is)

@@ -30,8 +30,10 @@ use Rattle.engine_session.specs.Job.{MayHand}
 use Rattle.engine_session.specs.declared.done.Done.{Done}
 use Rattle.engine_session.specs.declared.job.Job.{Job}
 use Rattle.engine_steps.specs.Engine.{EngineState}
+use Rattle.engine_steps.specs.Flights.{received_in}
 use Rattle.engine_steps.specs.OwnJob.{IsJobOf}
 use Rattle.engine_steps.specs.declared.flight.InFlight.{InFlight}
+use Rattle.engine_steps.proofs.StandsStill.{file_given}
 
 -- ---- what is given
 
@@ -147,6 +149,7 @@ module _ (flow : Flow) (store : ℕ) (k : Kept) (in_tells : Bool) (left : List N
 
 -- work that is the same as that on the job of a session in flight is the work on it
 pub work_on_flight : (tells in_tells out_tells : Bool) (e : EngineState) (contents : ContentRef → List ℕ) (left : List NamedFile) (standing : List ℕ → Option (List ℕ)) (flight : InFlight) (job : Job) (done : Done)
-    → WorkIsDone e.flow (kept_by e.store).store in_tells left done → IsJobOf tells in_tells out_tells e contents left standing flight job → IsSame done job → IsWorkOn e.flow (kept_by e.store).store job done
+    → (done.given.file ≡ received_in flight.choice.taking → WorkIsDone e.flow (kept_by e.store).store in_tells left done) → IsJobOf tells in_tells out_tells e contents left standing flight job → IsSame done job
+    → IsWorkOn e.flow (kept_by e.store).store job done
 work_on_flight tells in_tells out_tells e contents left standing flight job done of own same =
-    same_work e.flow (kept_by e.store).store (kept_by e.store) in_tells left done job of same own.may (none_given (kept_by e.store) flight job own.handed)
+    same_work e.flow (kept_by e.store).store (kept_by e.store) in_tells left done job (of (ap (λ (g : Given). g.file) same.given ∙ file_given flight.moment job.given.there flight.choice.taking job.given own.handed.given)) same own.may (none_given (kept_by e.store) flight job own.handed)

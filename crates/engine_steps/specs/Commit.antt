@@ -1,5 +1,5 @@
 -- What becomes of a session that was worked on.
-use Rattle.std.specs.Prelude.{◌≡◌, ◌⊎◌, ℕ, true, Contains, List, [], ◌∷◌, ◌++◌, length, Bool, IsTrue, Option, None, Some, Result, Ok, Err, IsErrOf}
+use Rattle.std.specs.Prelude.{◌≡◌, ◌⊎◌, ℕ, true, Contains, List, [], ◌∷◌, ◌++◌, length, find, Bool, IsTrue, Option, None, Some, Result, Ok, Err, IsErrOf}
 use Rattle.disk_trait.specs.Files.{Files}
 use Rattle.disk_trait.specs.Images.{Stays}
 use Rattle.flowfile_record.specs.NamedFile.{NamedFile}
@@ -16,8 +16,8 @@ use Rattle.engine_session.specs.declared.change.Sending.{Sending}
 use Rattle.engine_session.specs.Taken.{IsNextIndex}
 use Rattle.engine_steps.specs.Committing.{IsLeftBySend}
 use Rattle.engine_steps.specs.Ending.{SessionHasEnded}
-use Rattle.engine_steps.specs.Flights.{names_to_come, without_session}
-use Rattle.engine_session.specs.Done.{IsSame, IsWorkOn, step_done}
+use Rattle.engine_steps.specs.Flights.{has_session, names_to_come, received_in, without_session}
+use Rattle.engine_session.specs.Done.{IsSame, IsWorkOn, WorkIsDone, step_done}
 use Rattle.engine_steps.specs.Engine.{EngineState, IsOfSameRun}
 use Rattle.engine_steps.specs.OwnJob.{IsJobOf}
 use Rattle.engine_steps.specs.Tending.{counted_on}
@@ -50,6 +50,16 @@ StandsOtherwise tells in_tells out_tells e contents left standing done =
     × ((IndexIsNext e flight → ⊥)
     ⊎ ((job : Job) × IsJobOf tells in_tells out_tells e contents left standing flight job
     × (IsSame done job → ⊥)))
+
+-- ---- what it needs
+
+-- If a session in flight has the work's number, and receives the file that the work was given, or both have none, then the
+-- work was done on what was read, and that file is left as it was.
+abbrev pub IsWorkFor : (in_tells : Bool) → EngineState → List NamedFile → Done → Type 0
+IsWorkFor in_tells e left done =
+    (flight : InFlight) → find (has_session done.session) e.out ≡ Some flight
+    → done.given.file ≡ received_in flight.choice.taking
+    → WorkIsDone e.flow (kept_by e.store).store in_tells left done
 
 -- ---- what it leaves
 

@@ -13,7 +13,6 @@ use Rattle.machine_model.specs.declared.journal.Step.{Step}
 use Rattle.store_core.specs.Change.{HasLiveContents, MayChange}
 use Rattle.store_core.specs.Store.{StoreState, kept_by}
 use Rattle.run_law.specs.Puts.{Outgoing, Start}
-use Rattle.run_law.specs.Turns.{IsWithinRun}
 use Rattle.run_law.specs.Work.{DoesNotTell}
 use Rattle.engine_session.specs.Sending.{sending_of}
 use Rattle.engine_session.specs.declared.change.Changed.{Changed}
@@ -86,18 +85,18 @@ pub record EntersSession (result : Result ℕ EngineError) (done : Done) (now : 
   pub follow : DevicesFollow result in_tells out_tells (sending_of done.outcome.sent done.sources) old.journal new.journal
       left now_left out now_out
 
--- What a run becomes by a session that is this step: it goes on, unless disk or put failed, or the file that was received
--- couldn't be removed; and any error may stop it.
+-- What a run becomes by a session that is this step, made within the run: it goes on, unless disk or put failed, or the file
+-- that was received couldn't be removed; and any error may stop it.
 pub record EntersRun {D A : Type 0} (result : Result A EngineError) (tells : Bool) (held : D → Files)
-    (moment : D → ℕ) (images : D → ℕ → Files → Type 0) (one : Step) (e_old e_new : EngineState) (old new : D)
-    (left now_left : List NamedFile) (out now_out : Outgoing) : Type 0 where
+    (moment : D → ℕ) (images : D → ℕ → Files → Type 0) (one : Step) (within : (since until : ℕ) → Type 0)
+    (e_old e_new : EngineState) (old new : D) (left now_left : List NamedFile) (out now_out : Outgoing) : Type 0 where
   pub goes_on : (IsErrOf result Disk → ⊥) → e_new.failed ≡ false
       → (IsErrOf result Inbox → e_new.journal ≡ e_old.journal) → (opened : Machine) (first : D) (start : Start)
-      (time : ℕ) → IsWithinRun start.time time one
+      (time : ℕ) → within start.time time
       → IsRunning moment images e_old opened first start time old left out
       → IsRunning moment images e_new opened first start time new now_left now_out
   pub stopped : (error : EngineError) → IsErrOf result error → (opened : Machine) (first : D) (start : Start)
-      (time : ℕ) → IsWithinRun start.time time one
+      (time : ℕ) → within start.time time
       → IsRunning moment images e_old opened first start time old left out
       → Stops error tells held moment images e_new opened first start time new now_left now_out
       (undone_step error (Some one))

@@ -1,5 +1,5 @@
 -- The sessions in flight of an engine: what they took stays theirs.
-use Rattle.std.specs.Prelude.{◌≡◌, ◌≢◌, ⊤, ℕ, ◌≤◌, ◌<◌, ◌==◌, not, Bool, true, false, List, [], ◌∷◌, map, filter, count_by, All, Option, None, Some, slice_get}
+use Rattle.std.specs.Prelude.{◌≡◌, ◌≢◌, ⊤, ℕ, ◌≤◌, ◌<◌, ◌==◌, not, Bool, true, false, List, [], ◌∷◌, map, filter, find, count_by, All, Option, None, Some, slice_get}
 use Rattle.std.specs.List.{AllPairs, enumerate_from, flat_map, list_any}
 use Rattle.std.specs.Option.{option_map_or}
 use Rattle.flowfile_record.specs.Stored.{Kept}
@@ -9,7 +9,7 @@ use Rattle.engine_queues.specs.Beside.{is_out}
 use Rattle.engine_queues.specs.Listing.{Left, names_left, with_mark}
 use Rattle.engine_choice.specs.Laws.{numbers_in}
 use Rattle.engine_choice.specs.declared.choice.Taking.{Taking}
-use Rattle.engine_choice.specs.declared.choice.Taking.TheVariants.{Receive}
+use Rattle.engine_choice.specs.declared.choice.Taking.TheVariants.{Files, Generate, Receive}
 use Rattle.engine_session.specs.Taken.{TakesStill}
 use Rattle.engine_steps.specs.Engine.{EngineState}
 use Rattle.engine_steps.specs.declared.flight.InFlight.{InFlight}
@@ -37,6 +37,12 @@ files_of_flight flight = numbers_in flight.choice.taking
 abbrev pub taken_by : List InFlight → List ℕ
 taken_by out = flat_map files_of_flight out
 
+-- the name of the file that one receives, if it receives one
+abbrev pub received_in : Taking → Option (List ℕ)
+received_in (Receive name) = Some name
+received_in (Files connection numbers) = None
+received_in (Generate index) = None
+
 -- the listing in which the name at a place, if at one, is left or taken
 abbrev pub with_name : (is_taken : Bool) → (place : Option ℕ) → Left → Left
 with_name is_taken place listing = option_map_or (λ place. with_mark is_taken place listing) place listing
@@ -60,6 +66,12 @@ busy_by flow [] = []
 busy_by flow (flight ∷ out) = map (λ p. sessions_of (flight ∷ out) p.0) (enumerate_from 0 flow.processors)
 
 -- ---- what holds of them
+
+-- if a session of this number is in flight, it was checked out at a moment from one time on, up to another
+abbrev pub IsCheckedOutWithin : (since until session : ℕ) → List InFlight → Type 0
+IsCheckedOutWithin since until session out =
+    (flight : InFlight) → find (has_session session) out ≡ Some flight
+    → (since ≤ flight.moment) × (flight.moment ≤ until)
 
 -- where it receives a file, the file's name was listed at this place, and is taken; else it has no place
 abbrev pub HoldsName : Left → Taking → (place : Option ℕ) → Type 0

@@ -10,14 +10,16 @@ use Rattle.engine_choice.specs.Choice.{coming_of}
 use Rattle.run_law.specs.Going.{IsRunningAt}
 use Rattle.run_law.specs.Run.{HasRun, IsAtLimit}
 use Rattle.run_law.specs.Puts.{Outgoing, Start}
-use Rattle.run_law.specs.Turns.{IsWithinRun, last_worker}
+use Rattle.run_law.specs.Turns.{last_worker}
+use Rattle.engine_session.specs.Done.{step_done}
+use Rattle.engine_session.specs.declared.done.Done.{Done}
 use Rattle.engine_steps.specs.Engine.{EngineState}
 use Rattle.engine_steps.specs.Errors.{ended_by}
 use Rattle.engine_steps.specs.Ready.{expiry_in}
 use Rattle.engine_steps.specs.declared.error.EngineError.{EngineError}
 use Rattle.engine_steps.specs.declared.error.EngineError.TheVariants.{Inbox, Limit, Put}
 use Rattle.engine_steps.specs.declared.tending.Tended.{Tended}
-use Rattle.engine_steps.specs.Flights.{names_to_come}
+use Rattle.engine_steps.specs.Flights.{IsCheckedOutWithin, names_to_come}
 use Rattle.engine_steps.specs.declared.tending.Tended.TheVariants.{Expired}
 
 -- The engine's journal, of steps from the clock's time at the start up to this time, leads from the opened machine to
@@ -83,17 +85,17 @@ pub record TendsRun {D : Type 0} (result : Result Tended EngineError) (tells : B
       → Stops error tells held moment_of images e_new opened first start moment new left out
       (undone_step error (expiry_in e_old moment))
 
--- .. by the commit of this step, which began at any moment of the run: it goes on, unless a file that was received couldn't
--- be removed, or it is stopped
+-- .. by the commit of this work, whose session was checked out at any moment of the run: it goes on, unless a file that
+-- was received couldn't be removed, or it is stopped
 pub record CommitsRun {D A : Type 0} (result : Result A EngineError) (tells : Bool) (held : D → Files)
-    (moment : D → ℕ) (images : D → ℕ → Files → Type 0) (one : Step) (e_old e_new : EngineState) (old new : D)
+    (moment : D → ℕ) (images : D → ℕ → Files → Type 0) (done : Done) (e_old e_new : EngineState) (old new : D)
     (left now_left : List NamedFile) (out now_out : Outgoing) : Type 0 where
   pub goes_on : e_new.failed ≡ false → (IsErrOf result Inbox → e_new.journal ≡ e_old.journal) → (opened : Machine)
-      (first : D) (start : Start) (time : ℕ) → IsWithinRun start.time time one
+      (first : D) (start : Start) (time : ℕ) → IsCheckedOutWithin start.time time done.session e_old.out
       → IsRunning moment images e_old opened first start time old left out
       → IsRunning moment images e_new opened first start time new now_left now_out
   pub stopped : (error : EngineError) → IsErrOf result error → e_old.failed ≡ false → (opened : Machine) (first : D)
-      (start : Start) (time : ℕ) → IsWithinRun start.time time one
+      (start : Start) (time : ℕ) → IsCheckedOutWithin start.time time done.session e_old.out
       → IsRunning moment images e_old opened first start time old left out
       → Stops error tells held moment images e_new opened first start time new now_left now_out
-      (undone_step error (Some one))
+      (undone_step error (Some (step_done done)))

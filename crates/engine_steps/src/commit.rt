@@ -11,10 +11,10 @@ ghost use Rattle.machine_model.specs.State.{Machine};
 ghost use Rattle.machine_model.specs.declared.flow.Flow.{Flow as TheFlow};
 ghost use Rattle.store_core.specs.Change.{HasLiveContents, MayChange};
 ghost use Rattle.store_core.specs.Store.{kept_by};
-ghost use Rattle.engine_steps.specs.Commit.{CommitsAlone, IndexIsNext, IsEntered, IsInboxBehind, IsInboxLeft, IsJournaled, IsLeftOut, IsOutboxBehind, MakesEntry, StandsOtherwise, StandsSo, TakesWhatStands};
+ghost use Rattle.engine_steps.specs.Commit.{CommitsAlone, IndexIsNext, IsEntered, IsInboxBehind, IsInboxLeft, IsJournaled, IsLeftOut, IsOutboxBehind, IsWorkFor, MakesEntry, StandsOtherwise, StandsSo, TakesWhatStands};
 ghost use Rattle.engine_steps.specs.Committing.{HasWritten, IsAtWorkWithQueues, IsOutboxLeft};
-ghost use Rattle.engine_session.specs.Done.{WorkIsDone, step_done};
-ghost use Rattle.engine_steps.specs.Flights.{has_session, is_in_flight, names_to_come, without_session};
+ghost use Rattle.engine_session.specs.Done.{step_done};
+ghost use Rattle.engine_steps.specs.Flights.{IsCheckedOutWithin, has_session, is_in_flight, names_to_come, without_session};
 ghost use Rattle.engine_steps.specs.declared.flight.InFlight.{InFlight as TheFlight};
 ghost use Rattle.engine_session.specs.Sending.{sending_of};
 ghost use Rattle.engine_session.specs.Taken.{IsNextIndex};
@@ -26,6 +26,7 @@ ghost use Rattle.engine_steps.specs.Journal.{journaled};
 ghost use Rattle.engine_steps.specs.Ready.{EngineIsReady, IsUsableWith};
 ghost use Rattle.engine_steps.specs.Running.{CommitsRun, IsRunning, Stops};
 ghost use Rattle.engine_steps.specs.Tending.{counted_on};
+ghost use Rattle.run_law.specs.Turns.{IsWithinRun};
 ghost use Rattle.run_law.specs.Work.{DoesNotTell, WritesLog};
 ghost use Rattle.engine_steps.specs.declared.error.EngineError.{EngineError as TheError};
 ghost use Rattle.run_law.specs.Puts.{Start, outgoing};
@@ -78,8 +79,7 @@ impl Engine<'_> {
         done: Done,
     ) -> Result<Committed, EngineError>
         requires usable { IsUsableWith D.tells D.held D.moment D.images I.tells (I.left inbox.old) self.old disk.old }
-        requires done { is_in_flight done.session self.old.out ≡ true
-            → WorkIsDone self.old.flow (kept_by self.old.store).store I.tells (I.left inbox.old) done }
+        requires done { IsWorkFor I.tells self.old (I.left inbox.old) done }
         // Acknowledged, the journal has one entry more, this session, and what it sends was put. Else all is as it was, but
         // at a failure of a device, and where the session has ended.
         ensures entered { MakesEntry result done (D.moment disk.new) I.tells O.tells self.old self.new
@@ -91,7 +91,7 @@ impl Engine<'_> {
             (outgoing O.standing O.puts outbox.old) (outgoing O.standing O.puts outbox.new) }
         // The run goes on, unless a file that was received couldn't be removed, or it is stopped.
         ensures run { IsTrue D.tells → IsTrue I.tells → IsTrue O.tells
-            → CommitsRun result D.tells D.held D.moment D.images (step_done done) self.old self.new disk.old disk.new
+            → CommitsRun result D.tells D.held D.moment D.images done self.old self.new disk.old disk.new
             (I.left inbox.old) (I.left inbox.new) (outgoing O.standing O.puts outbox.old)
             (outgoing O.standing O.puts outbox.new) }
         // Whatever inbox and outbox tell.
@@ -124,7 +124,7 @@ impl Engine<'_> {
     ) -> Result<Committed, EngineError>
         requires may { MayGoOn D.tells D.held D.moment D.images I.tells (I.left inbox.old) self.old disk.old }
         requires flying { is_in_flight done.session self.old.out ≡ true }
-        requires done { WorkIsDone self.old.flow (kept_by self.old.store).store I.tells (I.left inbox.old) done }
+        requires done { IsWorkFor I.tells self.old (I.left inbox.old) done }
         ensures entered { MakesEntry result done (D.moment disk.new) I.tells O.tells self.old self.new
             (I.left inbox.old) (I.left inbox.new) (outgoing O.standing O.puts outbox.old)
             (outgoing O.standing O.puts outbox.new) }
@@ -134,7 +134,8 @@ impl Engine<'_> {
         ensures inbox { result ≡ Ok Committed.Changed → I.left inbox.new ≡ I.left inbox.old }
         ensures flying { result ≡ Ok Committed.Dropped → ⊥ }
         ensures run { IsTrue D.tells → IsTrue I.tells → IsTrue O.tells
-            → EntersRun result D.tells D.held D.moment D.images (step_done done) self.old self.new disk.old disk.new
+            → EntersRun result D.tells D.held D.moment D.images (step_done done)
+            (λ since until. IsCheckedOutWithin since until done.session self.old.out) self.old self.new disk.old disk.new
             (I.left inbox.old) (I.left inbox.new) (outgoing O.standing O.puts outbox.old)
             (outgoing O.standing O.puts outbox.new) }
         ensures leaves { LeavesEngine result D.tells D.held D.moment D.images I.tells (I.left inbox.new)
@@ -167,7 +168,7 @@ impl Engine<'_> {
         requires ready { EngineIsReady D.tells D.held D.moment D.images self.old disk.old }
         requires left { IsTrue I.tells → AreTakeable (I.left inbox.old) (names_to_come self.old) }
         requires flying { is_in_flight done.now.session self.old.out ≡ true }
-        requires done { WorkIsDone self.old.flow (kept_by self.old.store).store I.tells (I.left inbox.old) done.now }
+        requires done { IsWorkFor I.tells self.old (I.left inbox.old) done.now }
         ensures so { result ≡ Ok true
             → StandsSo D.tells I.tells O.tells self.old (content_in (D.held disk.old))
             (I.left inbox.old) (O.standing outbox.old) done.now }
@@ -205,7 +206,7 @@ impl Engine<'_> {
         requires ready { EngineIsReady D.tells D.held D.moment D.images self.old disk.old }
         requires left { IsTrue I.tells → AreTakeable (I.left inbox.old) (names_to_come self.old) }
         requires flying { is_in_flight done.now.session self.old.out ≡ true }
-        requires done { WorkIsDone self.old.flow (kept_by self.old.store).store I.tells (I.left inbox.old) done.now }
+        requires done { IsWorkFor I.tells self.old (I.left inbox.old) done.now }
         ensures so { result ≡ Ok true → (flight : TheFlight)
             → find (has_session done.now.session) self.old.out ≡ Some flight → IndexIsNext self.old flight
             → StandsSo D.tells I.tells O.tells self.old (content_in (D.held disk.old))
@@ -245,7 +246,7 @@ impl Engine<'_> {
         requires ready { EngineIsReady D.tells D.held D.moment D.images self.old disk.old }
         requires left { IsTrue I.tells → AreTakeable (I.left inbox.old) (names_to_come self.old) }
         requires flying { is_in_flight done.now.session self.old.out ≡ true }
-        requires done { WorkIsDone self.old.flow (kept_by self.old.store).store I.tells (I.left inbox.old) done.now }
+        requires done { IsWorkFor I.tells self.old (I.left inbox.old) done.now }
         ensures so { result ≡ Ok true → (flight : TheFlight)
             → find (has_session done.now.session) self.old.out ≡ Some flight → IndexIsNext self.old flight
             → StandsSo D.tells I.tells O.tells self.old (content_in (D.held disk.old))
@@ -280,7 +281,8 @@ impl Engine<'_> {
             (I.left inbox.old) (I.left inbox.new) (outgoing O.standing O.puts outbox.old)
             (outgoing O.standing O.puts outbox.new) }
         ensures run { IsTrue D.tells → IsTrue I.tells → IsTrue O.tells
-            → EntersRun result D.tells D.held D.moment D.images (step_done done) self.old self.new disk.old disk.new
+            → EntersRun result D.tells D.held D.moment D.images (step_done done)
+            (λ since until. IsWithinRun since until (step_done done)) self.old self.new disk.old disk.new
             (I.left inbox.old) (I.left inbox.new) (outgoing O.standing O.puts outbox.old)
             (outgoing O.standing O.puts outbox.new) }
         ensures leaves { LeavesEngine result D.tells D.held D.moment D.images I.tells (I.left inbox.new)

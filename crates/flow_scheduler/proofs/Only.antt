@@ -1,5 +1,5 @@
 -- What follows from a session that was checked out as the only one in flight.
-use Rattle.std.proofs.Common.{◌≡◌, ℕ, ◌||◌, not, Bool, true, false, cond, List, [], ◌∷◌, ◌++◌, refl, sym, ap, subst, ◌∙◌, arith, true≢false}
+use Rattle.std.proofs.Common.{◌≡◌, ℕ, ◌≤◌, ◌||◌, not, Bool, true, false, cond, List, [], ◌∷◌, ◌++◌, refl, sym, ap, subst, ◌∙◌, arith, true≢false}
 use Rattle.std.specs.Prelude.{Contains, IsTrue, Ok, Option, Some}
 use Rattle.std.proofs.lemmas.Bool.{eq-eqb}
 use Rattle.disk_trait.specs.Files.{Files}
@@ -18,11 +18,12 @@ use Rattle.run_law.specs.Turns.{ComesNext}
 use Rattle.engine_steps.specs.Checkout.{session_in}
 use Rattle.engine_steps.specs.Commit.{IsJournaled}
 use Rattle.engine_steps.specs.Engine.{EngineState}
-use Rattle.engine_steps.specs.Flights.{is_in_flight, names_to_come, without_session}
+use Rattle.engine_steps.specs.Flights.{IsCheckedOutWithin, is_in_flight, names_to_come, without_session}
 use Rattle.engine_steps.specs.Handing.{JobIsHanded}
 use Rattle.engine_steps.specs.declared.commit.Committed.{Committed}
 use Rattle.engine_steps.specs.declared.commit.Committed.TheVariants.{Acked, Changed, Dropped}
 use Rattle.engine_steps.specs.declared.flight.InFlight.{InFlight}
+use Rattle.engine_steps.proofs.Flights.{found_flies}
 use Rattle.flow_scheduler.specs.Driving.{IsOnlySession}
 use Rattle.flow_scheduler.proofs.InTurn.{comes_next}
 
@@ -87,6 +88,12 @@ module _ {D : Type 0} (tells : Bool) (moment_of : D → ℕ) (images : D → ℕ
         (comes_next law before m flight only.none (only.shows telling m holds) (coming ∙ only.checked_out.coming) came_next job done
         (subst (λ (s : StoreState). JobIsHanded (kept_by s) flight job) store_is handed) worked at last
         (ap (λ (x : EngineState). x.last) (sym only.checked_out.rest) ∙ last_is))
+
+  -- whichever number is asked for, it was checked out at this moment
+  pub only_within : (since : ℕ) → since ≤ moment → (number : ℕ) → IsCheckedOutWithin since moment number e.out
+  only_within since le number flight found =
+      let at : flight.moment ≡ moment = moment_is flight (found_flies number e.out flight found).0 in
+      (subst (λ (m : ℕ). since ≤ m) (sym at) le, omega (arith, at))
 
   -- ---- its commit
 

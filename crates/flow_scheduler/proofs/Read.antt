@@ -14,7 +14,7 @@ use Rattle.engine_steps.specs.declared.commit.Committed.{Committed}
 use Rattle.engine_steps.specs.declared.error.EngineError.{EngineError}
 use Rattle.engine_steps.specs.declared.error.EngineError.TheVariants.{Disk, Put}
 use Rattle.flow_scheduler.specs.Driving.{LeavesRun, MayTurn}
-use Rattle.flow_scheduler.proofs.Turning.{read_run}
+use Rattle.engine_steps.proofs.AsRead.{read_run}
 
 -- a store that had to be opened anew before is none that works
 not_before : (failed : Bool) (behind : Type 0) → failed ≡ false → (failed ≡ true) ⊎ behind → behind

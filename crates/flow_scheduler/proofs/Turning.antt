@@ -144,35 +144,3 @@ moment_given moment there (taking.Receive name) = refl
 pub moment_of_work : (k : Kept) (flight : InFlight) (job : Job) (given : Given) → JobIsHanded k flight job → KeepsGiven job.given given → given.moment ≡ flight.moment
 moment_of_work k flight job given handed kept =
     ap (λ (g : Given). g.moment) kept.but_bytes ∙ ap (λ (g : Given). g.moment) handed.given ∙ moment_given flight.moment job.given.there flight.choice.taking
-
--- ---- a read that failed
-
--- it is as it was, or has failed
-read_is : {A : Type 0} (result : Result A EngineError) (e f : EngineState) → OnlyReads result e f → (error : EngineError) → IsErrOf result error
-    → (f ≡ e) ⊎ (f ≡ record e { store = record e.store { failed = true }; failed = true })
-read_is result e f reads Disk is = inr (reads.failed is)
-read_is result e f reads (Damaged damage) is = inl (reads.unchanged (λ disk. cc))
-read_is result e f reads Inbox is = inl (reads.unchanged (λ disk. cc))
-read_is result e f reads Outbox is = inl (reads.unchanged (λ disk. cc))
-read_is result e f reads Put is = inl (reads.unchanged (λ disk. cc))
-read_is result e f reads (Limit limit) is = inl (reads.unchanged (λ disk. cc))
-read_is result e f reads MustReopen is = inl (reads.unchanged (λ disk. cc))
-read_is result e f reads NoSession is = inl (reads.unchanged (λ disk. cc))
-read_is result e f reads Memory is = inl (reads.unchanged (λ disk. cc))
-
--- the run's parts of an engine are as they were
-abbrev pub IsSameRunIn : (e f : EngineState) → Type 0
-IsSameRunIn e f = (f.flow ≡ e.flow) × (f.store.lot ≡ e.store.lot) × (f.journal ≡ e.journal)
-
--- .. as in one that is the same, but for whether it has failed
-as_it : (P : EngineState → Type 0) (e f : EngineState) → P e → P (record e { store = record e.store { failed = true }; failed = true }) → (f ≡ e) ⊎ (f ≡ record e { store = record e.store { failed = true }; failed = true }) → P f
-as_it P e f was failed (inl same) = subst P (sym same) was
-as_it P e f was failed (inr same) = subst P (sym same) failed
-
-pub read_same : {A : Type 0} (result : Result A EngineError) (e f : EngineState) → OnlyReads result e f → (error : EngineError) → IsErrOf result error → IsSameRunIn e f
-read_same result e f reads error is = as_it (λ (x : EngineState). IsSameRunIn e x) e f (refl, refl, refl) (refl, refl, refl) (read_is result e f reads error is)
-
-pub read_run : {A : Type 0} (result : Result A EngineError) (e f : EngineState) → OnlyReads result e f → (error : EngineError) → IsErrOf result error → IsOfSameRun e f
-read_run result e f reads error is =
-    as_it (λ (x : EngineState). IsOfSameRun e x) e f (record { flow = refl; most = refl; checkpoint = refl; too_large = refl; lot = refl; id = refl })
-    (record { flow = refl; most = refl; checkpoint = refl; too_large = refl; lot = refl; id = refl }) (read_is result e f reads error is)

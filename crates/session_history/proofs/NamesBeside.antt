@@ -1,6 +1,6 @@
 -- The names that are to come, but for those of files that sessions in flight receive, are those that are left.
 use Rattle.std.proofs.Common.{◌≡◌, ℕ, ◌==◌, ◌||◌, not, Bool, false, true, cond, List, [], ◌∷◌, refl, sym, ap, subst, ◌∙◌, arith}
-use Rattle.std.specs.Prelude.{All, Option, Some, find}
+use Rattle.std.specs.Prelude.{All, Some, find}
 use Rattle.std.proofs.lemmas.Bool.{eq-eqb, ne_eqb}
 use Rattle.std.proofs.lemmas.List.Elements.{All-head, All-tail}
 use Rattle.flowfile_record.specs.Stored.{Kept}
@@ -8,13 +8,11 @@ use Rattle.machine_model.specs.declared.flow.Flow.{Flow}
 use Rattle.machine_model.proofs.Ordered.{pairs_head}
 use Rattle.engine_queues.specs.Laws.{NamesGoBack, NamesLeave}
 use Rattle.engine_queues.specs.Listing.{AreDistinct, Left, names_left}
-use Rattle.engine_choice.specs.declared.choice.Taking.{Taking}
-use Rattle.engine_choice.specs.declared.choice.Taking.TheVariants.{Files, Generate, Receive}
 use Rattle.engine_session.specs.Change.{names_without}
-use Rattle.engine_steps.specs.Flights.{AreInFlight, AreTwoSessions, HoldsInFlight, given_back, has_session, is_in_flight, without_session}
+use Rattle.engine_steps.specs.Flights.{AreInFlight, AreTwoSessions, HoldsInFlight, given_back, has_session, is_in_flight, received_in, without_session}
 use Rattle.engine_steps.specs.declared.flight.InFlight.{InFlight}
-use Rattle.engine_steps.proofs.Flights.{flights_without, names_committed, received_in}
-use Rattle.session_history.specs.History.{name_received, names_beside}
+use Rattle.engine_steps.proofs.Flights.{flights_without, names_committed}
+use Rattle.session_history.specs.History.{names_beside}
 
 -- no session in flight has the next number
 pub next_is_new : (flow : Flow) (k : Kept) (listing : Left) (next : ℕ) (out : List InFlight) → All (HoldsInFlight flow k listing next) out → is_in_flight next out ≡ false
@@ -37,11 +35,6 @@ others_stay first (next ∷ out) two =
     ap (λ (b : Bool). cond (not b) (next ∷ without_session first.session out) (without_session first.session out)) other
     ∙ ap (λ (fs : List InFlight). next ∷ fs) (others_stay first out (All-tail (AreTwoSessions first) next out two))
 
-same_name : (taking : Taking) → received_in taking ≡ name_received taking
-same_name (Files connection numbers) = refl
-same_name (Generate index) = refl
-same_name (Receive name) = refl
-
 module _ (back : NamesGoBack) (leave : NamesLeave) (flow : Flow) (k : Kept) (listing : Left) (next : ℕ) (distinct : AreDistinct listing.listed) where
   pub left_beside : (out : List InFlight) → AreInFlight flow k listing next out → names_left listing ≡ names_beside out (names_left (given_back out listing))
   left_beside [] are = refl
@@ -52,8 +45,7 @@ module _ (back : NamesGoBack) (leave : NamesLeave) (flow : Flow) (k : Kept) (lis
       ap (λ (b : Bool). cond (not b) (first ∷ without_session first.session out) (without_session first.session out)) (has_itself first)
       ∙ others_stay first out (pairs_head AreTwoSessions first out are.apart) in
       let found : find (has_session first.session) all ≡ Some first = ap (λ (b : Bool). cond b (Some first) (find (has_session first.session) out)) (has_itself first) in
-      let without : names_left (given_back out listing) ≡ names_without (name_received first.choice.taking) coming =
+      let without : names_left (given_back out listing) ≡ names_without (received_in first.choice.taking) coming =
       ap (λ (fs : List InFlight). names_left (given_back fs listing)) (sym others)
-      ∙ names_committed back leave flow k listing next all first.session first distinct are found
-      ∙ ap (λ (name : Option (List ℕ)). names_without name coming) (same_name first.choice.taking) in
+      ∙ names_committed back leave flow k listing next all first.session first distinct are found in
       left_beside out (subst (AreInFlight flow k listing next) others (flights_without flow k listing next all first.session are)) ∙ ap (names_beside out) without

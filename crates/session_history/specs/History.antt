@@ -11,10 +11,8 @@ use Rattle.machine_model.specs.View.{QueueView}
 use Rattle.engine_queues.specs.Beside.{beside}
 use Rattle.engine_choice.specs.Choice.{Known, coming_of, next_choice}
 use Rattle.engine_choice.specs.Laws.{given_for, numbers_in}
-use Rattle.engine_choice.specs.declared.choice.Taking.{Taking}
-use Rattle.engine_choice.specs.declared.choice.Taking.TheVariants.{Files, Generate, Receive}
 use Rattle.engine_session.specs.Change.{names_without}
-use Rattle.engine_steps.specs.Flights.{busy_by, has_session, is_in_flight, taken_by, without_session}
+use Rattle.engine_steps.specs.Flights.{busy_by, has_session, is_in_flight, received_in, taken_by, without_session}
 use Rattle.engine_steps.specs.declared.flight.InFlight.{InFlight}
 
 -- ---- how far it has come
@@ -36,16 +34,10 @@ unplayed machine moment = record { machine = machine; moment = moment; out = [];
 abbrev pub queues_beside : Play → ℕ → QueueView
 queues_beside p = beside (taken_by p.out) (queues_of p.machine.state)
 
--- the name of the file that a session receives, if it receives one
-abbrev pub name_received : Taking → Option (List ℕ)
-name_received (Receive name) = Some name
-name_received (Files connection numbers) = None
-name_received (Generate index) = None
-
 -- these names, but for those of files that sessions receive
 abbrev pub names_beside : (out : List InFlight) → List (List ℕ) → List (List ℕ)
 names_beside [] names = names
-names_beside (flight ∷ out) names = names_beside out (names_without (name_received flight.choice.taking) names)
+names_beside (flight ∷ out) names = names_beside out (names_without (received_in flight.choice.taking) names)
 
 -- what the choice goes by at a moment, beside the sessions in flight
 abbrev pub known_beside : Flow → Play → (moment : ℕ) → Known

@@ -8,22 +8,23 @@ use Rattle.machine_model.specs.Acknowledged.{steps}
 use Rattle.engine_session.specs.Done.{IsWorkOn, WorkIsDone, step_done}
 use Rattle.run_law.proofs.Turns.{since_start}
 use Rattle.run_law.proofs.Writing.{reads_only}
-use Rattle.run_law.specs.Turns.{IsWithinRun, last_worker}
+use Rattle.run_law.specs.Turns.{last_worker}
 use Rattle.engine_steps.specs.Engine.{EngineState}
 use Rattle.engine_steps.specs.Commit.{IsJournaled}
-use Rattle.engine_steps.specs.Flights.{is_in_flight}
+use Rattle.engine_steps.specs.Flights.{IsCheckedOutWithin, is_in_flight}
 use Rattle.engine_steps.specs.Running.{undone_step}
 use Rattle.engine_steps.specs.declared.commit.Committed.{Committed}
 use Rattle.engine_steps.specs.declared.error.EngineError.{EngineError}
 use Rattle.engine_steps.proofs.Goes.{spared_by_read, stops_unmoved}
 use Rattle.engine_steps.proofs.Reread.{still_runs}
 use Rattle.engine_steps.proofs.StandsStill.{work_is_done}
-use Rattle.flow_scheduler.proofs.Turning.{moment_of_work, read_same, still_works, stopped_at}
+use Rattle.engine_steps.proofs.AsRead.{read_same}
+use Rattle.flow_scheduler.proofs.Turning.{moment_of_work, still_works, stopped_at}
 use Rattle.flow_scheduler.specs.Driving.{MayTurn}
 use Rattle.flow_scheduler.proofs.CheckedOut.{leaves_by_error}
 use Rattle.flow_scheduler.proofs.Growing.{committed_grows, grows_behind}
 use Rattle.flow_scheduler.proofs.InTurn.{commit_stops, committed_by, in_turn_of, none_stopped, turns_by, turns_of, turns_still}
-use Rattle.flow_scheduler.proofs.Only.{done_flies, moment_is, none_behind, only_comes_next, only_flies}
+use Rattle.flow_scheduler.proofs.Only.{done_flies, moment_is, none_behind, only_comes_next, only_flies, only_within}
 use Rattle.flow_scheduler.proofs.Read.{commit_leaves, read_leaves}
 use Rattle.run_law.specs.Puts.{outgoing}
 use Rattle.flow_scheduler.proofs.driving.run_session.Goals as goal
@@ -103,7 +104,8 @@ returns-in_err-commit-clause-run g c telling in_telling out_telling opened first
     own.2.handed (subst (λ (x : EngineState). IsWorkOn x.flow (kept_by x.store).store c.in_ok-job.job done) same (search rules)) worked (last_worker None (steps e.journal)) run.run.to.last in
     let turned = c.turns_go_on.ensures.next e.flow start.time time moment opened m (steps e.journal) (step_done done) run.turns run.run.to.run.ran.replays (omega (arith, le, at)) (omega (arith, at)) comes in
     let waited = c.turns_go_on.ensures.later e.flow start.time time moment opened (steps e.journal) run.turns le in
-    let within : IsWithinRun start.time moment (step_done done) = (omega (arith, since_start start.time time (steps e.journal) run.run.to.run.within, le, at), omega (arith, at)) in
+    let within = subst (λ (x : EngineState). IsCheckedOutWithin start.time moment done.session x.out) (sym same)
+    (only_within D.tells D.moment D.images moment c.args.session e c.args.disk.now c.requires.chosen start.time (omega (arith, since_start start.time time (steps e.journal) run.run.to.run.within, le)) done.session) in
     let runs = still_runs D.tells D.held D.moment D.images c.args.disk.now c.read.new.disk c.read.ensures.world.0 c.run_goes_on.ensures.spared e c.read.new.self same opened first start time moment le
     (g.I.Inbox.left c.args.inbox.now) (g.I.Inbox.left c.read.new.inbox) (outgoing g.O.Outbox.standing g.O.Outbox.puts c.args.outbox.now) (outgoing g.O.Outbox.standing g.O.Outbox.puts c.read.new.outbox) c.read.ensures.world.1 c.read.ensures.world.2 run.run in
     let entered = subst (λ (x : EngineState). IsJournaled c.commit.result done (D.moment c.commit.new.disk) x f) same c.commit.ensures.entered.journal in
@@ -150,7 +152,8 @@ returns-clause-run g c telling in_telling out_telling opened first start time le
     own.2.handed (subst (λ (x : EngineState). IsWorkOn x.flow (kept_by x.store).store c.in_ok-job.job done) same (search rules)) worked (last_worker None (steps e.journal)) run.run.to.last in
     let turned = c.turns_go_on.ensures.next e.flow start.time time moment opened m (steps e.journal) (step_done done) run.turns run.run.to.run.ran.replays (omega (arith, le, at)) (omega (arith, at)) comes in
     let waited = c.turns_go_on.ensures.later e.flow start.time time moment opened (steps e.journal) run.turns le in
-    let within : IsWithinRun start.time moment (step_done done) = (omega (arith, since_start start.time time (steps e.journal) run.run.to.run.within, le, at), omega (arith, at)) in
+    let within = subst (λ (x : EngineState). IsCheckedOutWithin start.time moment done.session x.out) (sym same)
+    (only_within D.tells D.moment D.images moment c.args.session e c.args.disk.now c.requires.chosen start.time (omega (arith, since_start start.time time (steps e.journal) run.run.to.run.within, le)) done.session) in
     let runs = still_runs D.tells D.held D.moment D.images c.args.disk.now c.read.new.disk c.read.ensures.world.0 c.run_goes_on.ensures.spared e c.read.new.self same opened first start time moment le
     (g.I.Inbox.left c.args.inbox.now) (g.I.Inbox.left c.read.new.inbox) (outgoing g.O.Outbox.standing g.O.Outbox.puts c.args.outbox.now) (outgoing g.O.Outbox.standing g.O.Outbox.puts c.read.new.outbox) c.read.ensures.world.1 c.read.ensures.world.2 run.run in
     let entered = subst (λ (x : EngineState). IsJournaled c.commit.result done (D.moment c.commit.new.disk) x f) same c.commit.ensures.entered.journal in
@@ -226,7 +229,7 @@ returns-clause-grows g c =
     (committed_grows c.in_ok-done.done c.args.moment (g.D.Disk.moment c.commit.new.disk) at c.read.new.self c.commit.new.self c.commit.result c.commit.ensures.entered.journal)
 
 pub commit-requires-clause-done : goal.commit-requires-clause-done
-commit-requires-clause-done g c κs within flies =
+commit-requires-clause-done g c κs within flight found receives =
     let e : EngineState = c.args.engine.now in
     let same : c.read.new.self ≡ e = c.in_ok-job.ensures.engine.unchanged (λ disk. cc) in
     let own = c.in_ok-job.ensures.job in

@@ -36,7 +36,7 @@ commit-requires-clause-usable g c κs within =
 
 -- the flow and the store's id stay as files expire
 pub commit-requires-clause-done : goal.commit-requires-clause-done
-commit-requires-clause-done g c κs within flies =
+commit-requires-clause-done g c κs within flight found receives =
     let e : EngineState = c.checkout.new.self in
     let r : EngineState = c.read.new.self in
     let job = c.in-Ok.job in

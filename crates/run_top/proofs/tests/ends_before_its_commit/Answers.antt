@@ -12,7 +12,7 @@ commit-requires-clause-usable g c κs within =
     usable_ended D.tells D.held D.moment D.images g.I.Inbox.tells (g.I.Inbox.left c.works.new.inbox) e c.end.new.self c.works.new.disk c.in_ok-done.ensures.usable c.end.ensures.ready c.in_ok-done.done.session flying c.end.ensures.ended
 
 pub commit-requires-clause-done : goal.commit-requires-clause-done
-commit-requires-clause-done g c κs within flies =
+commit-requires-clause-done g c κs within flight found receives =
     let e : EngineState = c.works.new.engine in
     let f : EngineState = c.end.new.self in
     let left = g.I.Inbox.left c.works.new.inbox in

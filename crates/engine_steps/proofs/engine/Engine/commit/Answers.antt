@@ -72,11 +72,6 @@ returns-then-self-clause-refusal g c =
 pub commit_job-committed-requires-clause-flying : goal.commit_job-committed-requires-clause-flying
 commit_job-committed-requires-clause-flying g c κs within = is_flying c.args.done.session c.args.self.now.out _ c.flight.result c.flight.ensures (c.is_none.ensures ∙ ap not c.if-is_none.false)
 
-pub commit_job-committed-requires-clause-done : goal.commit_job-committed-requires-clause-done
-commit_job-committed-requires-clause-done g c κs within =
-    let flying = is_flying c.args.done.session c.args.self.now.out _ c.flight.result c.flight.ensures (c.is_none.ensures ∙ ap not c.if-is_none.false) in
-    c.requires.done flying
-
 pub returns-in-Err-Disk-clause-refusal : goal.returns-in-Err-Disk-clause-refusal
 returns-in-Err-Disk-clause-refusal g c =
     let flying = is_flying c.args.done.session c.args.self.now.out _ c.flight.result c.flight.ensures (c.is_none.ensures ∙ ap not c.if-is_none.false) in

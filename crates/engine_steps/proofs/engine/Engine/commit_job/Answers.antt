@@ -10,6 +10,7 @@ use Rattle.engine_steps.specs.Ready.{IsReadyInMemory}
 use Rattle.engine_steps.specs.Running.{undone_step}
 use Rattle.engine_steps.specs.declared.error.EngineError.{EngineError}
 use Rattle.engine_steps.proofs.Goes.{spared_by_read, stops_unmoved}
+use Rattle.engine_steps.proofs.Entering.{within_at}
 use Rattle.engine_steps.proofs.AsRead.{as_read, lot_read, read_well, same_error}
 use Rattle.engine_steps.proofs.Reread.{still_goes_on, still_ready, still_runs, still_stands}
 use Rattle.engine_steps.proofs.SessionEnded.{ended_leaves, ended_runs, ended_same_run, ended_unjournaled}
@@ -198,15 +199,18 @@ returns-in_err-moment-clause-run g c telling in_telling out_telling =
     let out = outgoing g.O.Outbox.standing g.O.Outbox.puts c.args.outbox.now in
     let p = err_from_is_err_and c.from_residual-in_err-moment.result c.from_residual-in_err-moment.ensures.1 in
     let same = as_read c.stands.result e c.stands.new.self c.stands.ensures.reread.store c.stands.ensures.reread.rest (λ disk. read_well c.in_ok-stands.field-0 EngineError.Disk (sym c.in_ok-stands.was ∙ disk)) in
+    let was = c.in_ok-stands.was in
+    let there = c.in_ok-stands.is in
+    let so : c.stands.result ≡ Ok true = cc in
     record {
       goes_on = λ other works unmoved opened first start time within run.
           let told : (a : EngineError) → IsErrOf c.enter.result a → IsErrOf c.from_residual-in_err-moment.result a = λ a is. p.1 ∙ ap Err (p.2 ∙ same_error c.in_err-moment.field-0.0 a (sym c.in_err-moment.was ∙ is)) in
-          (c.enter.ensures.run telling in_telling out_telling).goes_on (λ disk. other (told EngineError.Disk disk)) works (λ inbox. unmoved (told EngineError.Inbox inbox) ∙ sym (ap (λ (x : EngineState). x.journal) same)) opened first start time within
+          (c.enter.ensures.run telling in_telling out_telling).goes_on (λ disk. other (told EngineError.Disk disk)) works (λ inbox. unmoved (told EngineError.Inbox inbox) ∙ sym (ap (λ (x : EngineState). x.journal) same)) opened first start time (within_at D.tells D.held D.moment D.images e c.args.disk.now c.requires.may.ready g.I.Inbox.tells g.O.Outbox.tells left out c.args.done (c.stands.ensures.so so) start.time time within)
           (still_runs D.tells D.held D.moment D.images c.args.disk.now c.stands.new.disk c.stands.ensures.reread.disk c.run_goes_on.ensures.spared e c.stands.new.self same opened first start time time (omega arith)
           left (g.I.Inbox.left c.stands.new.inbox) out (outgoing g.O.Outbox.standing g.O.Outbox.puts c.stands.new.outbox) c.stands.ensures.reread.inbox c.stands.ensures.reread.outbox run);
       stopped = λ error is opened first start time within run.
           let told : c.in_err-moment.field-0.0 ≡ error = cc (p.1, p.2, is) in
-          (c.enter.ensures.run telling in_telling out_telling).stopped error (c.in_err-moment.was ∙ ap Err told) opened first start time within
+          (c.enter.ensures.run telling in_telling out_telling).stopped error (c.in_err-moment.was ∙ ap Err told) opened first start time (within_at D.tells D.held D.moment D.images e c.args.disk.now c.requires.may.ready g.I.Inbox.tells g.O.Outbox.tells left out c.args.done (c.stands.ensures.so so) start.time time within)
           (still_runs D.tells D.held D.moment D.images c.args.disk.now c.stands.new.disk c.stands.ensures.reread.disk c.run_goes_on.ensures.spared e c.stands.new.self same opened first start time time (omega arith)
           left (g.I.Inbox.left c.stands.new.inbox) out (outgoing g.O.Outbox.standing g.O.Outbox.puts c.stands.new.outbox) c.stands.ensures.reread.inbox c.stands.ensures.reread.outbox run);
     }
@@ -227,9 +231,12 @@ returns-clause-run g c telling in_telling out_telling =
     let left = g.I.Inbox.left c.args.inbox.now in
     let out = outgoing g.O.Outbox.standing g.O.Outbox.puts c.args.outbox.now in
     let same = as_read c.stands.result e c.stands.new.self c.stands.ensures.reread.store c.stands.ensures.reread.rest (λ disk. read_well c.in_ok-stands.field-0 EngineError.Disk (sym c.in_ok-stands.was ∙ disk)) in
+    let was = c.in_ok-stands.was in
+    let there = c.in_ok-stands.is in
+    let so : c.stands.result ≡ Ok true = cc in
     record {
       goes_on = λ other works unmoved opened first start time within run.
-          (c.enter.ensures.run telling in_telling out_telling).goes_on (λ disk. read_well c.in_ok-moment.moment EngineError.Disk (sym c.in_ok-moment.was ∙ disk)) works (λ inbox. read_well c.in_ok-moment.moment EngineError.Inbox (sym c.in_ok-moment.was ∙ inbox)) opened first start time within
+          (c.enter.ensures.run telling in_telling out_telling).goes_on (λ disk. read_well c.in_ok-moment.moment EngineError.Disk (sym c.in_ok-moment.was ∙ disk)) works (λ inbox. read_well c.in_ok-moment.moment EngineError.Inbox (sym c.in_ok-moment.was ∙ inbox)) opened first start time (within_at D.tells D.held D.moment D.images e c.args.disk.now c.requires.may.ready g.I.Inbox.tells g.O.Outbox.tells left out c.args.done (c.stands.ensures.so so) start.time time within)
           (still_runs D.tells D.held D.moment D.images c.args.disk.now c.stands.new.disk c.stands.ensures.reread.disk c.run_goes_on.ensures.spared e c.stands.new.self same opened first start time time (omega arith)
           left (g.I.Inbox.left c.stands.new.inbox) out (outgoing g.O.Outbox.standing g.O.Outbox.puts c.stands.new.outbox) c.stands.ensures.reread.inbox c.stands.ensures.reread.outbox run);
       stopped = λ error is. absurd cc;

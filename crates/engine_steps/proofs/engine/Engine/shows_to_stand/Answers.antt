@@ -49,7 +49,7 @@ returns-clause-so g c is other other_is next =
     let same : flight ≡ other = cc in
     let stands : HandedStands g.D.Disk.tells g.O.Outbox.tells c.self.inside.flow.now (kept_by c.self.inside.store) contents standing flight done =
     subst (λ r. IfOk r (λ stands. IsTrue stands → HandedStands g.D.Disk.tells g.O.Outbox.tells c.self.inside.flow.now (kept_by c.self.inside.store) contents standing flight done)) is c.handed_stands.ensures.stands refl in
-    flight_stands_so g.D.Disk.tells g.I.Inbox.tells g.O.Outbox.tells e contents (g.I.Inbox.left c.args.inbox.now) standing done.session other done c.requires.ready.memory other_is next c.requires.done
+    flight_stands_so g.D.Disk.tells g.I.Inbox.tells g.O.Outbox.tells e contents (g.I.Inbox.left c.args.inbox.now) standing done.session other done c.requires.ready.memory other_is next (c.requires.done other other_is)
     (subst (λ (f : InFlight). HandedStands g.D.Disk.tells g.O.Outbox.tells e.flow (kept_by e.store) contents standing f done) same
     (subst (λ (x : EngineState). HandedStands g.D.Disk.tells g.O.Outbox.tells x.flow (kept_by x.store) contents standing flight done) c.self.view_is stands))
 

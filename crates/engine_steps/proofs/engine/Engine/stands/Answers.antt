@@ -5,8 +5,7 @@ use Rattle.flowfile_record.specs.NamedFile.{NamedFile}
 use Rattle.content_repo.specs.Claims.{content_in}
 use Rattle.store_core.specs.Store.{kept_by}
 use Rattle.run_law.specs.Puts.{Outgoing, outgoing}
-use Rattle.engine_session.specs.Done.{WorkIsDone}
-use Rattle.engine_steps.specs.Commit.{IndexIsNext, StandsOtherwise, StandsSo}
+use Rattle.engine_steps.specs.Commit.{IndexIsNext, IsWorkFor, StandsOtherwise, StandsSo}
 use Rattle.engine_steps.specs.Engine.{AreTakeable, EngineState}
 use Rattle.engine_steps.specs.Flights.{has_session, is_in_flight, names_to_come}
 use Rattle.engine_steps.specs.declared.error.EngineError.{EngineError}
@@ -68,8 +67,8 @@ pub stands_read_again-requires-clause-done : goal.stands_read_again-requires-cla
 stands_read_again-requires-clause-done g c κs within =
     let e : EngineState = c.args.self.now in
     let same = as_read c.shows_to_stand.result e c.shows_to_stand.new.self c.shows_to_stand.ensures.reread.store c.shows_to_stand.ensures.reread.rest (λ disk. read_well c.in_ok-shows_to_stand.field-0 EngineError.Disk (sym c.in_ok-shows_to_stand.was ∙ disk)) in
-    subst (λ (left : List NamedFile). WorkIsDone c.shows_to_stand.new.self.flow (kept_by c.shows_to_stand.new.self.store).store g.I.Inbox.tells left c.args.done.now) (sym c.shows_to_stand.ensures.reread.inbox)
-    (subst (λ (x : EngineState). WorkIsDone x.flow (kept_by x.store).store g.I.Inbox.tells (g.I.Inbox.left c.args.inbox.now) c.args.done.now) (sym same) c.requires.done)
+    subst (λ (left : List NamedFile). IsWorkFor g.I.Inbox.tells c.shows_to_stand.new.self left c.args.done.now) (sym c.shows_to_stand.ensures.reread.inbox)
+    (subst (λ (x : EngineState). IsWorkFor g.I.Inbox.tells x (g.I.Inbox.left c.args.inbox.now) c.args.done.now) (sym same) c.requires.done)
 
 pub returns-clause-so : goal.returns-clause-so
 returns-clause-so g c is =

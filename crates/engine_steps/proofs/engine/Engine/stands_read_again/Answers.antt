@@ -16,7 +16,7 @@ returns-clause-so g c is flight found next =
       next,
       own,
       work_on_flight g.D.Disk.tells g.I.Inbox.tells g.O.Outbox.tells e (content_in (g.D.Disk.held c.args.disk.now)) (g.I.Inbox.left c.args.inbox.now) (g.O.Outbox.standing c.args.outbox.now) flight job c.args.done.now
-          c.requires.done own same,
+          (c.requires.done flight found) own same,
     )
 
 pub returns-clause-otherwise : goal.returns-clause-otherwise
