@@ -84,10 +84,10 @@ module _ (alone : NoneIsOut) (flow : Flow) (until : ℕ) where
     queues_alone : queues_beside p ≡ queues_of p.machine.state
     queues_alone = ap (λ (out : List InFlight). beside (taken_by out) (queues_of p.machine.state)) none ∙ alone (queues_of p.machine.state)
 
-    due_alone : (moment : ℕ) → due_expiry flow (queues_of p.machine.state) moment ≡ due_expiry flow (queues_beside p) moment
+    pub due_alone : (moment : ℕ) → due_expiry flow (queues_of p.machine.state) moment ≡ due_expiry flow (queues_beside p) moment
     due_alone moment = ap (λ (views : ℕ → QueueView). due_expiry flow views moment) (sym queues_alone)
 
-    known_alone : (moment : ℕ) → known_of p.machine.state p.machine.world moment ≡ known_beside flow p moment
+    pub known_alone : (moment : ℕ) → known_of p.machine.state p.machine.world moment ≡ known_beside flow p moment
     known_alone moment = λ i. record {
       queues = sym queues_alone i;
       counts = p.machine.state.counts;

@@ -1,4 +1,13 @@
 mod Alone
+mod Calls
+mod CheckedOut
+mod Committed
+mod Ends
+mod Full
 mod Moves
 mod NamesBeside
+mod NoSession
 mod Played
+mod Playing
+mod Read
+mod Tended

@@ -1,7 +1,7 @@
 -- Where a history begins, and which move each thing is that an engine does to its sessions.
-use Rattle.std.proofs.Common.{◌≡◌, ℕ, Bool, List, [], ◌∷◌, ◌++◌, refl, sym, ap, subst, ◌∙◌}
+use Rattle.std.proofs.Common.{◌≡◌, ℕ, ◌≤◌, Bool, List, [], ◌∷◌, ◌++◌, refl, sym, ap, subst, ◌∙◌}
 use Rattle.std.proofs.lemmas.List.{map-append}
-use Rattle.std.specs.Prelude.{Contains, None, Some, find, option_and_then}
+use Rattle.std.specs.Prelude.{Contains, Option, None, Some, find, option_and_then}
 use Rattle.machine_model.specs.declared.flow.Flow.{Flow}
 use Rattle.machine_model.specs.declared.given.Given.{Given}
 use Rattle.machine_model.specs.declared.journal.Entry.{Entry}
@@ -25,17 +25,21 @@ use Rattle.engine_choice.specs.declared.choice.Taking.TheVariants.{Files, Genera
 use Rattle.engine_session.specs.Done.{IsWorkOn, step_done}
 use Rattle.engine_session.specs.declared.done.Done.{Done}
 use Rattle.engine_session.specs.declared.job.Job.{Job}
+use Rattle.flowfile_record.specs.NamedFile.{NamedFile}
+use Rattle.flowfile_record.specs.declared.content.ContentRef.{ContentRef}
 use Rattle.engine_steps.specs.Checkout.{known_in}
+use Rattle.engine_steps.specs.Commit.{StandsSo}
 use Rattle.engine_steps.specs.Engine.{EngineState}
 use Rattle.engine_steps.specs.Flights.{busy_by, has_session, is_in_flight, taken_by, without_session}
 use Rattle.engine_steps.specs.Handing.{JobIsHanded}
 use Rattle.engine_steps.specs.Ready.{IsReadyInMemory}
 use Rattle.engine_steps.specs.Showing.{EngineShowsState}
+use Rattle.engine_steps.specs.Tending.{HasExpired}
 use Rattle.engine_steps.specs.declared.flight.InFlight.{InFlight}
 use Rattle.engine_steps.proofs.Due.{chosen_of, nothing_due}
 use Rattle.engine_steps.proofs.Ending.{none_expired}
 use Rattle.engine_steps.proofs.Flights.{the_flight}
-use Rattle.session_history.specs.History.{Play, known_beside, names_beside, queues_beside, step_in_flight}
+use Rattle.session_history.specs.History.{Expires, IsMove, Makes, Play, known_beside, names_beside, queues_beside, step_in_flight}
 use Rattle.session_history.specs.Laws.{CheckoutsTake, CommitsMake, EndsLeave, ExpiriesGo, HistoriesBegin, IsAtPlay, OthersStay}
 use Rattle.session_history.proofs.NamesBeside.{left_beside, next_is_new}
 
@@ -75,7 +79,7 @@ leave session old new p flies was ended = record {
 
 module _ (old : EngineState) (p : Play) (shown : EngineShowsState old p.machine) (was : IsAtPlay old p) where
   -- what expires of the engine's queues
-  due_beside : (moment : ℕ) → due_expiry old.flow (queues_beside p) moment ≡ due_expiry old.flow (queue_seen old.queues) moment
+  pub due_beside : (moment : ℕ) → due_expiry old.flow (queues_beside p) moment ≡ due_expiry old.flow (queue_seen old.queues) moment
   due_beside moment =
       ap (λ (out : List InFlight). due_expiry old.flow (beside (taken_by out) (queues_of p.machine.state)) moment) was.out
       ∙ sym (shown.seen.expiry moment)
@@ -138,28 +142,43 @@ module _ (law : ReplayOfOneMore) (flow : Flow) (opened before after : Machine) (
 
 -- ---- files expire
 
-pub expire : ReplayOfOneMore → ExpiriesGo
-expire law moment acked old new opened after p shown was later gone out last leads leads_behind coming = record {
-  behind = record p { machine = after; moment = moment; made = p.made ++ one ∷ [] };
-  moves = record {
+module _ (law : ReplayOfOneMore) (moment : ℕ) (acked : Option ℕ) (old new : EngineState) (opened after : Machine) (p : Play) (shown : EngineShowsState old p.machine) (was : IsAtPlay old p) (later : p.moment ≤ moment)
+    (gone : HasExpired moment acked old new) (leads : replay old.flow opened (steps old.journal) ≡ Some p.machine) (leads_behind : replay old.flow opened (steps new.journal) ≡ Some after) where
+  abbrev one : Step
+  one = Expire gone.connection gone.numbers moment
+
+  abbrev entry : Entry
+  entry = record { step = one; acked = acked }
+
+  -- where it is behind the move
+  abbrev pub expired : Play
+  expired = record p { machine = after; moment = moment; made = p.made ++ one ∷ [] }
+
+  pub expires : IsMove old.flow p (Expires moment) expired
+  expires = record {
     later = later;
     connection = gone.connection;
     numbers = gone.numbers;
     due = due_beside old p shown was moment ∙ gone.due;
     after = after;
-    goes = step_goes law old.flow opened p.machine after old.journal new.journal (record { step = one; acked = acked }) gone.journal leads leads_behind;
+    goes = step_goes law old.flow opened p.machine after old.journal new.journal entry gone.journal leads leads_behind;
     is = refl;
-  };
+  }
+
+  pub expired_made : expired.made ≡ steps new.journal
+  expired_made = ap (λ (made : List Step). made ++ one ∷ []) was.made ∙ sym (steps_are law old.flow opened p.machine after old.journal new.journal entry gone.journal)
+
+pub expire : ReplayOfOneMore → ExpiriesGo
+expire law moment acked old new opened after p shown was later gone out last leads leads_behind coming = record {
+  behind = expired law moment acked old new opened after p shown was later gone leads leads_behind;
+  moves = expires law moment acked old new opened after p shown was later gone leads leads_behind;
   at = record {
     out = was.out ∙ sym out;
     last = was.last ∙ sym last;
-    made = ap (λ (made : List Step). made ++ one ∷ []) was.made ∙ sym (steps_are law old.flow opened p.machine after old.journal new.journal (record { step = one; acked = acked }) gone.journal);
+    made = expired_made law moment acked old new opened after p shown was later gone leads leads_behind;
     coming = coming;
   };
 }
-  where
-    one : Step
-    one = Expire gone.connection gone.numbers moment
 
 -- ---- a session is committed
 
@@ -179,7 +198,7 @@ module _ (old : EngineState) (flight : InFlight) (job : Job) (done : Done) (hand
   processor_is : done.processor ≡ flight.choice.processor
   processor_is = work.processor ∙ handed.processor
 
-  step_is : step_done done ≡ step_in_flight flight done.given.there
+  pub step_is : step_done done ≡ step_in_flight flight done.given.there
   step_is =
       let numbers = work.numbers ∙ handed.numbers in
       let time : done.given.moment ≡ flight.moment = ap (λ (g : Given). g.moment) given_is ∙ given_moment flight.moment done.given.there flight.choice.taking in
@@ -189,29 +208,42 @@ module _ (old : EngineState) (flight : InFlight) (job : Job) (done : Done) (hand
   session_found ready flies =
       subst (λ (session : ℕ). find (has_session session) old.out ≡ Some flight) (sym (work.session ∙ handed.session)) (the_flight old.out flight flies ready.flights.apart)
 
+module _ (law : ReplayOfOneMore) (tells in_tells out_tells : Bool) (old new : EngineState) (contents : ContentRef → List ℕ) (left : List NamedFile) (standing : List ℕ → Option (List ℕ)) (done : Done) (acked : Option ℕ) (opened after : Machine) (p : Play)
+    (ready : IsReadyInMemory old) (was : IsAtPlay old p) (stands : StandsSo tells in_tells out_tells old contents left standing done) (journal_is : new.journal ≡ old.journal ++ record { step = step_done done; acked = acked } ∷ [])
+    (leads : replay old.flow opened (steps old.journal) ≡ Some p.machine) (leads_behind : replay old.flow opened (steps new.journal) ≡ Some after) where
+  abbrev pub flight_made : InFlight
+  flight_made = stands.0
+
+  pub same_step : step_done done ≡ step_in_flight flight_made done.given.there
+  same_step = step_is old flight_made stands.1 done stands.3.handed stands.4
+
+  pub made_by : flight_made.choice.processor ≡ done.processor
+  made_by = sym (processor_is old flight_made stands.1 done stands.3.handed stands.4)
+
+  -- where it is behind the move
+  abbrev pub made_behind : Play
+  made_behind = record p { machine = after; out = without_session done.session p.out; last = Some flight_made.choice.processor; made = p.made ++ step_in_flight flight_made done.given.there ∷ [] }
+
+  pub makes : IsMove old.flow p (Makes done.session done.given.there) made_behind
+  makes = record {
+    flight = flight_made;
+    found = ap (find (has_session done.session)) was.out ∙ session_found old flight_made stands.1 done stands.3.handed stands.4 ready stands.3.flying;
+    after = after;
+    goes = ap (step old.flow p.machine) (sym same_step) ∙ step_goes law old.flow opened p.machine after old.journal new.journal (record { step = step_done done; acked = acked }) journal_is leads leads_behind;
+    is = refl;
+  }
+
+  pub steps_made : made_behind.made ≡ steps new.journal
+  steps_made = (λ i. was.made i ++ sym same_step i ∷ []) ∙ sym (steps_are law old.flow opened p.machine after old.journal new.journal (record { step = step_done done; acked = acked }) journal_is)
+
 pub make : ReplayOfOneMore → CommitsMake
 make law tells in_tells out_tells contents left standing done now old new opened after p ready was stands acked leads leads_behind coming = record {
-  behind = record p { machine = after; out = without_session done.session p.out; last = Some flight.choice.processor; made = p.made ++ step_in_flight flight done.given.there ∷ [] };
-  moves = record {
-    flight = flight;
-    found = ap (find (has_session done.session)) was.out ∙ session_found old flight stands.1 done stands.3.handed stands.4 ready stands.3.flying;
-    after = after;
-    goes = ap (step old.flow p.machine) (sym same) ∙ step_goes law old.flow opened p.machine after old.journal new.journal entry acked.journal leads leads_behind;
-    is = refl;
-  };
+  behind = made_behind law tells in_tells out_tells old new contents left standing done (Some now) opened after p ready was stands acked.journal leads leads_behind;
+  moves = makes law tells in_tells out_tells old new contents left standing done (Some now) opened after p ready was stands acked.journal leads leads_behind;
   at = record {
     out = ap (without_session done.session) was.out ∙ sym acked.out;
-    last = sym (acked.last ∙ ap Some (processor_is old flight stands.1 done stands.3.handed stands.4));
-    made = (λ i. was.made i ++ sym same i ∷ []) ∙ sym (steps_are law old.flow opened p.machine after old.journal new.journal entry acked.journal);
+    last = ap Some (made_by law tells in_tells out_tells old new contents left standing done (Some now) opened after p ready was stands acked.journal leads leads_behind) ∙ sym acked.last;
+    made = steps_made law tells in_tells out_tells old new contents left standing done (Some now) opened after p ready was stands acked.journal leads leads_behind;
     coming = coming;
   };
 }
-  where
-    flight : InFlight
-    flight = stands.0
-
-    entry : Entry
-    entry = record { step = step_done done; acked = Some now }
-
-    same : step_done done ≡ step_in_flight flight done.given.there
-    same = step_is old flight stands.1 done stands.3.handed stands.4

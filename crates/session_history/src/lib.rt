@@ -5,7 +5,9 @@
 #![tactic(auto)]
 
 mod laws;
+mod runs;
 
 pub use laws::{
     histories_are_replays, histories_begin, histories_come_in_turn, histories_go_on, moves_are_made,
 };
+pub use runs::{calls_play_on, played_runs_begin, played_runs_end};
