@@ -73,8 +73,8 @@ abbrev pub MayBeMadeNext : Flow → Play → (until : ℕ) → Step → Type 0
 MayBeMadeNext flow p until one =
     IsStepOfFlight p one ⊎ IsStepOfNext flow p until one ⊎ IsStepOfExpiry flow p until one
 
--- The steps are those that a history makes which began at this machine and time and has come to this time at most; and the
--- step at which it stopped behind them, if at one, may be the next one.
+-- The steps are those that a history makes which began at this machine and time and has come to this time at most; and
+-- the step at which it stopped behind them, if at one, may be the next one.
 pub record IsHistoryOf (flow : Flow) (since until : ℕ) (opened : Machine) (all : List Step) (stopped : Option Step)
     : Type 0 where
   pub moves : List Move
@@ -218,7 +218,8 @@ EndingPlaysOn {D = D} moment_of images =
     → RunsAsPlayed moment_of images f opened first start time now left out
 
 -- .. also behind an error
-abbrev pub EndingStaysStopped : {D : Type 0} → (tells : Bool) → (D → Files) → (D → ℕ) → (D → ℕ → Files → Type 0) → Type 0
+abbrev pub EndingStaysStopped : {D : Type 0} → (tells : Bool) → (D → Files) → (D → ℕ) → (D → ℕ → Files → Type 0)
+    → Type 0
 EndingStaysStopped {D = D} tells held moment_of images =
     (session : ℕ) (error : EngineError) (e f : EngineState) (opened : Machine) (first : D) (start : Start) (time : ℕ)
     (now : D) (left : List NamedFile) (out : Outgoing) → EndsSession session e f

@@ -34,7 +34,7 @@ pub fn calls_play_on<D: Disk>()
     faults_end_a_run::<D>();
 }
 
-/// Where no session comes and none is in flight, the journal is full or the machine is at its end.
+/// Where no session comes and none is in flight, a full journal stops the run, and quiet and blocked are the machine's.
 pub fn played_runs_end<D: Disk>()
     ensures full { FullJournalsStop D.tells D.held D.moment D.images }
     ensures ends { EndsAreOfTheMachine D.moment D.images }
