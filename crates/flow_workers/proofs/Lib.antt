@@ -1,0 +1,12 @@
+mod ByCalls
+mod CheckedOut
+mod Committed
+mod Crosses
+mod Ended
+mod Given
+mod Jobs
+mod Listed
+mod Noted
+mod Tended
+mod Twice
+mod WasRead

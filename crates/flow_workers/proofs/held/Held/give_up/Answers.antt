@@ -1,0 +1,10 @@
+use Rattle.flow_workers.proofs.Twice.{still_held}
+use Rattle.flow_workers.proofs.held.Held.give_up.Goals as goal
+
+pub invariant_of-self : goal.invariant_of-self
+invariant_of-self g c =
+    let D = g.D.Disk in
+    let I = g.I.Inbox in
+    let O = g.O.Outbox in
+    let C = g.C.Clock in
+    still_held D.tells D.held D.moment D.images D.faults I.tells I.left I.faults O.tells O.standing O.puts O.faults C.time C.given g.R.Named.flow g.R.Named.store g.R.Named.files g.R.Named.lent g.R.Run.began c.self.inside.desk c.give_up.new.self c.self.invariant c.give_up.ensures.goes c.give_up.ensures.lent

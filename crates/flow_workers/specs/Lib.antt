@@ -1,0 +1,4 @@
+pub mod Going
+pub mod Held
+pub mod Jobs
+pub mod Seen
